@@ -1,0 +1,2 @@
+// The server: commands, sessions and reports.
+#![tactic(auto)]
