@@ -1,4 +1,9 @@
-// The outside: what is read and written, and where a piece of a text stands.
+//! The outside: what is read and written, where a piece of a text stands, and what is counted
+//! or answered.
 #![tactic(auto)]
 
+pub mod outside;
 pub mod place;
+
+pub use outside::{Failed, Sink, Source};
+pub use place::{Place, Span};
