@@ -4,6 +4,10 @@
 
 pub mod outside;
 pub mod place;
+pub mod reading;
+pub mod writing;
 
 pub use outside::{Failed, Sink, Source};
-pub use place::{Place, Span};
+pub use place::{Place, Span, place_at};
+pub use reading::{LineFault, read_all};
+pub use writing::write_all;
