@@ -61,7 +61,11 @@ pub fn read_all<S: Source>(alloc: Global, src: &mut S, total: u64) -> Result<Vec
     let mut block = [0u8; BLOCK];
     loop {
         let room = total - bytes.len() as u64;
-        let most = if room < BLOCK as u64 { room as usize + 1 } else { BLOCK };
+        let most = if room < BLOCK as u64 {
+            room as usize + 1
+        } else {
+            BLOCK
+        };
         let n = src.read(&mut block[..most])?;
         if n == 0 {
             return Ok(bytes);
