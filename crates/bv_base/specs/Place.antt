@@ -11,5 +11,5 @@ place_after bytes = record {
 }
 
 -- the place of a byte of the text, counted from another
-abbrev pub place_of : List ℕ → ℕ → ℕ → Place
-place_of text from at = place_after (slice_range text from at)
+abbrev pub place_at : List ℕ → ℕ → ℕ → Place
+place_at text from at = place_after (slice_range text from at)

@@ -12,6 +12,8 @@ mod rest;
 pub mod standard;
 pub mod steps;
 pub mod sure;
+#[cfg(test)]
+mod tests;
 pub mod writing;
 
 pub use answers::{Answered, Question};

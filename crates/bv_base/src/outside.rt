@@ -2,8 +2,11 @@
 ghost use Rattle.std.specs.Prelude.{◌≡◌, ℕ, ◌<◌, ◌≤◌, List, Option, length, take, IfOk, OnErr};
 ghost use Rattle.bv_base.specs.Known.{Takes, Adds, IsEnd, HasRisen};
 
+use thiserror::Error;
+
 /// The one fault of the outside.
-#[derive(Clone, Copy, PartialEq, Eq, Debug)]
+#[derive(Clone, Copy, PartialEq, Eq, Debug, Error)]
+#[error("reading or writing failed")]
 pub struct Failed;
 
 /// Where bytes come from.

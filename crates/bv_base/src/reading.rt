@@ -4,7 +4,7 @@ ghost use Rattle.bv_base.specs.Known.{Takes, IsEnd, HasRisen};
 ghost use Rattle.bv_base.specs.Reading.{IsTakenAt};
 
 use crate::outside::{Failed, Source};
-use std::alloc::{AllocError, Global};
+use std::alloc::{AllocError, AllocFailed, Global};
 use thiserror::Error;
 
 /// Why a source was not read further.
@@ -36,6 +36,16 @@ impl From<AllocError> for LineFault {
     ghost from_gives = { λ _ e. e ≡ Memory };
 
     fn from(_: AllocError) -> LineFault {
+        LineFault::Memory
+    }
+}
+
+impl<T: Drop> From<AllocFailed<T>> for LineFault {
+    ghost use Rattle.bv_base.specs.declared.reading.LineFault.TheVariants.{Memory};
+
+    ghost from_gives = { λ _ e. e ≡ Memory };
+
+    fn from(_: AllocFailed<T>) -> LineFault {
         LineFault::Memory
     }
 }

@@ -69,7 +69,10 @@ impl Sink for SureSink {
 
     ghost faults = { λ _. 0 };
 
-    fn write(&mut self, piece: &[u8]) -> Result<usize, Failed> {
+    fn write(&mut self, piece: &[u8]) -> Result<usize, Failed>
+        ensures all { result ≡ Ok (length piece.now) }
+        ensures count { self.new ≡ min (self.old + length piece.now) (2 ^ 64 - 1) }
+    {
         self.count = self.count.saturating_add(piece.len() as u64);
         Ok(piece.len())
     }
