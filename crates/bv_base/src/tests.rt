@@ -1,12 +1,12 @@
 // Places, whole reads and whole writes by example, and each trait and generic type once.
-ghost use Rattle.std.specs.Prelude.{◌≡◌, ◌+◌, ◌<◌};
+ghost use Rattle.std.specs.Prelude.{◌≡◌, ◌<◌};
 ghost use Rattle.std.specs.Arc.{arc_value};
 
 use crate::{
     Answered, Failed, LineFault, MemSink, MemSource, Place, Question, StdSink, StdSource, Steps,
     SureSink, SureSource, place_at, read_all, write_all,
 };
-use std::alloc::Global;
+use std::alloc::{AllocError, Global};
 use std::io;
 use std::io::{ErrorKind, Read};
 use std::marker::Brand;
@@ -44,20 +44,27 @@ fn places_count_from_one(rt: HostRuntime) {
     }
 }
 
-/// What is read of a text, in pieces, where one call fails.
+/// What is read of a text, in pieces, where the call of that number fails.
 fn read_of(
     alloc: Global,
     text: &str,
     piece: usize,
     failing: u64,
     total: u64,
-) -> Result<Vec<u8>, LineFault>
-    requires { 0 < piece }
-{
+) -> Result<Vec<u8>, LineFault> {
     let mut fails = Vec::new(alloc);
     fails.push(failing)?;
-    let mut src = MemSource::new(text.as_bytes().to_vec(alloc)?, piece, fails);
+    let bytes = text.as_bytes().to_vec(alloc)?;
+    let mut src = MemSource::new(bytes, piece.max(1), fails);
     read_all(alloc, &mut src, total)
+}
+
+fn is_as_told(got: &Result<Vec<u8>, LineFault>, want: Result<&str, LineFault>) -> bool {
+    match (got, want) {
+        (Ok(bytes), Ok(text)) => bytes.as_slice() == text.as_bytes(),
+        (Err(fault), Err(told)) => *fault == told,
+        _ => false,
+    }
 }
 
 #[test]
@@ -77,13 +84,8 @@ fn all_is_read_or_a_fault_is_told(rt: HostRuntime) {
         ("abc", 1, 2, 1, Err(LineFault::Full)),
     ];
     for (text, piece, failing, total, want) in table {
-        assert!(rt; piece > 0);
         let got = read_of(rt.alloc(), text, piece, failing, total);
-        match (&got, want) {
-            (Ok(bytes), Ok(all)) => assert_eq!(rt; bytes.as_slice(), all.as_bytes()),
-            (Err(fault), Err(told)) => assert_eq!(rt; *fault, told, "{text} {failing} {total}"),
-            _ => assert!(rt; false, "{text} {failing} {total}"),
-        }
+        assert!(rt; is_as_told(&got, want), "{text} {failing} {total}");
     }
 }
 
@@ -100,16 +102,35 @@ fn what_a_failed_read_left_is_read_next(rt: HostRuntime) -> Result<(), Fail> {
     Ok(())
 }
 
+fn spaces_read(alloc: Global, len: usize, total: u64) -> Result<usize, LineFault> {
+    let mut src = SureSource::new(vec![in alloc; b' '; len]?);
+    Ok(read_all(alloc, &mut src, total)?.len())
+}
+
 #[test]
-fn long_inputs_are_read_up_to_the_total(rt: HostRuntime) -> Result<(), Fail> {
+fn long_inputs_are_read_up_to_the_total(rt: HostRuntime) {
     for len in [8191usize, 8192, 8193, 16384, 20000] {
-        let mut src = SureSource::new(vec![in rt.alloc(); b' '; len]?);
-        assert_eq!(rt; read_all(rt.alloc(), &mut src, len as u64)?.len(), len);
-        let mut src = SureSource::new(vec![in rt.alloc(); b' '; len]?);
-        let got = read_all(rt.alloc(), &mut src, len as u64 - 1);
-        assert_eq!(rt; got, Err(LineFault::Full), "{len}");
+        let total = len as u64;
+        assert_eq!(rt; spaces_read(rt.alloc(), len, total), Ok(len));
+        assert_eq!(rt;
+            spaces_read(rt.alloc(), len, total - 1),
+            Err(LineFault::Full)
+        );
     }
-    Ok(())
+}
+
+/// A sink with that much room, to which a text was written, and whether that succeeded.
+fn written(
+    alloc: Global,
+    text: &str,
+    piece: usize,
+    room: usize,
+    failing: u64,
+) -> Result<(MemSink, bool), AllocError> {
+    let mut sink = MemSink::new(alloc, piece.max(1), vec![in alloc; failing]?);
+    sink.reserve(room)?;
+    let is_ok = write_all(&mut sink, text.as_bytes()).is_ok();
+    Ok((sink, is_ok))
 }
 
 #[test]
@@ -126,16 +147,11 @@ fn all_is_written_or_a_front_of_it(rt: HostRuntime) -> Result<(), Fail> {
         ("abc", 1, 3, 1, false, "a"),
         ("abc", 1, 3, 3, true, "abc"),
     ];
-    for (text, piece, room, failing, is_ok, held) in table {
-        assert!(rt; piece > 0);
-        let mut sink = MemSink::new(rt.alloc(), piece, vec![in rt.alloc(); failing]?);
-        sink.reserve(room)?;
-        let wrote = write_all(&mut sink, text.as_bytes());
-        assert_eq!(rt; wrote.is_ok(), is_ok, "{text} {piece} {room} {failing}");
-        assert_eq!(rt;
-            sink.bytes(),
-            held.as_bytes(),
-            "{text} {piece} {room} {failing}"
+    for (text, piece, room, failing, want, held) in table {
+        let (sink, is_ok) = written(rt.alloc(), text, piece, room, failing)?;
+        assert!(rt;
+            is_ok == want && sink.bytes() == held.as_bytes(),
+            "{piece} {room} {failing}"
         );
     }
     Ok(())
@@ -171,25 +187,24 @@ impl Read for Broken {
 }
 
 #[test]
-fn readers_and_writers_of_std_serve(rt: HostRuntime) -> Result<(), Fail> {
+fn readers_of_std_serve(rt: HostRuntime) -> Result<(), Fail> {
     let mut src = StdSource::new(b"abc".as_slice());
     assert_eq!(rt;
         read_all(rt.alloc(), &mut src, 3)?.as_slice(),
         b"abc".as_slice()
     );
-    assert_eq!(rt; read_all(rt.alloc(), &mut src, 3)?.len(), 0);
     let mut broken = StdSource::new(Broken);
-    assert_eq!(rt; read_all(rt.alloc(), &mut broken, 3), Err(LineFault::Read));
-
-    let mut held = Vec::new(rt.alloc());
-    let mut sink = StdSink::new(&mut held);
-    assert_eq!(rt; write_all(&mut sink, b"abc"), Ok(()));
-    let mut two = [0u8; 2];
-    let mut full = StdSink::new(two.as_mut_slice());
-    assert_eq!(rt; write_all(&mut full, b"abc"), Err(Failed));
-    assert_eq!(rt; held.as_slice(), b"abc".as_slice());
-    assert_eq!(rt; two, [b'a', b'b']);
+    assert!(rt; read_all(rt.alloc(), &mut broken, 3) == Err(LineFault::Read));
     Ok(())
+}
+
+#[test]
+fn writers_of_std_serve(rt: HostRuntime) {
+    let mut two = [0u8; 2];
+    let mut sink = StdSink::new(two.as_mut_slice());
+    assert!(rt; write_all(&mut sink, b"a").is_ok());
+    assert!(rt; write_all(&mut sink, b"bc").is_err());
+    assert_eq!(rt; two, [b'a', b'b']);
 }
 
 fn two_steps<L: Ledger>(blank: Blank)
