@@ -1,0 +1,6 @@
+pub mod Token
+pub mod TokenView
+pub mod Shape
+pub mod Lexing
+pub mod Front
+pub mod Fault
