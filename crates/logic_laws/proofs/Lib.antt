@@ -6,3 +6,5 @@ pub mod FormulaSorts
 pub mod NormalSorts
 pub mod SameValue
 pub mod Gives
+pub mod Tables
+pub mod ValueSorts
