@@ -60,3 +60,47 @@ difference_at_least_zero a b = same_test _ _ (λ h. grind (arith, ints)) (λ h. 
 -- 0 ≤ -a - 1 where 0 ≤ a fails
 pub not_at_least_zero : (a : ℤ) → int_le (pos 0) ((negsuc 0 *ℤ a) +ℤ negsuc 0) ≡ not (int_le (pos 0) a)
 not_at_least_zero a = grind (arith, ints)
+
+pub one_times : (x : ℤ) → pos 1 *ℤ x ≡ x
+one_times x = omega (arith, ints)
+
+-- a sum's part of coefficient zero
+pub zero_part : (k x n : ℤ) → k ≡ pos 0 → (k *ℤ x) +ℤ n ≡ n
+zero_part k x n e = omega (arith, ints, ap (λ j. j *ℤ x) e, zero-*ℤ x)
+
+-- two parts of one atom
+pub joined_parts : (j k l x m : ℤ) → j +ℤ k ≡ l → (k *ℤ x) +ℤ ((j *ℤ x) +ℤ m) ≡ (l *ℤ x) +ℤ m
+joined_parts j k l x m e = omega (arith, ints, ap (λ i. i *ℤ x) e, plus_times j k x)
+
+-- a part of a sum that is scaled
+pub scaled_part : (k j l x n m : ℤ) → k *ℤ j ≡ l → (k *ℤ ((j *ℤ x) +ℤ n)) +ℤ m ≡ (k *ℤ n) +ℤ ((l *ℤ x) +ℤ m)
+scaled_part k j l x n m e = omega (arith, ints, ap (λ i. i *ℤ x) e, times_times k j x, times_plus k (j *ℤ x) n)
+
+-- a sum that is scaled, and its constant
+pub scaled_sum : (k n c m : ℤ) → (k *ℤ (n +ℤ c)) +ℤ m ≡ (k *ℤ c) +ℤ ((k *ℤ n) +ℤ m)
+scaled_sum k n c m = omega (arith, ints, times_plus k n c)
+
+pub plus_plus_swap : (a b c : ℤ) → a +ℤ (b +ℤ c) ≡ b +ℤ (a +ℤ c)
+plus_plus_swap a b c = omega (arith, ints)
+
+pub plus_plus : (a b c : ℤ) → a +ℤ (b +ℤ c) ≡ (a +ℤ b) +ℤ c
+plus_plus a b c = omega (arith, ints)
+
+pub times_zero : (k m : ℤ) → (k *ℤ pos 0) +ℤ m ≡ m
+times_zero k m = omega (arith, ints)
+
+pub constant_last : (a x c : ℤ) → a +ℤ (x +ℤ c) ≡ x +ℤ (c +ℤ a)
+constant_last a x c = omega (arith, ints)
+
+-- one part alone, of coefficient 1
+pub one_part : (k x m c : ℤ) → k ≡ pos 1 → c ≡ pos 0 → m ≡ pos 0 → ((k *ℤ x) +ℤ m) +ℤ c ≡ x
+one_part k x m c e f g = omega (arith, ints, ap (λ i. i *ℤ x) e, one_times x)
+
+pub minus_plus : (v w : ℤ) → (negsuc 0 *ℤ w) +ℤ ((pos 1 *ℤ v) +ℤ pos 0) ≡ v +ℤ (negsuc 0 *ℤ w)
+minus_plus v w = omega (arith, ints, one_times v)
+
+pub plus_zero : (x : ℤ) → x +ℤ pos 0 ≡ x
+plus_zero x = omega (arith, ints)
+
+pub zero_plus : (x : ℤ) → pos 0 +ℤ x ≡ x
+zero_plus x = omega (arith, ints)

@@ -8,3 +8,4 @@ pub mod SameValue
 pub mod Gives
 pub mod Tables
 pub mod ValueSorts
+pub mod SumValues
