@@ -1,0 +1,16 @@
+pub mod Integers
+pub mod Options
+pub mod SortTests
+pub mod SumSorts
+pub mod FormulaSorts
+pub mod NormalSorts
+pub mod SameValue
+pub mod Gives
+pub mod Tables
+pub mod ValueSorts
+pub mod SumValues
+pub mod Booleans
+pub mod FormulaValues
+pub mod NormalValues
+pub mod DefinedSorts
+pub mod Assigned
