@@ -1,0 +1,2 @@
+// Proofs of obligations, and when one is accepted.
+#![tactic(auto)]
