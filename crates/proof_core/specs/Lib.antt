@@ -4,3 +4,7 @@ pub mod Says
 pub mod Steps
 pub mod Ends
 pub mod Accepted
+pub mod Codes
+pub mod View
+pub mod ProofView
+pub mod ProofFalls
