@@ -104,3 +104,6 @@ plus_zero x = omega (arith, ints)
 
 pub zero_plus : (x : ℤ) → pos 0 +ℤ x ≡ x
 zero_plus x = omega (arith, ints)
+
+pub part_last : (a n m : ℤ) → (a +ℤ n) +ℤ m ≡ n +ℤ (a +ℤ m)
+part_last a n m = omega (arith, ints)
