@@ -12,3 +12,5 @@ pub mod SumValues
 pub mod Booleans
 pub mod FormulaValues
 pub mod NormalValues
+pub mod DefinedSorts
+pub mod Assigned

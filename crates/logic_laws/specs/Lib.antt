@@ -1,0 +1,4 @@
+pub mod Assignment
+pub mod SortLaws
+pub mod ValueLaws
+pub mod NormalLaws
