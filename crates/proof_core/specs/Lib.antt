@@ -1,0 +1,11 @@
+pub mod Proof
+pub mod Context
+pub mod Says
+pub mod Steps
+pub mod Ends
+pub mod Accepted
+pub mod Soundness
+pub mod Codes
+pub mod View
+pub mod ProofView
+pub mod ProofFalls

@@ -1,0 +1,6 @@
+// Proofs of obligations, when one is accepted, and that an accepted proof shows its goal.
+#![tactic(auto)]
+
+pub mod proof;
+
+pub mod copy;
