@@ -1,0 +1,2 @@
+// Obligations.
+#![tactic(auto)]
