@@ -1,5 +1,5 @@
 -- A branch of the search, and the first fact at which a rule can be applied.
-use Rattle.std.specs.Prelude.{ℕ, ◌+◌, Bool, Option, Some, None, List, [], ◌∷◌, ◌++◌}
+use Rattle.std.specs.Prelude.{ℕ, ◌+◌, Bool, Option, Some, None, List, [], ◌∷◌, ◌++◌, take, drop}
 use Rattle.std.specs.List.{list_any}
 use Rattle.logic_core.specs.Tree.{Kind, Tree}
 use Rattle.logic_core.specs.Def.{Def}
@@ -43,24 +43,31 @@ abbrev pub unless_wide : {A : Type 0} → Option A → Attempt A
 unless_wide None = leaves
 unless_wide (Some a) = gives a
 
--- a fact with the facts before and after it, and what was found in it
+-- a fact with its place in the list, and what was found in it
 pub record At (A : Type 0) : Type 0 where
-  pub before : List Fact
+  pub at : ℕ
   pub fact : Fact
-  pub after : List Fact
   pub what : A
 
-abbrev pub first_from : {A : Type 0} → (Fact → Option A) → List Fact → List Fact → Option (At A)
-first_from test before [] = None
-first_from test before (f ∷ fs) = elim (test f) [
-  | None ↦ first_from test (before ++ f ∷ []) fs
-  | Some a ↦ Some (record { before = before; fact = f; after = fs; what = a })
+-- counting places from n on
+abbrev pub first_from : {A : Type 0} → (Fact → Option A) → ℕ → List Fact → Option (At A)
+first_from test n [] = None
+first_from test n (f ∷ fs) = elim (test f) [
+  | None ↦ first_from test (n + 1) fs
+  | Some a ↦ Some (record { at = n; fact = f; what = a })
 ]
 
 -- the oldest fact in which something is found
 abbrev pub oldest : {A : Type 0} → (Fact → Option A) → Branch → Option (At A)
-oldest test b = first_from test [] b.facts
+oldest test b = first_from test 0 b.facts
+
+-- the facts before that one, and those after it
+abbrev pub before : {A : Type 0} → At A → List Fact → List Fact
+before a fs = take a.at fs
+
+abbrev pub behind : {A : Type 0} → At A → List Fact → List Fact
+behind a fs = drop (a.at + 1) fs
 
 -- the branch without that fact
 abbrev pub without_it : {A : Type 0} → Branch → At A → Branch
-without_it b a = with_facts b (a.before ++ a.after)
+without_it b a = with_facts b (before a b.facts ++ behind a b.facts)

@@ -5,7 +5,7 @@ use Rattle.logic_core.specs.Size.{capped}
 use Rattle.logic_core.specs.Wide.{◌>>=◌}
 use Rattle.logic_core.specs.Junction.{is_truth}
 use Rattle.proof_core.specs.Proof.{Step}
-use Rattle.tableau.specs.Branch.{Fact, Branch, At, with_facts, numbered, is_there}
+use Rattle.tableau.specs.Branch.{Fact, Branch, At, with_facts, numbered, is_there, before, behind}
 
 -- the sizes of terms, and their sums, end at 2^64 - 1
 pub record Made : Type 0 where
@@ -42,11 +42,12 @@ added_each (f ∷ fs) m = added_each fs (added f m)
 
 -- a changed fact after those before it: it goes away where it is true or equals another fact
 abbrev pub kept : List Fact → Fact → List Fact → List Fact
-kept before f after = if is_truth true f.term || (is_there f.term before || is_there f.term after) then before else before ++ f ∷ []
+kept earlier f later = if is_truth true f.term || (is_there f.term earlier || is_there f.term later) then earlier else earlier ++ f ∷ []
 
 -- a changed fact counts also where it goes away
 abbrev pub changed_at : {A : Type 0} → At A → Fact → Made → Made
-changed_at a f m = record { branch = with_facts m.branch (kept a.before f a.after ++ a.after); steps = m.steps; size = with_size m.size f.term }
+changed_at a f m = let later = behind a m.branch.facts in
+    record { branch = with_facts m.branch (kept (before a m.branch.facts) f later ++ later); steps = m.steps; size = with_size m.size f.term }
 
 -- each fact that is picked becomes what `new` gives of it, by a node of its own, one after another
 module _ (picks : Fact → Bool) (new : Tree → Option Tree) (node : Fact → Step) where
