@@ -1,2 +1,4 @@
-// Obligations.
+// Obligations: a signature, axioms and a goal.
 #![tactic(auto)]
+
+pub mod obligation;
