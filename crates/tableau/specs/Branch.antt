@@ -61,13 +61,6 @@ first_from test n (f ∷ fs) = elim (test f) [
 abbrev pub oldest : {A : Type 0} → (Fact → Option A) → Branch → Option (At A)
 oldest test b = first_from test 0 b.facts
 
--- the facts before that one, and those after it
-abbrev pub before : {A : Type 0} → At A → List Fact → List Fact
-before a fs = take a.at fs
-
-abbrev pub behind : {A : Type 0} → At A → List Fact → List Fact
-behind a fs = drop (a.at + 1) fs
-
--- the branch without that fact
-abbrev pub without_it : {A : Type 0} → Branch → At A → Branch
-without_it b a = with_facts b (before a b.facts ++ behind a b.facts)
+-- the branch without the fact at this place
+abbrev pub without : ℕ → Branch → Branch
+without n b = with_facts b (take n b.facts ++ drop (n + 1) b.facts)

@@ -1,11 +1,11 @@
 -- What a step makes of a branch: the proof nodes that it begins with, the facts that are added and changed, and their sizes.
-use Rattle.std.specs.Prelude.{ℕ, ◌+◌, Bool, true, false, ◌||◌, Option, Some, List, [], ◌∷◌, ◌++◌, length, if◌then◌else◌}
+use Rattle.std.specs.Prelude.{ℕ, ◌+◌, Bool, true, false, ◌||◌, Option, Some, List, [], ◌∷◌, ◌++◌, length, take, drop, if◌then◌else◌}
 use Rattle.logic_core.specs.Tree.{Tree, nodes}
 use Rattle.logic_core.specs.Size.{capped}
 use Rattle.logic_core.specs.Wide.{◌>>=◌}
 use Rattle.logic_core.specs.Junction.{is_truth}
 use Rattle.proof_core.specs.Proof.{Step}
-use Rattle.tableau.specs.Branch.{Fact, Branch, At, with_facts, numbered, is_there, before, behind}
+use Rattle.tableau.specs.Branch.{Fact, Branch, with_facts, numbered, is_there}
 
 -- the sizes of terms, and their sums, end at 2^64 - 1
 pub record Made : Type 0 where
@@ -44,10 +44,13 @@ added_each (f ∷ fs) m = added_each fs (added f m)
 abbrev pub kept : List Fact → Fact → List Fact → List Fact
 kept earlier f later = if is_truth true f.term || (is_there f.term earlier || is_there f.term later) then earlier else earlier ++ f ∷ []
 
--- a changed fact counts also where it goes away
-abbrev pub changed_at : {A : Type 0} → At A → Fact → Made → Made
-changed_at a f m = let later = behind a m.branch.facts in
-    record { branch = with_facts m.branch (kept (before a m.branch.facts) f later ++ later); steps = m.steps; size = with_size m.size f.term }
+-- the fact at this place changed to f, which counts also where it goes away
+abbrev pub changed_at : ℕ → Fact → Made → Made
+changed_at n f m = let later = drop (n + 1) m.branch.facts in
+    record { branch = with_facts m.branch (kept (take n m.branch.facts) f later ++ later); steps = m.steps; size = with_size m.size f.term }
+
+abbrev pub emptied : Made → Made
+emptied m = record { branch = with_facts m.branch []; steps = m.steps; size = m.size }
 
 -- each fact that is picked becomes what `new` gives of it, by a node of its own, one after another
 module _ (picks : Fact → Bool) (new : Tree → Option Tree) (node : Fact → Step) where
@@ -60,4 +63,4 @@ module _ (picks : Fact → Bool) (new : Tree → Option Tree) (node : Fact → S
   ]
 
   abbrev pub changed_each : Made → Option Made
-  changed_each m = changed_from [] m.branch.facts m
+  changed_each m = changed_from [] m.branch.facts (emptied m)

@@ -7,7 +7,7 @@ use Rattle.logic_core.specs.Subterm.{listed}
 use Rattle.logic_core.specs.Junction.{is_truth}
 use Rattle.proof_core.specs.Proof.{by_split}
 use Rattle.proof_core.specs.Ends.{is_negation_of}
-use Rattle.tableau.specs.Branch.{Fact, Branch, normal_in, Attempt, none, gives, unless_wide, At, oldest, without_it}
+use Rattle.tableau.specs.Branch.{Fact, Branch, normal_in, Attempt, none, gives, unless_wide, At, oldest, without}
 use Rattle.tableau.specs.Change.{begun, appended, added_each}
 use Rattle.tableau.specs.Move.{Move, closes, on_one}
 
@@ -50,7 +50,7 @@ module _ (defs : List Def) where
   -- an And goes; its parts are added in order
   abbrev pub flattened_at : Branch → At Trees → Option Move
   flattened_at b a = each (normal_in defs b) (listed a.what) >>= λ ts.
-      let p = appended (by_split (a.fact).number ∷ []) ts (begun (without_it b a)) in Some (on_one (added_each p.0 p.1))
+      let p = appended (by_split (a.fact).number ∷ []) ts (begun (without a.at b)) in Some (on_one (added_each p.0 p.1))
 
   abbrev pub flatten : Branch → Attempt Move
   flatten b = elim (oldest as_all b) [ None ↦ none | Some a ↦ unless_wide (flattened_at b a) ]

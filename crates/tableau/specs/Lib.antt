@@ -1,4 +1,5 @@
 pub mod Branch
+pub mod FactCodes
 pub mod Change
 pub mod Oriented
 pub mod Move
@@ -6,3 +7,4 @@ pub mod Closing
 pub mod Rewriting
 pub mod Splitting
 pub mod Search
+pub mod View

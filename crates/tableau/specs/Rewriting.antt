@@ -47,7 +47,7 @@ module _ (defs : List Def) where
 
   abbrev pub unfolded_at : Branch → At Tree → Option Move
   unfolded_at b a = body_of defs a.what >>= λ u. normal_in defs b (replaced a.what u (a.fact).term) >>= λ t.
-      let p = appended_one (by_unfold (a.fact).number a.what ∷ []) t (begun b) in Some (on_one (changed_at a p.0 p.1))
+      let p = appended_one (by_unfold (a.fact).number a.what ∷ []) t (begun b) in Some (on_one (changed_at a.at p.0 p.1))
 
   -- the first call of the oldest fact with one: the fact is changed
   abbrev pub unfold_call : Branch → Attempt Move
