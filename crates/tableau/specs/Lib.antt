@@ -1,0 +1,10 @@
+pub mod Branch
+pub mod FactCodes
+pub mod Change
+pub mod Oriented
+pub mod Move
+pub mod Closing
+pub mod Rewriting
+pub mod Splitting
+pub mod Search
+pub mod View
