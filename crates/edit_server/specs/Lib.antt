@@ -1,1 +1,3 @@
 pub mod FirstForm
+pub mod FirstFormView
+pub mod StatementView
