@@ -1,1 +1,9 @@
 pub mod FirstForm
+pub mod FirstFormView
+pub mod StatementView
+pub mod Lexeme
+pub mod Spelling
+pub mod TokensInText
+pub mod Reading
+pub mod LexemeView
+pub mod Answers

@@ -1,2 +1,6 @@
 // The server: commands, sessions and reports.
 #![tactic(auto)]
+
+pub mod cursor;
+pub mod faults;
+pub mod first_form;
