@@ -1,4 +1,5 @@
 // Spans and places in a text.
+ghost use Rattle.std.specs.Prelude.{◌≡◌, ◌≤◌, ◌<◌, ◌-◌, ◌^◌, length};
 
 /// Bytes of a text, from `start` up to, and without, `end`.
 #[derive(Clone, Copy, PartialEq, Eq, Debug)]
@@ -12,4 +13,25 @@ pub struct Span {
 pub struct Place {
     pub line: u32,
     pub col: u32,
+}
+
+ghost use Rattle.bv_base.specs.Place.{place_of};
+
+/// The place of the byte `at`, where the byte `from` stands at line 1 and column 1.
+pub fn place_at(text: &[u8], from: u32, at: u32) -> Place
+    requires in_order { from ≤ at }
+    requires in_text { at ≤ length text.now }
+    requires fits { at < 2 ^ 32 - 1 }
+    ensures { result ≡ place_of text.now from at }
+{
+    let (mut line, mut col) = (1, 1);
+    for byte in &text[from as usize..at as usize] {
+        if *byte == b'\n' {
+            line += 1;
+            col = 1;
+        } else {
+            col += 1;
+        }
+    }
+    Place { line, col }
 }

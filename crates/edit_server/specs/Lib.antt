@@ -1,4 +1,6 @@
 pub mod FirstForm
+pub mod FirstFormView
+pub mod StatementView
 pub mod Execution
 pub mod Formula
 pub mod Variables

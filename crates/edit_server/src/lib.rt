@@ -1,2 +1,4 @@
 // The server: commands, sessions and reports.
 #![tactic(auto)]
+
+pub mod first_form;

