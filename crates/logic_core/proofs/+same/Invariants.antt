@@ -1,0 +1,35 @@
+use Rattle.std.proofs.Common.{◌≡◌, ◌+◌, ◌*◌, ◌≤◌, drop}
+use Rattle.logic_core.specs.Tree.{nodes, trees_nodes, parts_nodes, patterns_nodes}
+use Rattle.logic_core.specs.View.{trees_of, parts_of, patterns_of, each_items}
+use Rattle.logic_core.specs.Same.{same_trees, same_parts, same_patterns}
+use Rattle.logic_core.proofs.+same.Given as goal
+
+abbrev pub decreases-term::Term::equals : goal.decreases-term::Term::equals
+decreases-term::Term::equals l = 3 * nodes l.self.now
+
+abbrev pub decreases-same::equal_terms : goal.decreases-same::equal_terms
+decreases-same::equal_terms l = 3 * trees_nodes (trees_of l.mine.now) + 1
+
+abbrev pub decreases-same::equal_parts : goal.decreases-same::equal_parts
+decreases-same::equal_parts l = 3 * parts_nodes (parts_of l.mine.now) + 1
+
+abbrev pub decreases-same::equal_patterns : goal.decreases-same::equal_patterns
+decreases-same::equal_patterns l = 3 * patterns_nodes (patterns_of (each_items l.mine.now)) + 2
+
+abbrev pub invariant-same::equal_terms-loop-i : goal.invariant-same::equal_terms-loop-i
+invariant-same::equal_terms-loop-i l = record {
+  same : same_trees (trees_of (drop l.i l.mine)) (trees_of (drop l.i l.theirs)) ≡ same_trees (trees_of l.mine) (trees_of l.theirs);
+  less : trees_nodes (trees_of (drop l.i l.mine)) ≤ trees_nodes (trees_of l.mine);
+}
+
+abbrev pub invariant-same::equal_parts-loop-i : goal.invariant-same::equal_parts-loop-i
+invariant-same::equal_parts-loop-i l = record {
+  same : same_parts (parts_of (drop l.i l.mine)) (parts_of (drop l.i l.theirs)) ≡ same_parts (parts_of l.mine) (parts_of l.theirs);
+  less : parts_nodes (parts_of (drop l.i l.mine)) ≤ parts_nodes (parts_of l.mine);
+}
+
+abbrev pub invariant-same::equal_patterns-loop-i : goal.invariant-same::equal_patterns-loop-i
+invariant-same::equal_patterns-loop-i l = record {
+  same : same_patterns (patterns_of (each_items (drop l.i l.mine))) (patterns_of (each_items (drop l.i l.theirs))) ≡ same_patterns (patterns_of (each_items l.mine)) (patterns_of (each_items l.theirs));
+  less : patterns_nodes (patterns_of (each_items (drop l.i l.mine))) ≤ patterns_nodes (patterns_of (each_items l.mine));
+}

@@ -1,0 +1,118 @@
+// Definitions and signatures.
+ghost use Rattle.std.specs.Prelude.{◌≡◌, [], ◌∷◌, ◌++◌, IsTrue, IfOk, OnOk, OnErr};
+ghost use Rattle.logic_core.specs.Sorts.{bodies_sorted};
+
+use crate::copy::copy_sorts;
+use crate::sequence::Sequence;
+use crate::sort::Sort;
+use crate::term::Term;
+use std::alloc::{AllocError, Global};
+use std::marker::Model;
+
+/// A definition: the sorts of its parameters, its own sort, whether it is logical (its body has a
+/// quantifier or applies a logical definition), and its body, in which the last parameter is
+/// `Bound(0)`.
+#[derive(Drop)]
+pub struct Def {
+    pub params: Sequence<Sort>,
+    pub sort: Sort,
+    pub logical: bool,
+    pub body: Term,
+}
+
+impl Model for Def {
+    ghost use Rattle.logic_core.specs.Def.{Def as definition};
+    ghost use Rattle.logic_core.specs.DefCodes.{coded_def};
+
+    ghost Value = { definition };
+
+    ghost coded = { coded_def };
+
+    ghost view = { λ a. record { params = a.params; sort = a.sort; logical = a.logical; body = a.body } };
+}
+
+impl Def {
+    /// An equal definition.
+    pub fn copy(&self, alloc: Global) -> Result<Def, AllocError>
+        ensures { IfOk result (λ d. d ≡ self.now) }
+    {
+        Ok(Def {
+            params: Sequence::of(copy_sorts(alloc, self.params.as_slice())?),
+            sort: self.sort.copy(alloc)?,
+            logical: self.logical,
+            body: self.body.copy(alloc)?,
+        })
+    }
+}
+
+/// The sorts of the variables, by number, and the definitions, by number. Each body is well
+/// sorted under its parameters, has its definition's sort, and applies definitions of lower
+/// numbers alone.
+#[derive(Drop)]
+pub struct Signature {
+    vars: Sequence<Sort>,
+    defs: Sequence<Def>,
+}
+
+impl Model for Signature {
+    ghost use Rattle.std.specs.Prelude.{[], IsTrue};
+    ghost use Rattle.logic_core.specs.Def.{Signature as signature};
+    ghost use Rattle.logic_core.specs.DefCodes.{coded_signature};
+
+    ghost Value = { signature };
+
+    ghost coded = { coded_signature };
+
+    ghost use Rattle.logic_core.specs.Sorts.{bodies_sorted};
+
+    ghost view = { λ a. record { vars = a.vars; defs = a.defs } };
+
+    ghost invariant = { λ a. IsTrue (bodies_sorted a.vars [] a.defs) };
+}
+
+impl Signature {
+    /// The signature of these variables and definitions.
+    pub fn new(vars: Sequence<Sort>, defs: Sequence<Def>) -> Signature
+        requires { IsTrue (bodies_sorted vars [] defs) }
+        ensures { result ≡ record { vars = vars; defs = defs } }
+    {
+        Signature { vars, defs }
+    }
+
+    /// The sorts of the variables.
+    pub fn vars(&self) -> &[Sort]
+        ensures { result.now ≡ self.now.vars }
+    {
+        self.vars.as_slice()
+    }
+
+    /// The definitions.
+    pub fn defs(&self) -> &[Def]
+        ensures { result.now ≡ self.now.defs }
+    {
+        self.defs.as_slice()
+    }
+
+    /// An equal signature.
+    pub fn copy(&self, alloc: Global) -> Result<Signature, AllocError>
+        ensures { IfOk result (λ s. s ≡ self.now) }
+    {
+        let vars = copy_sorts(alloc, self.vars.as_slice())?;
+        let defs = copy_defs(alloc, self.defs.as_slice())?;
+        Ok(Signature {
+            vars: Sequence::of(vars),
+            defs: Sequence::of(defs),
+        })
+    }
+}
+
+/// Equal definitions.
+pub fn copy_defs(alloc: Global, defs: &[Def]) -> Result<Vec<Def>, AllocError>
+    ensures { IfOk result (λ v. v.items ≡ defs.now) }
+{
+    let mut copies = Vec::new(alloc);
+    for def in defs {
+        copies.push(def.copy(alloc)?)?;
+    }
+    Ok(copies)
+}
