@@ -56,5 +56,5 @@ goals_from now next before (assert at cs ∷ rest) =
     ∷ goals_from now next (before ++ conjunction (incarnation now) cs ∷ []) rest
 
 -- each local begins with its first incarnation
-abbrev pub goals : Procedure → List Goal
-goals p = let n = length (locals_of p) in goals_from (range_with_len 0 n) n [] p.body
+abbrev pub goals_of : Procedure → List Goal
+goals_of p = let n = length (locals_of p) in goals_from (range_with_len 0 n) n [] p.body

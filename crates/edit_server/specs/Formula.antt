@@ -1,6 +1,7 @@
 -- Expressions of the first form as terms.
-use Rattle.std.specs.Prelude.{ℕ, ℤ, pos, negsuc, List, [], ◌∷◌}
-use Rattle.logic_core.specs.Tree.{Tree, num, linear, negation, all, equal, at_most as at_most_term, Trees, no_trees, tree, Parts, no_parts, part}
+use Rattle.std.specs.Prelude.{ℕ, ℤ, pos, negsuc, List, [], ◌∷◌, map}
+use Rattle.logic_core.specs.Tree.{Tree, num, linear, negation, all, equal, at_most as at_most_term, no_trees, no_parts, part}
+use Rattle.logic_core.specs.View.{trees_of, parts_of}
 use Rattle.edit_server.specs.FirstForm.{Operand, number, local, Sign, plus, minus, Sum, Relation, equals, differs, less, at_most, greater, at_least, Comparison}
 
 abbrev pub coefficient : Sign → ℤ
@@ -8,9 +9,9 @@ coefficient plus = pos 1
 coefficient minus = negsuc 0
 
 -- operands joined by signs are one sum with the constant 0; an operand alone is itself
-abbrev pub sum_of : Tree → Parts → Tree
-sum_of t no_parts = t
-sum_of t (part k u ps) = linear (part (pos 1) t (part k u ps)) (pos 0)
+abbrev pub sum_of : Tree → List (ℤ × Tree) → Tree
+sum_of t [] = t
+sum_of t (p ∷ ps) = linear (parts_of ((pos 1, t) ∷ p ∷ ps)) (pos 0)
 
 -- a < b is a + 1 <= b
 abbrev pub below : Tree → Tree → Tree
@@ -26,10 +27,10 @@ relation_term greater a b = below b a
 relation_term at_least a b = at_most_term b a
 
 -- several are one conjunction; one alone is itself
-abbrev pub conjunction_of : Trees → Tree
-conjunction_of no_trees = all no_trees
-conjunction_of (tree t no_trees) = t
-conjunction_of (tree t (tree u ts)) = all (tree t (tree u ts))
+abbrev pub conjunction_of : List Tree → Tree
+conjunction_of [] = all no_trees
+conjunction_of (t ∷ []) = t
+conjunction_of (t ∷ u ∷ ts) = all (trees_of (t ∷ u ∷ ts))
 
 -- over the term that each local stands for
 module _ (local_term : ℕ → Tree) where
@@ -37,19 +38,14 @@ module _ (local_term : ℕ → Tree) where
   operand_term (number n) = num (pos n)
   operand_term (local x) = local_term x
 
-  abbrev pub signed_parts : List (Sign × Operand) → Parts
-  signed_parts [] = no_parts
-  signed_parts (p ∷ ps) = part (coefficient p.0) (operand_term p.1) (signed_parts ps)
+  abbrev pub signed_part : Sign × Operand → ℤ × Tree
+  signed_part p = (coefficient p.0, operand_term p.1)
 
   abbrev pub sum_term : Sum → Tree
-  sum_term e = sum_of (operand_term e.first) (signed_parts e.rest)
+  sum_term e = sum_of (operand_term e.first) (map signed_part e.rest)
 
   abbrev pub comparison_term : Comparison → Tree
   comparison_term c = relation_term c.relation (sum_term c.left) (sum_term c.right)
 
-  abbrev pub comparison_terms : List Comparison → Trees
-  comparison_terms [] = no_trees
-  comparison_terms (c ∷ cs) = tree (comparison_term c) (comparison_terms cs)
-
   abbrev pub conjunction : List Comparison → Tree
-  conjunction cs = conjunction_of (comparison_terms cs)
+  conjunction cs = conjunction_of (map comparison_term cs)

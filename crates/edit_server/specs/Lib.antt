@@ -5,3 +5,4 @@ pub mod Execution
 pub mod Formula
 pub mod Variables
 pub mod Conditions
+pub mod OnePass
