@@ -6,3 +6,4 @@ pub mod Formula
 pub mod Variables
 pub mod Conditions
 pub mod OnePass
+pub mod Codes

@@ -13,8 +13,12 @@ pub record Names : Type 0 where
   pub current : List (Option ℕ)
   pub vars : List Kind
 
+-- with a group's locals, none of which has occurred
+abbrev pub with_locals : Names → List (List ℕ) → Names
+with_locals names group = record names { current = names.current ++ map (λ name. None) group }
+
 abbrev pub first_names : Procedure → Names
-first_names p = record { current = map (λ name. None) (locals_of p); vars = [] }
+first_names p = fold with_locals (record { current = []; vars = [] }) p.groups
 
 -- one variable more
 abbrev pub one_more : Names → Names

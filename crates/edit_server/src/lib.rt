@@ -2,3 +2,5 @@
 #![tactic(auto)]
 
 pub mod first_form;
+pub mod formula;
+pub mod naming;
