@@ -1,0 +1,2 @@
+pub mod WellSorted
+pub mod ObligationCodes

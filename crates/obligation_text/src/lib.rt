@@ -1,0 +1,4 @@
+// Obligations: a signature, axioms and a goal.
+#![tactic(auto)]
+
+pub mod obligation;

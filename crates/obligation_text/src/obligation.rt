@@ -1,0 +1,74 @@
+// Obligations.
+ghost use Rattle.std.specs.Prelude.{◌≡◌, [], IsTrue, All};
+ghost use Rattle.logic_core.specs.Sorts.{bodies_sorted};
+ghost use Rattle.obligation_text.specs.WellSorted.{IsFormula};
+
+use logic_core::def::Signature;
+use logic_core::sequence::Sequence;
+use logic_core::term::Term;
+use std::marker::Model;
+
+/// What is to be proved: the goal, in every assignment of the signature's variables in which all
+/// axioms hold. The axioms and the goal are closed, well-sorted formulas over the signature.
+#[derive(Drop)]
+pub struct Obligation {
+    signature: Signature,
+    axioms: Sequence<Term>,
+    goal: Term,
+}
+
+impl Model for Obligation {
+    ghost use Rattle.logic_core.specs.Def.{Obligation as obligation};
+    ghost use Rattle.obligation_text.specs.ObligationCodes.{coded_obligation};
+
+    ghost Value = { obligation };
+
+    ghost coded = { coded_obligation };
+
+    ghost use Rattle.obligation_text.specs.WellSorted.{IsWellSorted};
+
+    ghost view = { λ a. record { vars = a.signature.vars; defs = a.signature.defs; axioms = a.axioms; goal = a.goal } };
+
+    ghost invariant = { λ a. IsWellSorted (record { vars = a.signature.vars; defs = a.signature.defs; axioms = a.axioms; goal = a.goal }) };
+}
+
+impl Obligation {
+    /// The obligation to show the goal from the axioms, over a signature whose bodies have their
+    /// definitions' sorts.
+    pub fn new(signature: Signature, axioms: Sequence<Term>, goal: Term) -> Obligation
+        requires bodies { IsTrue (bodies_sorted signature.vars [] signature.defs) }
+        requires assumed { All (IsFormula signature.vars signature.defs) axioms }
+        requires shown { IsFormula signature.vars signature.defs goal }
+        ensures { result ≡ record { vars = signature.vars; defs = signature.defs; axioms = axioms; goal = goal } }
+    {
+        Obligation {
+            signature,
+            axioms,
+            goal,
+        }
+    }
+
+    /// The sorts of the variables, and the definitions.
+    pub fn signature(&self) -> &Signature
+        ensures value { result.now ≡ record { vars = self.now.vars; defs = self.now.defs } }
+        ensures sorted { IsTrue (bodies_sorted self.now.vars [] self.now.defs) }
+    {
+        &self.signature
+    }
+
+    /// The axioms, in order.
+    pub fn axioms(&self) -> &[Term]
+        ensures value { result.now ≡ self.now.axioms }
+        ensures sorted { All (IsFormula self.now.vars self.now.defs) self.now.axioms }
+    {
+        self.axioms.as_slice()
+    }
+
+    /// The goal.
+    pub fn goal(&self) -> &Term
+        ensures value { result.now ≡ self.now.goal }
+        ensures sorted { IsFormula self.now.vars self.now.defs self.now.goal }
+    {
+        &self.goal
+    }
+}

@@ -1,0 +1,40 @@
+-- Where a node of a proof stands: the sorts of the variables there, and the normal facts so far, numbered from 0.
+use Rattle.std.specs.Prelude.{ℕ, Option, Some, List, [], ◌∷◌, ◌++◌, slice_get}
+use Rattle.logic_core.specs.Tree.{Kind, Tree, negation}
+use Rattle.logic_core.specs.Def.{Def, Obligation}
+use Rattle.logic_core.specs.Wide.{◌>>=◌}
+use Rattle.logic_core.specs.Sorts.{sort_of}
+use Rattle.logic_core.specs.Normal.{normal}
+
+pub record Context : Type 0 where
+  pub vars : List Kind
+  pub facts : List Tree
+
+-- the fact of a number, where there is one
+abbrev pub fact : Context → ℕ → Option Tree
+fact c f = slice_get c.facts f
+
+abbrev pub with_fact : Context → Tree → Context
+with_fact c t = record { vars = c.vars; facts = c.facts ++ t ∷ [] }
+
+module _ (defs : List Def) where
+  -- the sort of a named term, which is to be closed, well sorted and over the variables there
+  abbrev pub named : Context → Tree → Option Kind
+  named c t = sort_of c.vars defs [] t
+
+  -- the normal form of a formula becomes the next fact; None where making it leaves 128 bits
+  abbrev pub appended : Context → Tree → Option Context
+  appended c t = normal c.vars defs [] t >>= λ u. Some (with_fact c u)
+
+  abbrev pub appended_each : Context → List Tree → Option Context
+  appended_each c [] = Some c
+  appended_each c (t ∷ ts) = appended c t >>= λ d. appended_each d ts
+
+  -- a context for each child, with its own new facts
+  abbrev pub children : Context → List (List Tree) → Option (List Context)
+  children c [] = Some []
+  children c (ts ∷ rest) = appended_each c ts >>= λ d. children c rest >>= λ ds. Some (d ∷ ds)
+
+-- at the start: the normal axioms in order, then the normal Not of the goal
+abbrev pub start : Obligation → Option Context
+start o = appended_each o.defs (record { vars = o.vars; facts = [] }) (o.axioms ++ negation o.goal ∷ [])

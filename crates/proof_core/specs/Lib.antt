@@ -1,0 +1,10 @@
+pub mod Proof
+pub mod Context
+pub mod Says
+pub mod Steps
+pub mod Ends
+pub mod Accepted
+pub mod Codes
+pub mod View
+pub mod ProofView
+pub mod ProofFalls

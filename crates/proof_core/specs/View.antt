@@ -1,0 +1,18 @@
+-- What steps and lists of proofs stand for.
+use Rattle.std.specs.Prelude.{map, List, [], ◌∷◌}
+use Rattle.proof_core.specs.Proof as tree
+use Rattle.proof_core.specs.Proof.{by_split, by_replace, by_unfold, Proofs, no_proofs, one_proof}
+use Rattle.proof_core.specs.declared.proof.Step.{Step}
+use Rattle.proof_core.specs.declared.proof.Step.TheVariants.{Split, Replace, Unfold}
+
+abbrev pub step_of : Step → tree.Step
+step_of (Split f) = by_split f
+step_of (Replace f g t) = by_replace f g t
+step_of (Unfold f t) = by_unfold f t
+
+abbrev pub steps_of : List Step → List tree.Step
+steps_of ss = map step_of ss
+
+abbrev pub proofs_of : List tree.Proof → Proofs
+proofs_of [] = no_proofs
+proofs_of (p ∷ ps) = one_proof p (proofs_of ps)

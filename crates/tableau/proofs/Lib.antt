@@ -1,0 +1,2 @@
+mod SearchExamples
+pub mod Turns

@@ -1,0 +1,97 @@
+-- The search: a step applies the first rule that can be applied, on the top branch; the verdict, and the proof made of the steps' nodes.
+use Rattle.std.specs.Prelude.{ℕ, zero, suc, ◌+◌, ◌-◌, nat_lt, true, false, Option, Some, None, List, [], ◌∷◌, ◌++◌, length, drop, slice_get}
+use Rattle.logic_core.specs.Def.{Def, Obligation}
+use Rattle.proof_core.specs.Proof.{Step, Proof, proof, Proofs, no_proofs, one_proof, by_close, by_cases}
+use Rattle.proof_core.specs.Context.{Context, start}
+use Rattle.tableau.specs.Branch.{Branch, Attempt, none, leaves, gives, numbered}
+use Rattle.tableau.specs.Move.{Ending, goes_on, closes, forks, Move, cost, branches_of, Played, played}
+use Rattle.tableau.specs.Closing.{close, flatten}
+use Rattle.tableau.specs.Rewriting.{rewrite, unfold_call}
+use Rattle.tableau.specs.Splitting.{split}
+
+-- the first rule of these that can be applied
+abbrev pub first_rule : List (Branch → Attempt Move) → Branch → Attempt Move
+first_rule [] b = none
+first_rule (r ∷ rs) b = elim (r b) [ none ↦ first_rule rs b | leaves ↦ leaves | gives m ↦ gives m ]
+
+abbrev pub rules : List Def → List (Branch → Attempt Move)
+rules defs = close ∷ flatten defs ∷ rewrite defs ∷ unfold_call defs ∷ split defs ∷ []
+
+unfoldable pub step : List Def → Branch → Attempt Move
+step defs b = first_rule (rules defs) b
+
+-- proved where the stack is empty, open where the top branch has no step, wide where its next step leaves 128 bits, and turns where that costs more than is left
+pub data Verdict : Type 0 where
+  proved : Verdict
+  «open» : Verdict
+  turns : Verdict
+  wide : Verdict
+
+-- the verdict, and what the proof needs of the moves
+pub record Run : Type 0 where
+  pub verdict : Verdict
+  pub moves : List Played
+
+abbrev pub ended : Verdict → Run
+ended v = record { verdict = v; moves = [] }
+
+abbrev pub after : Move → Run → Run
+after m r = record { verdict = r.verdict; moves = played m ∷ r.moves }
+
+-- what comes of a step of the top branch, with so many turns left; `rest` goes on with the turns and the branches that are left
+abbrev pub after_attempt : (ℕ → List Branch → Run) → ℕ → List Branch → Attempt Move → Run
+after_attempt rest left bs none = ended «open»
+after_attempt rest left bs leaves = ended wide
+after_attempt rest left bs (gives m) = elim (nat_lt left (cost m)) [ true ↦ ended turns | false ↦ after m (rest (left - cost m) (branches_of m.made ++ bs)) ]
+
+-- on a stack of branches; each step costs at least one turn, so `steps` bounds the steps where no more turns are left
+module _ (defs : List Def) where
+  abbrev pub run : ℕ → ℕ → List Branch → Run
+  run steps left [] = ended proved
+  run zero left (b ∷ bs) = after_attempt (λ l s. ended turns) left bs (step defs b)
+  run (suc steps) left (b ∷ bs) = after_attempt (λ l s. run steps l s) left bs (step defs b)
+
+-- the proof of a branch that begins with these nodes
+abbrev pub begin_with : List Step → Proof → Proof
+begin_with ss (proof ts e) = proof (ss ++ ts) e
+
+abbrev pub all_begin_with : List (List Step) → List Proof → Proofs
+all_begin_with [] ps = no_proofs
+all_begin_with (ss ∷ rest) [] = no_proofs
+all_begin_with (ss ∷ rest) (p ∷ ps) = one_proof (begin_with ss p) (all_begin_with rest ps)
+
+abbrev pub only : Proofs → Proof
+only no_proofs = proof [] (by_close 0 0)
+only (one_proof p ps) = p
+
+-- the proof of a branch on which a move was made, from those of the branches that it made
+abbrev pub proof_of : Ending → Proofs → Proof
+proof_of goes_on ps = only ps
+proof_of (closes f g) ps = proof [] (by_close f g)
+proof_of (forks f) ps = proof [] (by_cases f ps)
+
+-- the proofs of the branches on the stack, from the moves that emptied it
+abbrev pub proofs_of : List Played → List Proof
+proofs_of [] = []
+proofs_of (m ∷ ms) = let ps = proofs_of ms in proof_of m.ending (all_begin_with m.steps ps) ∷ drop (length m.steps) ps
+
+-- the first facts as they stand at a proof's start: true and equal ones among them stay
+abbrev pub first_branch : Context → Branch
+first_branch c = record { facts = numbered 0 c.facts; vars = c.vars; next = length c.facts }
+
+pub record Answer : Type 0 where
+  pub verdict : Verdict
+  pub found : Option Proof
+
+abbrev pub found_by : Verdict → List Played → Option Proof
+found_by proved ms = slice_get (proofs_of ms) 0
+found_by v ms = None
+
+abbrev pub answer_of : Run → Answer
+answer_of r = record { verdict = r.verdict; found = found_by r.verdict r.moves }
+
+abbrev pub answer : Obligation → ℕ → Answer
+answer o n = elim (start o) [
+  | None ↦ record { verdict = wide; found = None }
+  | Some c ↦ answer_of (run o.defs n n (first_branch c ∷ []))
+]

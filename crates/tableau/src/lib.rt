@@ -1,0 +1,2 @@
+// The search for a proof.
+#![tactic(auto)]
