@@ -24,9 +24,13 @@ first_names p = fold with_locals (record { current = []; vars = [] }) p.groups
 abbrev pub one_more : Names → Names
 one_more names = record names { vars = names.vars ++ int ∷ [] }
 
+-- with a new incarnation of a local, whose variable is this
+abbrev pub renewed : Names → ℕ → ℕ → Names
+renewed names x v = record names { current = slice_set names.current x (Some v) }
+
 abbrev pub mention_in : Names → ℕ → Option (Option ℕ) → Names
 mention_in names x None = names
-mention_in names x (Some None) = record (one_more names) { current = slice_set names.current x (Some (length names.vars)) }
+mention_in names x (Some None) = one_more (renewed names x (length names.vars))
 mention_in names x (Some (Some v)) = names
 
 -- a local occurs: where its incarnation has no variable yet, it takes the next
@@ -93,7 +97,7 @@ abbrev pub perform_assign : Made → ℕ → Sum → Made
 perform_assign made x e =
     let new = length made.names.vars in
     let names = mention_sum (one_more made.names) e in
-    also made (record names { current = slice_set names.current x (Some new) }) (equal (free new) (sum_term (named names) e))
+    also made (renewed names x new) (equal (free new) (sum_term (named names) e))
 
 abbrev pub perform_assume : Made → List Comparison → Made
 perform_assume made cs =

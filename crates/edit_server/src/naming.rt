@@ -1,6 +1,6 @@
 // The variables of obligations: each incarnation of a local takes the next number where it first occurs.
 ghost use Rattle.std.specs.Prelude.{◌≡◌, length, IfOk, OnOk};
-ghost use Rattle.edit_server.specs.OnePass.{first_names, with_locals, one_more, mention, mention_operand, mention_sum, mention_sides, mention_comparison, mention_all};
+ghost use Rattle.edit_server.specs.OnePass.{first_names, with_locals, one_more, renewed, mention, mention_operand, mention_sum, mention_sides, mention_comparison, mention_all};
 ghost use Rattle.edit_server.specs.FirstFormView.{operand_of};
 
 use crate::first_form::{Comparison, Name, Operand, Procedure, Relation, Sum};
@@ -67,6 +67,16 @@ impl Names {
             kind: SortKind::Int,
         })?;
         Ok(())
+    }
+
+    /// The variable of the local's new incarnation.
+    pub fn renew(&mut self, local: u64, variable: u64)
+        ensures { self.new ≡ renewed self.old local variable }
+    {
+        let x = local as usize;
+        if x < self.current.len() {
+            self.current[x] = Some(variable);
+        }
     }
 
     /// A local occurs: where its incarnation has no variable yet, it takes the next.
