@@ -7,3 +7,9 @@ pub mod TokensInText
 pub mod Reading
 pub mod LexemeView
 pub mod Answers
+pub mod Execution
+pub mod Formula
+pub mod Variables
+pub mod Conditions
+pub mod OnePass
+pub mod Codes

@@ -3,4 +3,7 @@
 
 pub mod cursor;
 pub mod faults;
+pub mod conditions;
 pub mod first_form;
+pub mod formula;
+pub mod naming;
