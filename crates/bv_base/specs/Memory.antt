@@ -1,7 +1,6 @@
 -- A source and a sink in memory, whose calls are numbered from 0 and may be told to fail.
-use Rattle.std.specs.Prelude.{◌≡◌, ◌≢◌, ℕ, ◌+◌, ◌-◌, ◌^◌, ◌≤◌, min, Bool, true, false, ◌||◌, not, List, ◌++◌, length, take, drop, nat_le, Result, Ok, Err}
+use Rattle.std.specs.Prelude.{◌≡◌, ℕ, ◌+◌, ◌-◌, ◌^◌, min, Bool, true, false, ◌||◌, not, List, ◌++◌, length, take, drop, nat_le, ◌==◌, Result, Ok, Err}
 use Rattle.std.specs.List.{list_any}
-use Rattle.std.specs.Prelude.{◌==◌}
 use Rattle.bv_base.specs.declared.outside.Failed.{Failed}
 
 -- one more, up to the last value

@@ -1,5 +1,10 @@
-//! The outside: what is read and written, and where a piece of a text stands. Below it stands
-//! nothing, and above it nothing else reads, writes or counts.
+//! The outside: what is read and written, whose fault a failure was, and where a piece of a text
+//! stands.
+//!
+//! `outside` has the traits of sources and sinks; `memory`, `sure` and `standard` the ones in
+//! memory, the ones that never fail and the ones over std; `reading` and `writing` read a whole
+//! source and write a whole piece; `place` has lines and columns; `steps` counts; `answers` has
+//! what is asked and answered.
 #![tactic(auto)]
 
 pub mod answers;

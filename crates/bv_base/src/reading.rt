@@ -1,5 +1,5 @@
 // Reading a source to its end.
-ghost use Rattle.std.specs.Prelude.{◌≡◌, ◌≤◌, ◌<◌, List, length, IfOk, IfErr, OnOk, IsErrOf, IfSome};
+ghost use Rattle.std.specs.Prelude.{◌≡◌, ◌≤◌, ◌<◌, ℕ, List, length, IfOk, IfErr, OnOk, IsErrOf, IfSome};
 ghost use Rattle.bv_base.specs.Known.{Takes, IsEnd, HasRisen};
 ghost use Rattle.bv_base.specs.Reading.{IsTakenAt};
 
@@ -62,7 +62,7 @@ pub fn read_all<S: Source>(alloc: Global, src: &mut S, total: u64) -> Result<Vec
     ensures within { IfOk result (λ bytes. length bytes.items ≤ total) }
 
     ensures read { IsErrOf result LineFault.Read → HasRisen (S.faults src.old) (S.faults src.new) }
-    ensures refused { IfErr result (λ fault. (taken : List _) × IsTakenAt fault total (length taken)
+    ensures refused { IfErr result (λ fault. (taken : List ℕ) × IsTakenAt fault total (length taken)
         × Takes (S.left src.old) (S.left src.new) taken) }
     ensures full { IsErrOf result LineFault.Full → IfSome (S.left src.old) (λ input. total < length input) }
     ensures count { S.faults src.old ≤ S.faults src.new }
