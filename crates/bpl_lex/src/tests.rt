@@ -258,3 +258,25 @@ const OTHER_BYTES: Faults = &[
 fn nothing_begins_with_another_byte(rt: HostRuntime) {
     have_faults(&rt, rt.alloc(), OTHER_BYTES);
 }
+
+/// The token's text, where its span lies in the text.
+fn text_of<'a>(token: &Token, text: &'a [u8]) -> Option<&'a [u8]> {
+    if token.span.start <= token.span.end && token.span.end as usize <= text.len() {
+        Some(token.text_in(text))
+    } else {
+        None
+    }
+}
+
+#[test]
+fn a_token_has_its_own_text(rt: HostRuntime) -> Result<(), Fail> {
+    let text = b"assume x1 <==> \"a b\";";
+    let own: [&[u8]; 5] = [b"assume", b"x1", b"<==>", b"\"a b\"", b";"];
+    let found = read(rt.alloc(), text)?;
+    assert_eq!(rt; found.len(), own.len());
+    for (i, wanted) in own.iter().enumerate() {
+        let seen = found.get(i).and_then(|token| text_of(token, text));
+        assert_eq!(rt; seen, Some(*wanted), "token {i}");
+    }
+    Ok(())
+}
