@@ -1,7 +1,7 @@
 // Why a text has no tokens.
 ghost use Rattle.std.specs.Prelude.{◌≡◌};
 
-use std::alloc::{AllocError, AllocFailed};
+use std::alloc::AllocFailed;
 use thiserror::Error;
 
 /// Why a text has no tokens.
@@ -14,16 +14,6 @@ pub enum LexFault {
     /// or goes on at each byte before it. A comment or a string without an end does not begin.
     #[error("no token begins at byte {at}")]
     Lex { at: u32 },
-}
-
-impl From<AllocError> for LexFault {
-    ghost use Rattle.bpl_lex.specs.declared.faults.LexFault.TheVariants.{Memory};
-
-    ghost from_gives = { λ _ e. e ≡ Memory };
-
-    fn from(_: AllocError) -> LexFault {
-        LexFault::Memory
-    }
 }
 
 impl<T: Drop> From<AllocFailed<T>> for LexFault {

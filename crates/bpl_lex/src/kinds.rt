@@ -1,4 +1,6 @@
 // Tokens: a kind, and where in the text they stand.
+ghost use Rattle.std.specs.Prelude.{◌≡◌, ◌≤◌, length};
+
 use bv_base::place::Span;
 use std::marker::Model;
 
@@ -36,4 +38,18 @@ impl Model for Token {
     ghost inverse = { fields_of };
 
     ghost inverse_ok = { λ a h. fields_of_view a };
+}
+
+impl Token {
+    ghost use Rattle.bpl_lex.specs.Token.{text_of};
+
+    /// The token's own text, in the text that it is a token of.
+    pub fn text_in<'a>(&self, text: &'a [u8]) -> &'a [u8]
+        requires ordered { self.now.start ≤ self.now.finish }
+        requires inside { self.now.finish ≤ length text.now }
+        ensures { result.now ≡ text_of text.now self.now }
+    {
+        let span = self.span;
+        &text[span.start as usize..span.end as usize]
+    }
 }

@@ -2,14 +2,17 @@
 // longest that begins at its place, and else the first byte at which none of them begins.
 #![tactic(auto)]
 
-pub mod bytes;
+mod bytes;
 pub mod faults;
 pub mod kinds;
 pub mod lexing;
-pub mod pieces;
-pub mod signs;
-pub mod words;
+mod pieces;
+mod signs;
+mod words;
 
 pub use faults::LexFault;
 pub use kinds::{Token, TokenKind};
 pub use lexing::tokens;
+
+#[cfg(test)]
+mod tests;

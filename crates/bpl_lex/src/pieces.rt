@@ -48,14 +48,14 @@ fn string_end(bytes: &[u8]) -> Option<usize>
     ensures { result ≡ string_end bytes.now }
 {
     let mut rest = bytes;
-    let mut passed = 0;
+    let mut inside = 0;
     loop {
         match rest {
-            [b'"', ..] => return Some(passed + 1),
+            [b'"', ..] => return Some(inside + 1),
             [] | [b'\n', ..] => return None,
             [_, others @ ..] => {
                 rest = others;
-                passed += 1;
+                inside += 1;
             }
         }
     }

@@ -4,8 +4,8 @@ use Rattle.bpl_lex.proofs.pieces.string_end.Given as goal
 
 abbrev pub invariant-loop-rest : goal.invariant-loop-rest
 invariant-loop-rest l = record {
-  rest : l.passed + length l.rest ≡ length l.bytes;
-  same : option_map (λ n. l.passed + n) (string_end l.rest) ≡ string_end l.bytes;
+  rest : l.inside + length l.rest ≡ length l.bytes;
+  same : option_map (λ n. l.inside + n) (string_end l.rest) ≡ string_end l.bytes;
 }
 
 abbrev pub decreases-loop-rest : goal.decreases-loop-rest
