@@ -14,3 +14,7 @@ pub mod FormulaValues
 pub mod NormalValues
 pub mod DefinedSorts
 pub mod Assigned
+pub mod CarriedSorts
+pub mod SortFrame
+pub mod ReplacedSorts
+pub mod SubstitutedSorts
