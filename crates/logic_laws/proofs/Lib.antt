@@ -18,3 +18,5 @@ pub mod CarriedSorts
 pub mod SortFrame
 pub mod ReplacedSorts
 pub mod SubstitutedSorts
+pub mod ValueFrame
+pub mod Unfolding
