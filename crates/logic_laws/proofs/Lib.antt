@@ -20,3 +20,5 @@ pub mod ReplacedSorts
 pub mod SubstitutedSorts
 pub mod ValueFrame
 pub mod Unfolding
+pub mod Paired
+pub mod SubstitutedValues
