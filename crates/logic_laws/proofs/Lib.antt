@@ -22,3 +22,4 @@ pub mod ValueFrame
 pub mod Unfolding
 pub mod Paired
 pub mod SubstitutedValues
+pub mod ReplacedValues
