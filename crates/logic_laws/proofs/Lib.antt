@@ -13,7 +13,6 @@ pub mod Booleans
 pub mod FormulaValues
 pub mod NormalValues
 pub mod DefinedSorts
-pub mod Assigned
 pub mod CarriedSorts
 pub mod SortFrame
 pub mod ReplacedSorts
@@ -23,3 +22,5 @@ pub mod Unfolding
 pub mod Paired
 pub mod SubstitutedValues
 pub mod ReplacedValues
+pub mod Bodies
+pub mod Assigned
