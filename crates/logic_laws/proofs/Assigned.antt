@@ -15,7 +15,7 @@ use Rattle.logic_core.proofs.Defined.{has_defined, keeps_defined}
 use Rattle.logic_core.proofs.Replaced.{Same}
 use Rattle.logic_laws.specs.Assignment.{IsAssignment, ValueHas, HaveOneValue, HoldsThere}
 use Rattle.logic_laws.proofs.SameValue.{value_stable}
-use Rattle.logic_laws.proofs.Gives.{Gives, GivesEach, said_each, gives_each, same_values}
+use Rattle.logic_laws.proofs.Gives.{Gives, GivesEach, said, gives, said_each, gives_each, same_values}
 use Rattle.logic_laws.proofs.FormulaValues.{negated_gives}
 use Rattle.logic_laws.proofs.NormalValues.{normal_gives}
 use Rattle.logic_laws.proofs.DefinedSorts.{value_sort, defined_sorts}
@@ -34,6 +34,20 @@ one_value frees defs t u b s w = s (λ v. v ≡ w) (λ v. value_stable v w)
 
 pub one_truth : (frees : List Value) (defs : List Def) (t u : Tree) (b : List Value) → Same (With frees (calls_of frees defs) t b) (With frees (calls_of frees defs) u b) → HoldsThere frees defs t b ↔ HoldsThere frees defs u b
 one_truth frees defs t u b s = s (λ v. IsTrue (holds v)) (λ v. true_stable (holds v))
+
+-- where an Exists holds, its body doesn't fail for all values of its sorts
+pub witness_exists : (frees : List Value) (defs : List Def) (ss : List Kind) (ps : Patterns) (body : Tree) → HoldsThere frees defs (exists ss ps body) [] → ((vs : List Value) → are_of ss vs ≡ true → HoldsThere frees defs body (reverse vs) → ⊥) → ⊥
+witness_exists frees defs ss ps body h k = let e : false ≡ true = h.1 (λ some. some (λ vs f g. k vs f (subst (λ b. HoldsThere frees defs body b) (append-nil (reverse vs)) g))) in cc
+
+-- terms of one value say the same
+pub same_from_one_value : (frees : List Value) (defs : List Def) (t u : Tree) (b : List Value) → HaveOneValue frees defs t u b → Same (With frees (calls_of frees defs) t b) (With frees (calls_of frees defs) u b)
+same_from_one_value frees defs t u b e P s =
+    let both : ((v : Value) → Gives frees (calls_of frees defs) t b v → Gives frees (calls_of frees defs) u b v → ⊥) → ⊥
+        = λ k. gives frees (calls_of frees defs) (has_defined frees defs) (keeps_defined frees defs) t b (λ v gt. gives frees (calls_of frees defs) (has_defined frees defs) (keeps_defined frees defs) u b (λ w gu.
+            let q : w ≡ v = (said frees (calls_of frees defs) (has_defined frees defs) (keeps_defined frees defs) u b w gu (λ x. x ≡ v) (λ x. value_stable x v)).0 ((e v).0 ((said frees (calls_of frees defs) (has_defined frees defs) (keeps_defined frees defs) t b v gt (λ x. x ≡ v) (λ x. value_stable x v)).1 refl)) in
+            k v gt (subst (Gives frees (calls_of frees defs) u b) q gu))) in
+    ((λ h. keeps frees (calls_of frees defs) (keeps_defined frees defs) u b P s (λ n. both (λ v gt gu. n ((said frees (calls_of frees defs) (has_defined frees defs) (keeps_defined frees defs) u b v gu P s).1 ((said frees (calls_of frees defs) (has_defined frees defs) (keeps_defined frees defs) t b v gt P s).0 h))))),
+     (λ h. keeps frees (calls_of frees defs) (keeps_defined frees defs) t b P s (λ n. both (λ v gt gu. n ((said frees (calls_of frees defs) (has_defined frees defs) (keeps_defined frees defs) t b v gt P s).1 ((said frees (calls_of frees defs) (has_defined frees defs) (keeps_defined frees defs) u b v gu P s).0 h))))))
 
 module _ (vars : List Kind) (defs : List Def) (frees : List Value) (a : IsAssignment vars defs frees) where
   -- the value of a well-sorted term is of its sort
@@ -82,10 +96,6 @@ module _ (vars : List Kind) (defs : List Def) (frees : List Value) (a : IsAssign
   instance_holds ss ps body ts s f h = holds_stable (substitute body (listed ts)) [] (λ none. gives_each frees (calls_of frees defs) (has_defined frees defs) (keeps_defined frees defs) ts [] (λ vs g.
       let e : false ≡ true = h.1 (λ every. none ((same_substituted vars defs frees (calls_of frees defs) (has_defined frees defs) (keeps_defined frees defs) ss ts vs body boolean f s g (λ v. IsTrue (holds v)) (λ v. true_stable (holds v))).0
         (subst (λ b. HoldsThere frees defs body b) (append-nil (reverse vs)) (every vs (give_sorts vars defs frees (calls_of frees defs) (has_defined frees defs) a.1 (defined_sorts vars frees a.1 defs a.0) ts [] [] ss vs f refl g))))) in cc))
-
-  -- where an Exists holds, not for all values of its sorts its body fails
-  pub witness_exists : (ss : List Kind) (ps : Patterns) (body : Tree) → HoldsThere frees defs (exists ss ps body) [] → ((vs : List Value) → are_of ss vs ≡ true → HoldsThere frees defs body (reverse vs) → ⊥) → ⊥
-  witness_exists ss ps body h k = let e : false ≡ true = h.1 (λ some. some (λ vs f g. k vs f (subst (λ b. HoldsThere frees defs body b) (append-nil (reverse vs)) g))) in cc
 
   -- more variables, and values for them
   pub assignment_more : (ks : List Kind) (vs : List Value) → are_of ks vs ≡ true → IsAssignment (vars ++ ks) defs (frees ++ vs)
