@@ -24,3 +24,4 @@ pub mod SubstitutedValues
 pub mod ReplacedValues
 pub mod Bodies
 pub mod Assigned
+pub mod WrittenTables

@@ -73,7 +73,7 @@ of_boolean (flag b) h = (b, refl)
 of_boolean (table d es) h = absurd (cc)
 
 -- of an entry: its value, that it isn't the default, that the later ones stand above it, and these
-parts_of_entry : (k : Kind) (d : Value) (i : ℤ) (v : Value) (es : Entries) → are_entries k d (entry i v es) ≡ true → (is_of k v ≡ true) × (not (same v d) ≡ true) × (above i es ≡ true) × (are_entries k d es ≡ true)
+pub parts_of_entry : (k : Kind) (d : Value) (i : ℤ) (v : Value) (es : Entries) → are_entries k d (entry i v es) ≡ true → (is_of k v ≡ true) × (not (same v d) ≡ true) × (above i es ≡ true) × (are_entries k d es ≡ true)
 parts_of_entry k d i v es h =
     let p = both_true (is_of k v) (not (same v d) && (above i es && are_entries k d es)) h in
     let q = both_true (not (same v d)) (above i es && are_entries k d es) p.1 in
@@ -107,13 +107,13 @@ other_test false true e f = refl
 other_test false false e f = absurd (cc)
 
 -- where i is neither j nor below it, it is above
-above_other : (i j : ℤ) → int_eq i j ≡ false → int_lt i j ≡ false → int_lt j i ≡ true
+pub above_other : (i j : ℤ) → int_eq i j ≡ false → int_lt i j ≡ false → int_lt j i ≡ true
 above_other i j e f = other_test (int_lt i j) (int_lt j i) e f
 
-less_less : (i j l : ℤ) → int_lt i j ≡ true → int_lt j l ≡ true → int_lt i l ≡ true
+pub less_less : (i j l : ℤ) → int_lt i j ≡ true → int_lt j l ≡ true → int_lt i l ≡ true
 less_less i j l h a = grind (arith, ints)
 
-above_less : (i j : ℤ) (es : Entries) → int_lt i j ≡ true → above j es ≡ true → above i es ≡ true
+pub above_less : (i j : ℤ) (es : Entries) → int_lt i j ≡ true → above j es ≡ true → above i es ≡ true
 above_less i j no_entries h a = refl
 above_less i j (entry l v es) h a = less_less i j l h a
 
