@@ -1,5 +1,5 @@
 -- The laws in an assignment over well-sorted definitions, for everything that can be shown by contradiction.
-use Rattle.std.proofs.Common.{◌≡◌, ◌↔◌, refl, sym, ap, subst, ℕ, Bool, true, false, not, Option, Some, IsTrue, List, [], ◌∷◌, ◌++◌, reverse, slice_get, append-nil}
+use Rattle.std.proofs.Common.{◌≡◌, ◌∙◌, ◌↔◌, refl, sym, ap, subst, ℕ, Bool, true, false, not, Option, Some, IsTrue, List, [], ◌∷◌, ◌++◌, reverse, slice_get, append-nil}
 use Rattle.logic_core.specs.Tree.{Kind, boolean, Tree, call, negation, for_all, exists, Trees, no_trees, Patterns}
 use Rattle.logic_core.specs.Def.{Def}
 use Rattle.logic_core.specs.Value.{Value, flag, holds, is_of, are_of}
@@ -34,6 +34,16 @@ one_value frees defs t u b s w = s (λ v. v ≡ w) (λ v. value_stable v w)
 
 pub one_truth : (frees : List Value) (defs : List Def) (t u : Tree) (b : List Value) → Same (With frees (calls_of frees defs) t b) (With frees (calls_of frees defs) u b) → HoldsThere frees defs t b ↔ HoldsThere frees defs u b
 one_truth frees defs t u b s = s (λ v. IsTrue (holds v)) (λ v. true_stable (holds v))
+
+-- a term has one value
+pub value_exists : (frees : List Value) (defs : List Def) (t : Tree) (b : List Value) → ((w : Value) → ValueHas frees defs t b (λ v. v ≡ w) → ⊥) → ⊥
+value_exists frees defs t b none = gives frees (calls_of frees defs) (has_defined frees defs) (keeps_defined frees defs) t b (λ r g. none r ((said frees (calls_of frees defs) (has_defined frees defs) (keeps_defined frees defs) t b r g (λ v. v ≡ r) (λ v. value_stable v r)).1 refl))
+
+pub value_unique : (frees : List Value) (defs : List Def) (t : Tree) (b : List Value) (v w : Value) → ValueHas frees defs t b (λ x. x ≡ v) → ValueHas frees defs t b (λ x. x ≡ w) → v ≡ w
+value_unique frees defs t b v w h g = value_stable v w (λ none. gives frees (calls_of frees defs) (has_defined frees defs) (keeps_defined frees defs) t b (λ r i.
+    let p : r ≡ v = (said frees (calls_of frees defs) (has_defined frees defs) (keeps_defined frees defs) t b r i (λ x. x ≡ v) (λ x. value_stable x v)).0 h in
+    let q : r ≡ w = (said frees (calls_of frees defs) (has_defined frees defs) (keeps_defined frees defs) t b r i (λ x. x ≡ w) (λ x. value_stable x w)).0 g in
+    none (sym p ∙ q)))
 
 -- where an Exists holds, its body doesn't fail for all values of its sorts
 pub witness_exists : (frees : List Value) (defs : List Def) (ss : List Kind) (ps : Patterns) (body : Tree) → HoldsThere frees defs (exists ss ps body) [] → ((vs : List Value) → are_of ss vs ≡ true → HoldsThere frees defs body (reverse vs) → ⊥) → ⊥

@@ -25,3 +25,4 @@ pub mod ReplacedValues
 pub mod Bodies
 pub mod Assigned
 pub mod WrittenTables
+pub mod Divided

@@ -100,6 +100,9 @@ same_index : (c : Bool) (i j : ℤ) → int_eq i j ≡ c → (i ≡ j) ⊎ (int_
 same_index true i j e = inl (equal_index i j e)
 same_index false i j e = inr e
 
+pub other_index : (i j : ℤ) → (i ≡ j → ⊥) → int_eq i j ≡ false
+other_index i j ne = elim (same_index (int_eq i j) i j refl) [ inl e ↦ absurd (ne e) | inr e ↦ e ]
+
 order_of : (c : Bool) (i j : ℤ) → int_eq i j ≡ false → int_lt i j ≡ c → (int_lt i j ≡ true) ⊎ (int_lt j i ≡ true)
 order_of true i j o e = inl e
 order_of false i j o e = inr (above_other i j o e)

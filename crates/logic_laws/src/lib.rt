@@ -4,6 +4,7 @@
 
 pub mod sorts;
 pub mod values;
+pub mod writes;
 pub mod normal;
 pub mod replace;
 pub mod binders;
