@@ -10,6 +10,7 @@ use Rattle.logic_core.specs.Subterm.{replaced, listed}
 use Rattle.logic_core.specs.Substitute.{substitute}
 use Rattle.logic_core.specs.Junction.{negated}
 use Rattle.logic_core.specs.Normal.{normal}
+use Rattle.logic_core.specs.Tighten.{tighten}
 use Rattle.logic_core.proofs.Kept.{Stable, keeps, keeps_each, true_stable}
 use Rattle.logic_core.proofs.Defined.{has_defined, keeps_defined}
 use Rattle.logic_core.proofs.Replaced.{Same}
@@ -26,6 +27,7 @@ use Rattle.logic_laws.proofs.ValueSorts.{give_sorts}
 use Rattle.logic_laws.proofs.ValueFrame.{Agree, agree_itself, agree_none, agree_more, same_over}
 use Rattle.logic_laws.proofs.ReplacedValues.{same_replaced}
 use Rattle.logic_laws.proofs.SubstitutedValues.{same_substituted}
+use Rattle.logic_laws.proofs.Tightened.{tighten_gives}
 use Rattle.logic_laws.proofs.Unfolding.{same_unfolded, same_calls_over}
 
 -- from what both say: one value, and one truth
@@ -73,6 +75,11 @@ module _ (vars : List Kind) (defs : List Def) (frees : List Value) (a : IsAssign
   pub same_negated : (t u : Tree) (bs : List Kind) (b : List Value) → are_of bs b ≡ true → sort_of vars defs bs t ≡ Some boolean → negated t ≡ Some u → Same (With frees (calls_of frees defs) (negation t) b) (With frees (calls_of frees defs) u b)
   same_negated t u bs b f s e = same_values frees (calls_of frees defs) (has_defined frees defs) (keeps_defined frees defs) frees (calls_of frees defs) (has_defined frees defs) (keeps_defined frees defs) (negation t) u b b
       (λ r g. subst (Gives frees (calls_of frees defs) u b) (sym g.2) (negated_gives vars defs frees (calls_of frees defs) (has_defined frees defs) (keeps_defined frees defs) a.1 (defined_sorts vars frees a.1 defs a.0) t u bs b g.0 s f e g.1))
+
+  -- a formula and its tightened form say the same
+  pub same_tightened : (t : Tree) (bs : List Kind) (b : List Value) → are_of bs b ≡ true → sort_of vars defs bs t ≡ Some boolean → Same (With frees (calls_of frees defs) t b) (With frees (calls_of frees defs) (tighten t) b)
+  same_tightened t bs b f s = same_values frees (calls_of frees defs) (has_defined frees defs) (keeps_defined frees defs) frees (calls_of frees defs) (has_defined frees defs) (keeps_defined frees defs) t (tighten t) b b
+      (λ r g. tighten_gives vars defs frees (calls_of frees defs) (has_defined frees defs) (keeps_defined frees defs) a.1 (defined_sorts vars frees a.1 defs a.0) t bs b r s f g)
 
   -- a closed term says the same under binders
   pub same_closed : (t : Tree) (b b' : List Value) (k : Kind) → sort_of vars defs [] t ≡ Some k → Same (With frees (calls_of frees defs) t b) (With frees (calls_of frees defs) t b')

@@ -34,7 +34,7 @@ truth_found false (truth false) h = refl
 truth_found true t h = absurd (cc)
 truth_found false t h = absurd (cc)
 
-zero_found : (z : Tree) → is_zero z ≡ true → z ≡ num (pos 0)
+pub zero_found : (z : Tree) → is_zero z ≡ true → z ≡ num (pos 0)
 zero_found (num n) h = ap num ((Decides-int_eq n (pos 0)).0 h)
 zero_found z h = absurd (cc)
 

@@ -23,6 +23,7 @@ pub mod Paired
 pub mod SubstitutedValues
 pub mod ReplacedValues
 pub mod Bodies
-pub mod Assigned
 pub mod WrittenTables
 pub mod Divided
+pub mod Tightened
+pub mod Assigned

@@ -4,6 +4,7 @@ use Rattle.std.proofs.lemmas.Bool.Decides.{Decides-int_eq}
 use Rattle.logic_core.specs.Value.{Value, whole, flag, table, Entries, no_entries, entry, bool_eq, same, same_entries}
 use Rattle.logic_core.proofs.Kept.{Stable}
 use Rattle.logic_laws.proofs.Options.{both_true, all_true}
+use Rattle.logic_laws.proofs.Integers.{same_test}
 
 bool_equal : (b c : Bool) → bool_eq b c ≡ true → b ≡ c
 bool_equal true true h = refl
@@ -42,12 +43,6 @@ mutual
 
 pub equal_same : (v w : Value) → v ≡ w → same v w ≡ true
 equal_same v w e = subst (λ x. same v x ≡ true) e (same_itself v)
-
-same_test : (p q : Bool) → (p ≡ true → q ≡ true) → (q ≡ true → p ≡ true) → p ≡ q
-same_test true true f g = refl
-same_test true false f g = sym (f refl)
-same_test false true f g = g refl
-same_test false false f g = refl
 
 -- whichever stands first
 pub same_swap : (v w : Value) → same v w ≡ same w v

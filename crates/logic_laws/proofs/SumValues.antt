@@ -80,7 +80,7 @@ module _ (vars : List Kind) (defs : List Def) (frees : List Value) (calls : Call
       let q : x +ℤ c ≡ int_of h.0 = ap (λ y. y +ℤ c) h.4 ∙ Z.one_part k (int_of h.0) h.1 c ((Decides-int_eq k (pos 1)).0 p.0) ((Decides-int_eq c (pos 0)).0 p.1) h.3 in
       subst (Gives frees calls t b) (w.1 ∙ ap whole (sym (ap int_of w.1)) ∙ ap whole (sym q)) h.2
 
-  sum_gives : (ps : Parts) (c : ℤ) (bs : List Kind) (b : List Value) (x : ℤ) → are_ints vars defs bs ps ≡ true → are_of bs b ≡ true → GivesSum frees calls ps b x → Gives frees calls (sum_term ps c) b (whole (x +ℤ c))
+  pub sum_gives : (ps : Parts) (c : ℤ) (bs : List Kind) (b : List Value) (x : ℤ) → are_ints vars defs bs ps ≡ true → are_of bs b ≡ true → GivesSum frees calls ps b x → Gives frees calls (sum_term ps c) b (whole (x +ℤ c))
   sum_gives no_parts c bs b x i f h = ap (λ y. whole (y +ℤ c)) h ∙ ap whole (Z.zero_plus c)
   sum_gives (part k t no_parts) c bs b x i f h = cond_has (λ u. Gives frees calls u b (whole (x +ℤ c))) (int_eq k (pos 1) && int_eq c (pos 0)) t (linear (part k t no_parts) c) (lone_part_gives k t c bs b x (first_int vars defs k t no_parts bs i).0 f h) (λ _. (x, h, refl))
   sum_gives (part k t (part j u ps)) c bs b x i f h = (x, h, refl)

@@ -6,6 +6,7 @@ use Rattle.logic_core.specs.Value.{Value, are_of}
 use Rattle.logic_core.specs.Sorts.{sort_of}
 use Rattle.logic_core.specs.Junction.{negated}
 use Rattle.logic_core.specs.Normal.{normal}
+use Rattle.logic_core.specs.Tighten.{tighten}
 use Rattle.logic_laws.specs.Assignment.{IsAssignment, HaveOneValue, HoldsThere}
 
 -- a well-sorted term and its normal form have one value
@@ -22,3 +23,11 @@ NormalKeepsTruth = (vars : List Kind) (defs : List Def) (frees : List Value) (bo
 abbrev pub NegatedIsNot : Type 0
 NegatedIsNot = (vars : List Kind) (defs : List Def) (frees : List Value) (bound : List Kind) (b : List Value) (t u : Tree)
     → IsAssignment vars defs frees → IsTrue (are_of bound b) → sort_of vars defs bound t ≡ Some boolean → negated t ≡ Some u → HaveOneValue frees defs (negation t) u b
+
+-- a tightened formula is one, of the same value
+abbrev pub TighteningKeepsSorts : Type 0
+TighteningKeepsSorts = (vars : List Kind) (defs : List Def) (bound : List Kind) (t : Tree) → sort_of vars defs bound t ≡ Some boolean → sort_of vars defs bound (tighten t) ≡ Some boolean
+
+abbrev pub TighteningKeepsValues : Type 0
+TighteningKeepsValues = (vars : List Kind) (defs : List Def) (frees : List Value) (bound : List Kind) (b : List Value) (t : Tree)
+    → IsAssignment vars defs frees → IsTrue (are_of bound b) → sort_of vars defs bound t ≡ Some boolean → HaveOneValue frees defs t (tighten t) b
