@@ -1,11 +1,11 @@
 -- The laws in an assignment over well-sorted definitions, for everything that can be shown by contradiction.
-use Rattle.std.proofs.Common.{◌≡◌, ◌∙◌, ◌↔◌, refl, sym, ap, subst, ℕ, Bool, true, false, not, Option, Some, IsTrue, List, [], ◌∷◌, ◌++◌, reverse, slice_get, append-nil}
+use Rattle.std.proofs.Common.{◌≡◌, ◌∙◌, ◌↔◌, refl, sym, subst, ℕ, true, false, Some, IsTrue, List, [], ◌++◌, reverse, slice_get, append-nil}
 use Rattle.logic_core.specs.Tree.{Kind, boolean, Tree, call, negation, for_all, exists, Trees, no_trees, Patterns}
 use Rattle.logic_core.specs.Def.{Def}
-use Rattle.logic_core.specs.Value.{Value, flag, holds, is_of, are_of}
-use Rattle.logic_core.specs.Meaning.{With, WithEach, Holds}
+use Rattle.logic_core.specs.Value.{Value, holds, is_of, are_of}
+use Rattle.logic_core.specs.Meaning.{With}
 use Rattle.logic_core.specs.Valid.{calls_of}
-use Rattle.logic_core.specs.Sorts.{sort_of, are, bodies_sorted}
+use Rattle.logic_core.specs.Sorts.{sort_of, are}
 use Rattle.logic_core.specs.Subterm.{replaced, listed}
 use Rattle.logic_core.specs.Substitute.{substitute}
 use Rattle.logic_core.specs.Junction.{negated}
@@ -24,7 +24,7 @@ use Rattle.logic_laws.proofs.Tables.{are_of_append}
 use Rattle.logic_laws.proofs.SortFrame.{within_more}
 use Rattle.logic_laws.proofs.Bodies.{body_sort, bodies_over}
 use Rattle.logic_laws.proofs.ValueSorts.{give_sorts}
-use Rattle.logic_laws.proofs.ValueFrame.{Agree, agree_itself, agree_none, agree_more, same_over}
+use Rattle.logic_laws.proofs.ValueFrame.{agree_itself, agree_none, agree_more, same_over}
 use Rattle.logic_laws.proofs.ReplacedValues.{same_replaced}
 use Rattle.logic_laws.proofs.SubstitutedValues.{same_substituted}
 use Rattle.logic_laws.proofs.Tightened.{tighten_gives}
@@ -55,11 +55,12 @@ witness_exists frees defs ss ps body h k = let e : false ≡ true = h.1 (λ some
 pub same_from_one_value : (frees : List Value) (defs : List Def) (t u : Tree) (b : List Value) → HaveOneValue frees defs t u b → Same (With frees (calls_of frees defs) t b) (With frees (calls_of frees defs) u b)
 same_from_one_value frees defs t u b e P s =
     let both : ((v : Value) → Gives frees (calls_of frees defs) t b v → Gives frees (calls_of frees defs) u b v → ⊥) → ⊥
-        = λ k. gives frees (calls_of frees defs) (has_defined frees defs) (keeps_defined frees defs) t b (λ v gt. gives frees (calls_of frees defs) (has_defined frees defs) (keeps_defined frees defs) u b (λ w gu.
-            let q : w ≡ v = (said frees (calls_of frees defs) (has_defined frees defs) (keeps_defined frees defs) u b w gu (λ x. x ≡ v) (λ x. value_stable x v)).0 ((e v).0 ((said frees (calls_of frees defs) (has_defined frees defs) (keeps_defined frees defs) t b v gt (λ x. x ≡ v) (λ x. value_stable x v)).1 refl)) in
-            k v gt (subst (Gives frees (calls_of frees defs) u b) q gu))) in
-    ((λ h. keeps frees (calls_of frees defs) (keeps_defined frees defs) u b P s (λ n. both (λ v gt gu. n ((said frees (calls_of frees defs) (has_defined frees defs) (keeps_defined frees defs) u b v gu P s).1 ((said frees (calls_of frees defs) (has_defined frees defs) (keeps_defined frees defs) t b v gt P s).0 h))))),
-     (λ h. keeps frees (calls_of frees defs) (keeps_defined frees defs) t b P s (λ n. both (λ v gt gu. n ((said frees (calls_of frees defs) (has_defined frees defs) (keeps_defined frees defs) t b v gt P s).1 ((said frees (calls_of frees defs) (has_defined frees defs) (keeps_defined frees defs) u b v gu P s).0 h))))))
+    = λ k. gives frees (calls_of frees defs) (has_defined frees defs) (keeps_defined frees defs) t b (λ v gt. gives frees (calls_of frees defs) (has_defined frees defs) (keeps_defined frees defs) u b (λ w gu.
+    let q : w ≡ v = (said frees (calls_of frees defs) (has_defined frees defs) (keeps_defined frees defs) u b w gu (λ x. x ≡ v) (λ x. value_stable x v)).0 ((e v).0 ((said frees (calls_of frees defs) (has_defined frees defs) (keeps_defined frees defs) t b v gt (λ x. x ≡ v) (λ x. value_stable x v)).1 refl)) in
+    k v gt (subst (Gives frees (calls_of frees defs) u b) q gu))) in (
+      (λ h. keeps frees (calls_of frees defs) (keeps_defined frees defs) u b P s (λ n. both (λ v gt gu. n ((said frees (calls_of frees defs) (has_defined frees defs) (keeps_defined frees defs) u b v gu P s).1 ((said frees (calls_of frees defs) (has_defined frees defs) (keeps_defined frees defs) t b v gt P s).0 h))))),
+      (λ h. keeps frees (calls_of frees defs) (keeps_defined frees defs) t b P s (λ n. both (λ v gt gu. n ((said frees (calls_of frees defs) (has_defined frees defs) (keeps_defined frees defs) t b v gt P s).1 ((said frees (calls_of frees defs) (has_defined frees defs) (keeps_defined frees defs) u b v gu P s).0 h))))),
+    )
 
 module _ (vars : List Kind) (defs : List Def) (frees : List Value) (a : IsAssignment vars defs frees) where
   -- the value of a well-sorted term is of its sort
@@ -97,9 +98,9 @@ module _ (vars : List Kind) (defs : List Def) (frees : List Value) (a : IsAssign
   pub same_call : (f : ℕ) (d : Def) (ts : Trees) → slice_get defs f ≡ Some d → are vars defs [] d.params ts ≡ true → Same (With frees (calls_of frees defs) (call f ts) []) (With frees (calls_of frees defs) (substitute d.body (listed ts)) [])
   same_call f d ts e s P st = (
     (λ h. keeps frees (calls_of frees defs) (keeps_defined frees defs) (substitute d.body (listed ts)) [] P st (λ none. gives_each frees (calls_of frees defs) (has_defined frees defs) (keeps_defined frees defs) ts [] (λ vs g.
-      none ((body vs g P st).0 ((same_unfolded frees vars defs a.0 f d e vs P st).0 ((said_each frees (calls_of frees defs) (has_defined frees defs) (keeps_defined frees defs) ts [] vs g (λ ws. calls_of frees defs f ws P) (λ ws. keeps_defined frees defs f ws P st)).0 h)))))),
+        none ((body vs g P st).0 ((same_unfolded frees vars defs a.0 f d e vs P st).0 ((said_each frees (calls_of frees defs) (has_defined frees defs) (keeps_defined frees defs) ts [] vs g (λ ws. calls_of frees defs f ws P) (λ ws. keeps_defined frees defs f ws P st)).0 h)))))),
     (λ h. keeps_each frees (calls_of frees defs) (keeps_defined frees defs) ts [] (λ ws. calls_of frees defs f ws P) (λ ws. keeps_defined frees defs f ws P st) (λ none. gives_each frees (calls_of frees defs) (has_defined frees defs) (keeps_defined frees defs) ts [] (λ vs g.
-      none ((said_each frees (calls_of frees defs) (has_defined frees defs) (keeps_defined frees defs) ts [] vs g (λ ws. calls_of frees defs f ws P) (λ ws. keeps_defined frees defs f ws P st)).1 ((same_unfolded frees vars defs a.0 f d e vs P st).1 ((body vs g P st).1 h)))))),
+        none ((said_each frees (calls_of frees defs) (has_defined frees defs) (keeps_defined frees defs) ts [] vs g (λ ws. calls_of frees defs f ws P) (λ ws. keeps_defined frees defs f ws P st)).1 ((same_unfolded frees vars defs a.0 f d e vs P st).1 ((body vs g P st).1 h)))))),
   )
     where
       body : (vs : List Value) → GivesEach frees (calls_of frees defs) ts [] vs → Same (With frees (calls_of frees defs) d.body (reverse vs)) (With frees (calls_of frees defs) (substitute d.body (listed ts)) [])
@@ -112,7 +113,7 @@ module _ (vars : List Kind) (defs : List Def) (frees : List Value) (a : IsAssign
   pub instance_holds : (ss : List Kind) (ps : Patterns) (body : Tree) (ts : Trees) → sort_of vars defs (reverse ss) body ≡ Some boolean → are vars defs [] ss ts ≡ true → HoldsThere frees defs (for_all ss ps body) [] → HoldsThere frees defs (substitute body (listed ts)) []
   instance_holds ss ps body ts s f h = holds_stable (substitute body (listed ts)) [] (λ none. gives_each frees (calls_of frees defs) (has_defined frees defs) (keeps_defined frees defs) ts [] (λ vs g.
       let e : false ≡ true = h.1 (λ every. none ((same_substituted vars defs frees (calls_of frees defs) (has_defined frees defs) (keeps_defined frees defs) ss ts vs body boolean f s g (λ v. IsTrue (holds v)) (λ v. true_stable (holds v))).0
-        (subst (λ b. HoldsThere frees defs body b) (append-nil (reverse vs)) (every vs (give_sorts vars defs frees (calls_of frees defs) (has_defined frees defs) a.1 (defined_sorts vars frees a.1 defs a.0) ts [] [] ss vs f refl g))))) in cc))
+      (subst (λ b. HoldsThere frees defs body b) (append-nil (reverse vs)) (every vs (give_sorts vars defs frees (calls_of frees defs) (has_defined frees defs) a.1 (defined_sorts vars frees a.1 defs a.0) ts [] [] ss vs f refl g))))) in cc))
 
   -- more variables, and values for them
   pub assignment_more : (ks : List Kind) (vs : List Value) → are_of ks vs ≡ true → IsAssignment (vars ++ ks) defs (frees ++ vs)

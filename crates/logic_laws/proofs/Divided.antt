@@ -1,9 +1,9 @@
 -- The greatest common divisor of the coefficients of a sum divides each of them, and division rounds down.
-use Rattle.std.proofs.Common.{◌≡◌, ◌∙◌, refl, sym, ap, subst, ℕ, zero, suc, ◌+◌, ◌-◌, ◌*◌, ◌/◌, ◌%◌, ◌<◌, ◌≤◌, nat_eq, eqb-true, ℤ, pos, negsuc, ◌+ℤ◌, ◌-ℤ◌, ◌*ℤ◌, neg_ℤ, unsigned_abs, int_le, int_eq, Bool, true, false, cond, arith, mod-lt, mul_comm, mul_assoc, mul-add}
+use Rattle.std.proofs.Common.{◌≡◌, ◌∙◌, refl, sym, ap, subst, ℕ, zero, suc, ◌+◌, ◌-◌, ◌*◌, ◌/◌, ◌%◌, ◌<◌, nat_eq, eqb-true, ℤ, pos, negsuc, ◌+ℤ◌, ◌*ℤ◌, neg_ℤ, unsigned_abs, int_le, int_eq, Bool, true, false, cond, arith, mul_assoc, mul-add}
 use Rattle.std.proofs.lemmas.Int.{ints}
 use Rattle.std.proofs.lemmas.Bool.Decides.{Decides-int_eq}
-use Rattle.logic_core.specs.Tree.{Tree, Parts, no_parts, part}
-use Rattle.logic_core.specs.Tighten.{gcd_within, gcd, parts_gcd, floor_div, divided}
+use Rattle.logic_core.specs.Tree.{Parts, no_parts, part}
+use Rattle.logic_core.specs.Tighten.{gcd_within, gcd, parts_gcd, floor_div}
 use Rattle.logic_laws.proofs.Options.{cond_has}
 use Rattle.logic_laws.proofs.Integers.{times_plus, times_minus, plus_zero, same_test}
 
@@ -22,8 +22,10 @@ divides_through d e n p q = (p.0 * q.0, q.1 ∙ ap (λ x. x * q.0) p.1 ∙ mul_a
 
 -- from b and the remainder to a
 divides_back : (d a b : ℕ) → (b ≡ 0 → ⊥) → Divides d b → Divides d (a % b) → Divides d a
-divides_back d a b ne p q = (p.0 * (a / b) + q.0,
-    (let e : a ≡ b * (a / b) + a % b = omega arith in e) ∙ ap (λ x. b * (a / b) + x) q.1 ∙ ap (λ x. x * (a / b) + d * q.0) p.1 ∙ ap (λ x. x + d * q.0) (mul_assoc d p.0 (a / b)) ∙ sym (mul-add d (p.0 * (a / b)) q.0))
+divides_back d a b ne p q = (
+  p.0 * (a / b) + q.0,
+  (let e : a ≡ b * (a / b) + a % b = omega arith in e) ∙ ap (λ x. b * (a / b) + x) q.1 ∙ ap (λ x. x * (a / b) + d * q.0) p.1 ∙ ap (λ x. x + d * q.0) (mul_assoc d p.0 (a / b)) ∙ sym (mul-add d (p.0 * (a / b)) q.0),
+)
 
 gcd_by : (c : Bool) (turns a b : ℕ) → nat_eq b 0 ≡ c → b < suc turns → (((b ≡ 0 → ⊥) → Divides (gcd_within turns b (a % b)) b × Divides (gcd_within turns b (a % b)) (a % b))) → Divides (cond (nat_eq b 0) a (gcd_within turns b (a % b))) a × Divides (cond (nat_eq b 0) a (gcd_within turns b (a % b))) b
 gcd_by c turns a b e h f = cond_has (λ d. Divides d a × Divides d b) (nat_eq b 0) a (gcd_within turns b (a % b))

@@ -1,5 +1,5 @@
 -- The test of values is equality, and equations of values can be shown by contradiction.
-use Rattle.std.proofs.Common.{◌≡◌, refl, sym, ap, subst, ℤ, Bool, true, false, ◌&&◌, int_eq, ◌∙◌}
+use Rattle.std.proofs.Common.{◌≡◌, refl, sym, ap, subst, Bool, true, false, ◌&&◌, int_eq}
 use Rattle.std.proofs.lemmas.Bool.Decides.{Decides-int_eq}
 use Rattle.logic_core.specs.Value.{Value, whole, flag, table, Entries, no_entries, entry, bool_eq, same, same_entries}
 use Rattle.logic_core.proofs.Kept.{Stable}

@@ -1,7 +1,6 @@
 -- Tightening keeps sorts and values.
-use Rattle.std.proofs.Common.{◌≡◌, ◌∙◌, refl, sym, ap, subst, ℕ, ◌<◌, ◌%◌, nat_lt, nat_eq, eqb-true, false-eqb, ltb-true, ℤ, pos, negsuc, ◌+ℤ◌, ◌*ℤ◌, unsigned_abs, int_le, int_eq, Bool, true, false, ◌&&◌, not, cond, if◌then◌else◌, Option, Some, List, arith}
-use Rattle.std.proofs.lemmas.Int.{ints}
-use Rattle.logic_core.specs.Tree.{Kind, int, boolean, map, Tree, num, truth, free, bound, linear, mul, read, write, choose, call, negation, all, some, equal, at_most, for_all, exists, Parts, no_parts, part}
+use Rattle.std.proofs.Common.{◌≡◌, ◌∙◌, refl, sym, ap, subst, ℕ, ◌<◌, ◌%◌, nat_lt, nat_eq, eqb-true, false-eqb, ltb-true, ℤ, pos, ◌+ℤ◌, ◌*ℤ◌, unsigned_abs, int_le, int_eq, Bool, true, false, not, if◌then◌else◌, Some, List, arith}
+use Rattle.logic_core.specs.Tree.{Kind, int, boolean, Tree, num, truth, linear, negation, equal, at_most, Parts, no_parts, part}
 use Rattle.logic_core.specs.Def.{Def}
 use Rattle.logic_core.specs.Value.{Value, whole, flag, int_of, holds, same, are_of}
 use Rattle.logic_core.specs.Valid.{Calls}
@@ -19,7 +18,7 @@ use Rattle.logic_laws.proofs.Gives.{Gives, GivesSum}
 use Rattle.logic_laws.proofs.ValueSorts.{CallsHaveSorts}
 use Rattle.logic_laws.proofs.SumValues.{sum_gives}
 use Rattle.logic_laws.proofs.FormulaValues.{zero_found}
-use Rattle.logic_laws.proofs.Divided.{DividesInt, DividesParts, parts_divided, exact, at_least_zero_divided, zero_divided, never_zero, divides_without_remainder}
+use Rattle.logic_laws.proofs.Divided.{DividesParts, parts_divided, exact, at_least_zero_divided, zero_divided, never_zero, divides_without_remainder}
 
 module _ (vars : List Kind) (defs : List Def) where
   divided_ints : (ps : Parts) (g : ℕ) (b : List Kind) → are_ints vars defs b ps ≡ true → are_ints vars defs b (divided g ps) ≡ true
@@ -43,7 +42,7 @@ module _ (vars : List Kind) (defs : List Def) where
   tight_equal_sort : (d : Tree) (b : List Kind) → sort_of vars defs b d ≡ Some int → sort_of vars defs b (tight_equal d) ≡ Some boolean
   tight_equal_sort (linear ps c) b s = cond_has (λ x. sort_of vars defs b x ≡ Some boolean) (nat_lt 1 (parts_gcd ps)) (if nat_eq (unsigned_abs c % parts_gcd ps) 0 then equal (tight_sum (parts_gcd ps) ps c) (num (pos 0)) else truth false) (equal (linear ps c) (num (pos 0)))
       (λ _. cond_has (λ x. sort_of vars defs b x ≡ Some boolean) (nat_eq (unsigned_abs c % parts_gcd ps) 0) (equal (tight_sum (parts_gcd ps) ps c) (num (pos 0))) (truth false)
-        (λ _. at_zero_sort (tight_sum (parts_gcd ps) ps c) b (tight_sum_sort (parts_gcd ps) ps c b s)) (λ _. refl)) (λ _. at_zero_sort (linear ps c) b s)
+      (λ _. at_zero_sort (tight_sum (parts_gcd ps) ps c) b (tight_sum_sort (parts_gcd ps) ps c b s)) (λ _. refl)) (λ _. at_zero_sort (linear ps c) b s)
   tight_equal_sort d b s = at_zero_sort d b s
 
   tight_not_sort : (t : Tree) (b : List Kind) → sort_of vars defs b t ≡ Some boolean → sort_of vars defs b (tight_not t) ≡ Some boolean
@@ -82,23 +81,27 @@ module _ (vars : List Kind) (defs : List Def) where
     tight_at_most_gives : (d : Tree) (bs : List Kind) (b : List Value) (v : Value) → sort_of vars defs bs d ≡ Some int → are_of bs b ≡ true → Gives frees calls d b v → Gives frees calls (tight_at_most d) b (flag (int_le (pos 0) (int_of v)))
     tight_at_most_gives (linear ps c) bs b v s f g = cond_has (λ x. Gives frees calls x b (flag (int_le (pos 0) (int_of v)))) (nat_lt 1 (parts_gcd ps)) (at_most (num (pos 0)) (tight_sum (parts_gcd ps) ps c)) (at_most (num (pos 0)) (linear ps c))
         (λ e. let l : 0 < parts_gcd ps = (let q = ltb-true 1 (parts_gcd ps) e in omega arith) in
-          let r = divided_gives ps (parts_gcd ps) b g.0 l (parts_divided ps) g.1 in
-          subst (Gives frees calls (at_most (num (pos 0)) (tight_sum (parts_gcd ps) ps c)) b)
-          (ap flag (sym (at_least_zero_divided (parts_gcd ps) r.0 c l)) ∙ ap (λ x. flag (int_le (pos 0) (x +ℤ c))) (sym r.2) ∙ ap (λ x. flag (int_le (pos 0) (int_of x))) (sym g.2))
-          (zero_below (tight_sum (parts_gcd ps) ps c) b (r.0 +ℤ floor_div c (parts_gcd ps)) (tight_sum_gives ps c bs b r.0 s f r.1)))
+        let r = divided_gives ps (parts_gcd ps) b g.0 l (parts_divided ps) g.1 in
+        subst (Gives frees calls (at_most (num (pos 0)) (tight_sum (parts_gcd ps) ps c)) b)
+        (ap flag (sym (at_least_zero_divided (parts_gcd ps) r.0 c l)) ∙ ap (λ x. flag (int_le (pos 0) (x +ℤ c))) (sym r.2) ∙ ap (λ x. flag (int_le (pos 0) (int_of x))) (sym g.2))
+        (zero_below (tight_sum (parts_gcd ps) ps c) b (r.0 +ℤ floor_div c (parts_gcd ps)) (tight_sum_gives ps c bs b r.0 s f r.1)))
         (λ _. (whole (pos 0), v, refl, g, refl))
     tight_at_most_gives d bs b v s f g = (whole (pos 0), v, refl, g, refl)
 
     tight_equal_gives : (d : Tree) (bs : List Kind) (b : List Value) (v : Value) → sort_of vars defs bs d ≡ Some int → are_of bs b ≡ true → Gives frees calls d b v → Gives frees calls (tight_equal d) b (flag (same v (whole (pos 0))))
     tight_equal_gives (linear ps c) bs b v s f g = cond_has (λ x. Gives frees calls x b (flag (same v (whole (pos 0))))) (nat_lt 1 (parts_gcd ps)) (if nat_eq (unsigned_abs c % parts_gcd ps) 0 then equal (tight_sum (parts_gcd ps) ps c) (num (pos 0)) else truth false) (equal (linear ps c) (num (pos 0)))
         (λ e. let l : 0 < parts_gcd ps = (let q = ltb-true 1 (parts_gcd ps) e in omega arith) in
-          let r = divided_gives ps (parts_gcd ps) b g.0 l (parts_divided ps) g.1 in
-          cond_has (λ x. Gives frees calls x b (flag (same v (whole (pos 0))))) (nat_eq (unsigned_abs c % parts_gcd ps) 0) (equal (tight_sum (parts_gcd ps) ps c) (num (pos 0))) (truth false)
-          (λ z. let q = exact c (parts_gcd ps) l (divides_without_remainder (parts_gcd ps) c l (eqb-true (unsigned_abs c % parts_gcd ps) 0 z)) in
-            (whole (r.0 +ℤ floor_div c (parts_gcd ps)), whole (pos 0), tight_sum_gives ps c bs b r.0 s f r.1, refl,
-              ap (λ x. flag (same x (whole (pos 0)))) g.2 ∙ ap (λ x. flag (int_eq (x +ℤ c) (pos 0))) r.2 ∙ ap (λ x. flag (int_eq ((pos (parts_gcd ps) *ℤ r.0) +ℤ x) (pos 0))) q
-              ∙ ap (λ x. flag (int_eq x (pos 0))) (sym (Z.times_plus (pos (parts_gcd ps)) r.0 (floor_div c (parts_gcd ps)))) ∙ ap flag (zero_divided (parts_gcd ps) (r.0 +ℤ floor_div c (parts_gcd ps)) l)))
-          (λ z. ap (λ x. flag (same x (whole (pos 0)))) g.2 ∙ ap (λ x. flag (int_eq (x +ℤ c) (pos 0))) r.2 ∙ ap flag (never_zero (parts_gcd ps) r.0 c l (false-eqb (unsigned_abs c % parts_gcd ps) 0 (sym z)))))
+        let r = divided_gives ps (parts_gcd ps) b g.0 l (parts_divided ps) g.1 in
+        cond_has (λ x. Gives frees calls x b (flag (same v (whole (pos 0))))) (nat_eq (unsigned_abs c % parts_gcd ps) 0) (equal (tight_sum (parts_gcd ps) ps c) (num (pos 0))) (truth false)
+        (λ z. let q = exact c (parts_gcd ps) l (divides_without_remainder (parts_gcd ps) c l (eqb-true (unsigned_abs c % parts_gcd ps) 0 z)) in (
+          whole (r.0 +ℤ floor_div c (parts_gcd ps)),
+          whole (pos 0),
+          tight_sum_gives ps c bs b r.0 s f r.1,
+          refl,
+          ap (λ x. flag (same x (whole (pos 0)))) g.2 ∙ ap (λ x. flag (int_eq (x +ℤ c) (pos 0))) r.2 ∙ ap (λ x. flag (int_eq ((pos (parts_gcd ps) *ℤ r.0) +ℤ x) (pos 0))) q
+              ∙ ap (λ x. flag (int_eq x (pos 0))) (sym (Z.times_plus (pos (parts_gcd ps)) r.0 (floor_div c (parts_gcd ps)))) ∙ ap flag (zero_divided (parts_gcd ps) (r.0 +ℤ floor_div c (parts_gcd ps)) l),
+        ))
+        (λ z. ap (λ x. flag (same x (whole (pos 0)))) g.2 ∙ ap (λ x. flag (int_eq (x +ℤ c) (pos 0))) r.2 ∙ ap flag (never_zero (parts_gcd ps) r.0 c l (false-eqb (unsigned_abs c % parts_gcd ps) 0 (sym z)))))
         (λ _. (v, whole (pos 0), g, refl, refl))
     tight_equal_gives d bs b v s f g = (v, whole (pos 0), g, refl, refl)
 
@@ -112,7 +115,7 @@ module _ (vars : List Kind) (defs : List Def) where
     tighten_not_gives : (t : Tree) (bs : List Kind) (b : List Value) (v : Value) → sort_of vars defs bs t ≡ Some boolean → are_of bs b ≡ true → Gives frees calls t b v → Gives frees calls (tighten_not t) b (flag (not (holds v)))
     tighten_not_gives (equal d z) bs b v s f g = cond_has (λ x. Gives frees calls x b (flag (not (holds v)))) (is_zero z) (tight_not (tight_equal d)) (negation (equal d z))
         (λ h. subst (Gives frees calls (tight_not (tight_equal d)) b) (ap (λ x. flag (not (same g.0 x))) (sym (beside_zero z b g.1 h g.3)) ∙ ap (λ x. flag (not (holds x))) (sym g.4))
-          (tight_not_gives (tight_equal d) b (same g.0 (whole (pos 0))) (tight_equal_gives d bs b g.0 (beside_zero_sort d z bs h s) f g.2)))
+        (tight_not_gives (tight_equal d) b (same g.0 (whole (pos 0))) (tight_equal_gives d bs b g.0 (beside_zero_sort d z bs h s) f g.2)))
         (λ _. (v, g, refl))
     tighten_not_gives t bs b v s f g = (v, g, refl)
 

@@ -1,12 +1,12 @@
 -- Reading a table after a write, and tables that read the same.
-use Rattle.std.proofs.Common.{◌≡◌, ◌∙◌, refl, sym, ap, subst, ℤ, pos, negsuc, ◌+ℤ◌, int_lt, int_eq, int_cmp, Bool, true, false, ◌&&◌, not, cond, arith, ◌⊎◌, inl, inr, is_eq, Less, Equal, Greater}
+use Rattle.std.proofs.Common.{◌≡◌, ◌∙◌, refl, sym, ap, subst, ℤ, pos, negsuc, ◌+ℤ◌, int_lt, int_eq, Bool, true, false, not, cond, arith, ◌⊎◌, inl, inr}
 use Rattle.std.proofs.lemmas.Bool.Decides.{Decides-int_eq}
 use Rattle.std.proofs.lemmas.Int.{ints}
 use Rattle.logic_core.specs.Tree.{Kind, map}
 use Rattle.logic_core.specs.Value.{Value, whole, flag, table, Entries, no_entries, entry, same, look_in, look, kept, put_in, put, above, is_of, are_entries}
 use Rattle.logic_laws.proofs.Options.{both_true, cond_has}
 use Rattle.logic_laws.proofs.SameValue.{same_equal, equal_same}
-use Rattle.logic_laws.proofs.Tables.{parts_of_entry, less_less, above_less, above_other}
+use Rattle.logic_laws.proofs.Tables.{parts_of_entry, above_less, above_other}
 
 cond_true : {A : Type 0} (c : Bool) (x y : A) → c ≡ true → cond c x y ≡ x
 cond_true true x y e = refl
@@ -46,7 +46,7 @@ look_in_put k d (entry j w es) i x g = let p = parts_of_entry k d j w es g in
     cond_has (λ fs. look_in d fs i ≡ x) (int_eq i j) (kept d i x es) (cond (int_lt i j) (kept d i x (entry j w es)) (entry j w (put_in d es i x)))
     (λ e. look_kept k d i x es (subst (λ l. above l es ≡ true) (sym (equal_index i j e)) p.2) p.3)
     (λ e. cond_has (λ fs. look_in d fs i ≡ x) (int_lt i j) (kept d i x (entry j w es)) (entry j w (put_in d es i x))
-      (λ l. look_kept k d i x (entry j w es) l g) (λ _. cond_false (int_eq i j) w (look_in d (put_in d es i x) i) e ∙ look_in_put k d es i x p.3))
+    (λ l. look_kept k d i x (entry j w es) l g) (λ _. cond_false (int_eq i j) w (look_in d (put_in d es i x) i) e ∙ look_in_put k d es i x p.3))
 
 cond_ap : {A : Type 0} (c : Bool) (x y z : A) → y ≡ z → cond c x y ≡ cond c x z
 cond_ap true x y z e = refl
@@ -58,7 +58,7 @@ look_in_put_other d (entry j w es) i x n o =
     cond_has (λ fs. look_in d fs n ≡ look_in d (entry j w es) n) (int_eq i j) (kept d i x es) (cond (int_lt i j) (kept d i x (entry j w es)) (entry j w (put_in d es i x)))
     (λ e. look_kept_other d i x es n o ∙ sym (cond_false (int_eq n j) w (look_in d es n) (subst (λ l. int_eq n l ≡ false) (equal_index i j e) o)))
     (λ e. cond_has (λ fs. look_in d fs n ≡ look_in d (entry j w es) n) (int_lt i j) (kept d i x (entry j w es)) (entry j w (put_in d es i x))
-      (λ _. look_kept_other d i x (entry j w es) n o) (λ _. cond_ap (int_eq n j) w (look_in d (put_in d es i x) n) (look_in d es n) (look_in_put_other d es i x n o)))
+    (λ _. look_kept_other d i x (entry j w es) n o) (λ _. cond_ap (int_eq n j) w (look_in d (put_in d es i x) n) (look_in d es n) (look_in_put_other d es i x n o)))
 
 -- at the index that was written
 pub look_put : (k : Kind) (m : Value) (i : ℤ) (x : Value) → is_of (map k) m ≡ true → look (put m i x) i ≡ x
@@ -119,14 +119,16 @@ entries_by_reads k d (entry i v es) (entry j w fs) g h e =
     let p = parts_of_entry k d i v es g in let q = parts_of_entry k d j w fs h in
     elim (same_index (int_eq i j) i j refl) [
       | inl o ↦
-        let values : v ≡ w = sym (cond_true (int_eq i i) v (look_in d es i) (itself i)) ∙ e i ∙ cond_true (int_eq i j) w (look_in d fs i) (subst (λ l. int_eq i l ≡ true) o (itself i)) in
-        let rest : es ≡ fs = entries_by_reads k d es fs p.3 q.3 (λ n. elim (same_index (int_eq n i) n i refl) [
-          | inl s ↦ look_below k d es n (subst (λ l. above l es ≡ true) (sym s) p.2) p.3 ∙ sym (look_below k d fs n (subst (λ l. above l fs ≡ true) (sym (s ∙ o)) q.2) q.3)
-          | inr s ↦ sym (cond_false (int_eq n i) v (look_in d es n) s) ∙ e n ∙ cond_false (int_eq n j) w (look_in d fs n) (subst (λ l. int_eq n l ≡ false) o s) ]) in
-        cc (o, values, rest)
+          let values : v ≡ w = sym (cond_true (int_eq i i) v (look_in d es i) (itself i)) ∙ e i ∙ cond_true (int_eq i j) w (look_in d fs i) (subst (λ l. int_eq i l ≡ true) o (itself i)) in
+          let rest : es ≡ fs = entries_by_reads k d es fs p.3 q.3 (λ n. elim (same_index (int_eq n i) n i refl) [
+            | inl s ↦ look_below k d es n (subst (λ l. above l es ≡ true) (sym s) p.2) p.3 ∙ sym (look_below k d fs n (subst (λ l. above l fs ≡ true) (sym (s ∙ o)) q.2) q.3)
+            | inr s ↦ sym (cond_false (int_eq n i) v (look_in d es n) s) ∙ e n ∙ cond_false (int_eq n j) w (look_in d fs n) (subst (λ l. int_eq n l ≡ false) o s)
+          ]) in
+          cc (o, values, rest)
       | inr o ↦ absurd (elim (order_of (int_lt i j) i j o refl) [
-          | inl l ↦ no_lower_entry k d i v es (entry j w fs) g h l (e i)
-          | inr l ↦ no_lower_entry k d j w fs (entry i v es) h g l (sym (e j)) ])
+        | inl l ↦ no_lower_entry k d i v es (entry j w fs) g h l (e i)
+        | inr l ↦ no_lower_entry k d j w fs (entry i v es) h g l (sym (e j))
+      ])
     ]
 
 tables_by_reads : (k : Kind) (d d' : Value) (es fs : Entries) → are_entries k d es ≡ true → are_entries k d' fs ≡ true → ((n : ℤ) → look_in d es n ≡ look_in d' fs n) → d ≡ d' → table d es ≡ table d' fs
