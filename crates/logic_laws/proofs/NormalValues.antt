@@ -147,7 +147,3 @@ module _ (vars : List Kind) (defs : List Def) (frees : List Value) (calls : Call
         let a = term_gives vars defs frees calls has_call keeps_call fits call_sorts p.0 k s o.0 b g.0 m (normal_gives t p.0 bs b int g.0 p.1 j.0 f g.2) h o.1 in
         let c = normal_sum_gives ps o.0 q bs b g.1 ((k *ℤ int_of g.0) +ℤ m) o.2 j.1 f g.3 a in
         (c.0, c.1, ap (λ x. x +ℤ m) g.4 ∙ Z.part_last (k *ℤ int_of g.0) g.1 m ∙ c.2)
-
-  -- a term and its normal form say the same
-  pub normal_same : (t u : Tree) (bs : List Kind) (b : List Value) (k : Kind) → normal vars defs bs t ≡ Some u → sort_of vars defs bs t ≡ Some k → are_of bs b ≡ true → Same (With frees calls t b) (With frees calls u b)
-  normal_same t u bs b k e s f = same_values frees calls has_call keeps_call frees calls has_call keeps_call t u b b (λ r g. normal_gives t u bs b k r e s f g)

@@ -54,7 +54,3 @@ stable_by v w false e n = absurd (n (λ p. let f = equal_same v w p in (cc)))
 
 pub value_stable : (v w : Value) → Stable (v ≡ w)
 value_stable v w = stable_by v w (same v w) refl
-
--- beside true or false the other truth value or its opposite
-pub same_true : (b : Bool) → same (flag true) (flag b) ≡ b
-same_true b = refl

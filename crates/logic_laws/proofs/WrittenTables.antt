@@ -25,9 +25,6 @@ equal_index i j e = (Decides-int_eq i j).0 e
 less_is_other : (i j : ℤ) → int_lt i j ≡ true → int_eq i j ≡ false
 less_is_other i j h = grind (arith, ints)
 
-swapped : (i j : ℤ) → int_eq i j ≡ false → int_eq j i ≡ false
-swapped i j e = grind (arith, ints)
-
 -- below all entries stands the default
 look_below : (k : Kind) (d : Value) (es : Entries) (i : ℤ) → above i es ≡ true → are_entries k d es ≡ true → look_in d es i ≡ d
 look_below k d no_entries i a g = refl

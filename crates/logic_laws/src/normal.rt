@@ -1,7 +1,7 @@
 // The normal form keeps what a term means.
 ghost use Rattle.logic_laws.specs.NormalLaws.{NormalKeepsValues, NormalKeepsTruth, NegatedIsNot, TighteningKeepsSorts, TighteningKeepsValues};
 
-/// A well-sorted term and its normal form have one value.
+/// A well-sorted term and its normal form have the same value.
 pub fn normal_keeps_values()
     ensures { NormalKeepsValues }
 {}
@@ -21,7 +21,7 @@ pub fn tightening_keeps_sorts()
     ensures { TighteningKeepsSorts }
 {}
 
-/// A formula and its tightened form have one value.
+/// A formula and its tightened form have the same value.
 pub fn tightening_keeps_values()
     ensures { TighteningKeepsValues }
 {}
