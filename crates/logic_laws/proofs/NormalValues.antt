@@ -3,7 +3,7 @@ use Rattle.std.proofs.Common.{◌≡◌, ◌∙◌, refl, sym, ap, subst, ℕ, �
 use Rattle.logic_core.specs.Tree.{Kind, int, boolean, map, Tree, num, truth, free, bound, linear, mul, read, write, choose, call, negation, all, some, equal, at_most, for_all, exists, Trees, no_trees, tree, Parts, no_parts, part}
 use Rattle.logic_core.specs.Def.{Def}
 use Rattle.logic_core.specs.Value.{Value, int_of, holds, are_of}
-use Rattle.logic_core.specs.Meaning.{With, Holds}
+use Rattle.logic_core.specs.Meaning.{Holds}
 use Rattle.logic_core.specs.Valid.{Calls}
 use Rattle.logic_core.specs.Wide.{◌>>=◌}
 use Rattle.logic_core.specs.Sorts.{sort_of, are, are_formulas, are_ints}
@@ -12,7 +12,6 @@ use Rattle.logic_core.specs.Junction.{conjunction, disjunction, negated}
 use Rattle.logic_core.specs.Normal.{choice, equation, inequality, quantified, normal, normal_each, normal_sum, normal_patterns}
 use Rattle.logic_core.proofs.Values.{HasOne}
 use Rattle.logic_core.proofs.Kept.{Keeps, true_stable}
-use Rattle.logic_core.proofs.Replaced.{Same}
 use Rattle.logic_laws.proofs.Integers as Z
 use Rattle.logic_laws.proofs.Options.{some_has, bind_some, map_some, when_some}
 use Rattle.logic_laws.proofs.SumSorts.{first_int}
