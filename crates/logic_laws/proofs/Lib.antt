@@ -18,6 +18,7 @@ pub mod SortFrame
 pub mod ReplacedSorts
 pub mod SubstitutedSorts
 pub mod ValueFrame
+pub mod MentionedVariables
 pub mod Unfolding
 pub mod Paired
 pub mod SubstitutedValues
