@@ -1,5 +1,6 @@
 -- A normal form has the sort of its term.
-use Rattle.std.proofs.Common.{◌≡◌, ℕ, refl, sym, ap, subst, ℤ, pos, negsuc, Bool, true, false, ◌&&◌, not, cond, if◌then◌else◌, Option, Some, None, option_map, List, [], ◌∷◌, ◌++◌, reverse, slice_get}
+-- Here e is what the normal form is made of, s the sort of the term; p, q, o are the steps of the normal form, f and g the sorts of the parts.
+use Rattle.std.proofs.Common.{◌≡◌, ℕ, refl, sym, subst, Bool, true, ◌&&◌, Option, Some, None, option_map, List, [], ◌∷◌, ◌++◌, reverse, slice_get}
 use Rattle.logic_core.specs.Tree.{Kind, int, boolean, map, Tree, num, truth, free, bound, linear, mul, read, write, choose, call, negation, all, some, equal, at_most, for_all, exists, Trees, no_trees, tree, Parts, no_parts, part, Patterns, no_patterns, pattern}
 use Rattle.logic_core.specs.Def.{Def}
 use Rattle.logic_core.specs.Wide.{◌>>=◌, when}
@@ -11,7 +12,7 @@ use Rattle.logic_core.specs.Normal.{choice, equation, inequality, quantified, no
 use Rattle.logic_laws.proofs.Options.{both_true, all_true, some_has, bind_some, map_some, when_some, when_true}
 use Rattle.logic_laws.proofs.SortTests.{is_sort, sort_is}
 use Rattle.logic_laws.proofs.SumSorts.{first_int, sum_sort, term_ints, product_sort}
-use Rattle.logic_laws.proofs.FormulaSorts.{first_formula, one_more_formula, parts_of_all, conjunction_sort, disjunction_sort, part_of_negation, negated_sort, parts_of_at_most, inequality_sort, parts_of_equal, equation_sort, choice_sort, parts_of_quantifier, quantifier_sort, quantified_sort}
+use Rattle.logic_laws.proofs.FormulaSorts.{first_formula, one_more_formula, conjunction_sort, disjunction_sort, part_of_negation, negated_sort, parts_of_at_most, inequality_sort, parts_of_equal, equation_sort, choice_sort, parts_of_quantifier, quantifier_sort, quantified_sort}
 
 module _ (vars : List Kind) (defs : List Def) where
   pub parts_of_mul : (x y : Tree) (b : List Kind) (k : Kind) → sort_of vars defs b (mul x y) ≡ Some k → (sort_of vars defs b x ≡ Some int) × (sort_of vars defs b y ≡ Some int) × (int ≡ k)
@@ -21,7 +22,7 @@ module _ (vars : List Kind) (defs : List Def) where
       (is_sort int (sort_of vars defs b x) p.0, is_sort int (sort_of vars defs b y) p.1, w.1)
 
   -- a table's sort is the map's over the range
-  range_map : (s k : Kind) → range s ≡ Some k → s ≡ map k
+  pub range_map : (s k : Kind) → range s ≡ Some k → s ≡ map k
   range_map int k e = absurd (cc)
   range_map boolean k e = absurd (cc)
   range_map (map j) k e = cc
@@ -72,11 +73,11 @@ module _ (vars : List Kind) (defs : List Def) where
   first_of_sort k ks t ts b h = let p = both_true (is k (sort_of vars defs b t)) (are vars defs b ks ts) h in (is_sort k (sort_of vars defs b t) p.0, p.1)
 
   -- a term that has a sort
-  some_sort : (s : Option Kind) (f : Bool) → is_some_and s (λ _. f) ≡ true → (k : Kind) × (s ≡ Some k) × (f ≡ true)
+  pub some_sort : (s : Option Kind) (f : Bool) → is_some_and s (λ _. f) ≡ true → (k : Kind) × (s ≡ Some k) × (f ≡ true)
   some_sort None f h = absurd (cc)
   some_sort (Some k) f h = (k, refl, h)
 
-  sort_some : (s : Option Kind) (f : Bool) (k : Kind) → s ≡ Some k → f ≡ true → is_some_and s (λ _. f) ≡ true
+  pub sort_some : (s : Option Kind) (f : Bool) (k : Kind) → s ≡ Some k → f ≡ true → is_some_and s (λ _. f) ≡ true
   sort_some None f k e h = absurd (cc)
   sort_some (Some j) f k e h = h
 

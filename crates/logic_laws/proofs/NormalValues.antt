@@ -1,9 +1,10 @@
 -- A normal form has the value of its term.
-use Rattle.std.proofs.Common.{◌≡◌, ◌∙◌, refl, sym, ap, subst, ℕ, ℤ, pos, ◌+ℤ◌, ◌*ℤ◌, Bool, true, false, ◌&&◌, ◌||◌, not, Option, Some, None, option_map, IsTrue, List, [], ◌∷◌, ◌++◌, reverse, inl, inr}
-use Rattle.logic_core.specs.Tree.{Kind, int, boolean, map, Tree, num, truth, free, bound, linear, mul, read, write, choose, call, negation, all, some, equal, at_most, for_all, exists, Trees, no_trees, tree, Parts, no_parts, part, Patterns, no_patterns, pattern}
+-- Here e is what the normal form is made of, s the sort of the term, f that the values for the bound variables fit, g the values of the parts; p, q and o are the steps of the normal form, i the sorts of the parts.
+use Rattle.std.proofs.Common.{◌≡◌, ◌∙◌, refl, sym, ap, subst, ℕ, ℤ, ◌+ℤ◌, ◌*ℤ◌, Bool, true, Some, option_map, IsTrue, List, [], ◌∷◌, ◌++◌, reverse}
+use Rattle.logic_core.specs.Tree.{Kind, int, boolean, map, Tree, num, truth, free, bound, linear, mul, read, write, choose, call, negation, all, some, equal, at_most, for_all, exists, Trees, no_trees, tree, Parts, no_parts, part}
 use Rattle.logic_core.specs.Def.{Def}
-use Rattle.logic_core.specs.Value.{Value, whole, flag, int_of, holds, are_of}
-use Rattle.logic_core.specs.Meaning.{If, With, Holds}
+use Rattle.logic_core.specs.Value.{Value, int_of, holds, are_of}
+use Rattle.logic_core.specs.Meaning.{Holds}
 use Rattle.logic_core.specs.Valid.{Calls}
 use Rattle.logic_core.specs.Wide.{◌>>=◌}
 use Rattle.logic_core.specs.Sorts.{sort_of, are, are_formulas, are_ints}
@@ -12,30 +13,16 @@ use Rattle.logic_core.specs.Junction.{conjunction, disjunction, negated}
 use Rattle.logic_core.specs.Normal.{choice, equation, inequality, quantified, normal, normal_each, normal_sum, normal_patterns}
 use Rattle.logic_core.proofs.Values.{HasOne}
 use Rattle.logic_core.proofs.Kept.{Keeps, true_stable}
-use Rattle.logic_core.proofs.Replaced.{Same}
 use Rattle.logic_laws.proofs.Integers as Z
 use Rattle.logic_laws.proofs.Options.{some_has, bind_some, map_some, when_some}
-use Rattle.logic_laws.proofs.SumSorts.{first_int, term_ints}
-use Rattle.logic_laws.proofs.FormulaSorts.{first_formula, parts_of_all, part_of_negation, parts_of_at_most, parts_of_equal, parts_of_quantifier}
+use Rattle.logic_laws.proofs.SumSorts.{first_int}
+use Rattle.logic_laws.proofs.FormulaSorts.{first_formula, part_of_negation, parts_of_at_most, parts_of_equal, parts_of_quantifier}
 use Rattle.logic_laws.proofs.NormalSorts.{parts_of_mul, parts_of_read, parts_of_write, parts_of_choose, parts_of_call, first_of_sort, normal_sort, normal_formulas, normal_ints}
 use Rattle.logic_laws.proofs.Tables.{are_of_bound}
-use Rattle.logic_laws.proofs.Gives.{Decided, AllHold, NoneHolds, Gives, GivesEach, GivesEvery, GivesAny, GivesSum, same_values}
+use Rattle.logic_laws.proofs.Gives.{decided_every, decided_some, if_map, Gives, GivesEach, GivesEvery, GivesAny, GivesSum, same_values}
 use Rattle.logic_laws.proofs.ValueSorts.{CallsHaveSorts}
 use Rattle.logic_laws.proofs.SumValues.{GivesLinear, term_gives, linear_gives, constant_gives, product_gives}
 use Rattle.logic_laws.proofs.FormulaValues.{conjunction_gives, disjunction_gives, negated_gives, equation_gives, inequality_gives, choice_gives, for_all_gives, exists_gives}
-
-if_map : (c : Bool) (G H G' H' : Type 0) → (G → G') → (H → H') → If c G H → If c G' H'
-if_map true G H G' H' f k g = f g
-if_map false G H G' H' f k g = k g
-
-module _ (frees : List Value) (calls : Calls) where
-  pub all_hold_map : (ss : List Kind) (t u : Tree) (b : List Value) (r : Value) → ((vs : List Value) → are_of ss vs ≡ true → (Holds frees calls t (reverse vs ++ b) → Holds frees calls u (reverse vs ++ b)) × (Holds frees calls u (reverse vs ++ b) → Holds frees calls t (reverse vs ++ b))) → Decided (AllHold frees calls ss t b) r → Decided (AllHold frees calls ss u b) r
-  all_hold_map ss t u b r f (inl a) = inl ((λ vs h. (f vs h).0 (a.0 vs h)), a.1)
-  all_hold_map ss t u b r f (inr a) = inr ((λ k. a.0 (λ vs h. (f vs h).1 (k vs h))), a.1)
-
-  pub some_holds_map : (ss : List Kind) (t u : Tree) (b : List Value) (r : Value) → ((vs : List Value) → are_of ss vs ≡ true → (Holds frees calls t (reverse vs ++ b) → Holds frees calls u (reverse vs ++ b)) × (Holds frees calls u (reverse vs ++ b) → Holds frees calls t (reverse vs ++ b))) → Decided (¬ NoneHolds frees calls ss t b) r → Decided (¬ NoneHolds frees calls ss u b) r
-  some_holds_map ss t u b r f (inl a) = inl ((λ k. a.0 (λ vs h x. k vs h ((f vs h).0 x))), a.1)
-  some_holds_map ss t u b r f (inr a) = inr ((λ k. a.0 (λ n. k (λ vs h x. n vs h ((f vs h).1 x)))), a.1)
 
 module _ (vars : List Kind) (defs : List Def) (frees : List Value) (calls : Calls) (has_call : (f : ℕ) (vs : List Value) → HasOne (calls f vs)) (keeps_call : (f : ℕ) (vs : List Value) → Keeps (calls f vs)) (fits : are_of vars frees ≡ true) (call_sorts : CallsHaveSorts defs calls) where
   -- both hold alike where a value of the one is one of the other
@@ -56,13 +43,13 @@ module _ (vars : List Kind) (defs : List Def) (frees : List Value) (calls : Call
         let i = (when_some (are_ints vars defs bs ps) int k s).0 in
         subst (λ x. Gives frees calls x b r) p.2 (subst (Gives frees calls (term_of p.0) b) (sym g.2)
         (linear_gives vars defs frees calls has_call keeps_call fits call_sorts p.0 bs b (g.0 +ℤ c) (normal_ints vars defs ps (constant c) p.0 bs p.1 i refl) f
-          (normal_sum_gives ps (constant c) p.0 bs b g.0 c p.1 i f g.1 (constant_gives vars defs frees calls has_call keeps_call fits call_sorts c b))))
+        (normal_sum_gives ps (constant c) p.0 bs b g.0 c p.1 i f g.1 (constant_gives vars defs frees calls has_call keeps_call fits call_sorts c b))))
     normal_gives (mul x y) u bs b k r e s f g =
         let p = bind_some (normal vars defs bs x) (λ u. normal vars defs bs y >>= λ v. product u v) u e in
         let q = bind_some (normal vars defs bs y) (λ v. product p.0 v) u p.2 in
         let i = parts_of_mul vars defs x y bs k s in
         subst (Gives frees calls u b) (sym g.4) (product_gives vars defs frees calls has_call keeps_call fits call_sorts p.0 q.0 u bs b g.0 g.1 (normal_sort vars defs x p.0 bs int p.1 i.0) (normal_sort vars defs y q.0 bs int q.1 i.1) f
-          (normal_gives x p.0 bs b int g.0 p.1 i.0 f g.2) (normal_gives y q.0 bs b int g.1 q.1 i.1 f g.3) q.2)
+        (normal_gives x p.0 bs b int g.0 p.1 i.0 f g.2) (normal_gives y q.0 bs b int g.1 q.1 i.1 f g.3) q.2)
     normal_gives (read m j) u bs b k r e s f g =
         let p = bind_some (normal vars defs bs m) (λ u. normal vars defs bs j >>= λ v. Some (read u v)) u e in
         let q = bind_some (normal vars defs bs j) (λ v. Some (read p.0 v)) u p.2 in
@@ -81,7 +68,7 @@ module _ (vars : List Kind) (defs : List Def) (frees : List Value) (calls : Call
         let i = parts_of_choose vars defs c x y bs k s in
         some_has (λ x. Gives frees calls x b r) (choice p.0 q.0 o.0) u o.2
         (choice_gives vars defs frees calls has_call keeps_call fits call_sorts p.0 q.0 o.0 b g.0 r (normal_gives c p.0 bs b boolean g.0 p.1 i.0 f g.1)
-          (if_map (holds g.0) (Gives frees calls x b r) (Gives frees calls y b r) (Gives frees calls q.0 b r) (Gives frees calls o.0 b r) (normal_gives x q.0 bs b k r q.1 i.1 f) (normal_gives y o.0 bs b k r o.1 i.2 f) g.2))
+        (if_map (holds g.0) (Gives frees calls x b r) (Gives frees calls y b r) (Gives frees calls q.0 b r) (Gives frees calls o.0 b r) (normal_gives x q.0 bs b k r q.1 i.1 f) (normal_gives y o.0 bs b k r o.1 i.2 f) g.2))
     normal_gives (call n ts) u bs b k r e s f g =
         let p = map_some (λ us. call n us) (normal_each vars defs bs ts) u e in
         let i = parts_of_call vars defs n ts bs k s in
@@ -105,27 +92,27 @@ module _ (vars : List Kind) (defs : List Def) (frees : List Value) (calls : Call
         let q = bind_some (normal vars defs bs y) (λ v. equation (sort_of vars defs bs x) p.0 v) u p.2 in
         let i = parts_of_equal vars defs x y bs k s in
         subst (Gives frees calls u b) (sym g.4) (equation_gives vars defs frees calls has_call keeps_call fits call_sorts i.0 p.0 q.0 u bs b g.0 g.1
-          (normal_sort vars defs x p.0 bs i.0 p.1 i.1) (normal_sort vars defs y q.0 bs i.0 q.1 i.2) f (normal_gives x p.0 bs b i.0 g.0 p.1 i.1 f g.2) (normal_gives y q.0 bs b i.0 g.1 q.1 i.2 f g.3) (subst (λ j. equation j p.0 q.0 ≡ Some u) i.1 q.2))
+        (normal_sort vars defs x p.0 bs i.0 p.1 i.1) (normal_sort vars defs y q.0 bs i.0 q.1 i.2) f (normal_gives x p.0 bs b i.0 g.0 p.1 i.1 f g.2) (normal_gives y q.0 bs b i.0 g.1 q.1 i.2 f g.3) (subst (λ j. equation j p.0 q.0 ≡ Some u) i.1 q.2))
     normal_gives (at_most x y) u bs b k r e s f g =
         let p = bind_some (normal vars defs bs x) (λ u. normal vars defs bs y >>= λ v. inequality u v) u e in
         let q = bind_some (normal vars defs bs y) (λ v. inequality p.0 v) u p.2 in
         let i = parts_of_at_most vars defs x y bs k s in
         subst (Gives frees calls u b) (sym g.4) (inequality_gives vars defs frees calls has_call keeps_call fits call_sorts p.0 q.0 u bs b g.0 g.1
-          (normal_sort vars defs x p.0 bs int p.1 i.0) (normal_sort vars defs y q.0 bs int q.1 i.1) f (normal_gives x p.0 bs b int g.0 p.1 i.0 f g.2) (normal_gives y q.0 bs b int g.1 q.1 i.1 f g.3) q.2)
+        (normal_sort vars defs x p.0 bs int p.1 i.0) (normal_sort vars defs y q.0 bs int q.1 i.1) f (normal_gives x p.0 bs b int g.0 p.1 i.0 f g.2) (normal_gives y q.0 bs b int g.1 q.1 i.1 f g.3) q.2)
     normal_gives (for_all ss ps t) u bs b k r e s f g =
         let p = bind_some (normal_patterns vars defs (reverse ss ++ bs) ps) (λ qs. option_map (λ u. quantified (λ v. for_all ss qs v) u) (normal vars defs (reverse ss ++ bs) t)) u e in
         let q = map_some (λ u. quantified (λ v. for_all ss p.0 v) u) (normal vars defs (reverse ss ++ bs) t) u p.2 in
         let i = (parts_of_quantifier vars defs ss ps t bs k s).1 in
         subst (λ x. Gives frees calls x b r) q.2 (for_all_gives vars defs frees calls has_call keeps_call fits call_sorts q.0 ss p.0 b r
-        (all_hold_map frees calls ss t q.0 b r (λ vs h. holds_alike t q.0 (reverse vs ++ b) (λ v w. normal_gives t q.0 (reverse ss ++ bs) (reverse vs ++ b) boolean v q.1 i (are_of_bound ss bs vs b h f) w)) g))
+        (decided_every ss (λ vs. Holds frees calls t (reverse vs ++ b)) (λ vs. Holds frees calls q.0 (reverse vs ++ b)) r (λ vs h. holds_alike t q.0 (reverse vs ++ b) (λ v w. normal_gives t q.0 (reverse ss ++ bs) (reverse vs ++ b) boolean v q.1 i (are_of_bound ss bs vs b h f) w)) g))
     normal_gives (exists ss ps t) u bs b k r e s f g =
         let p = bind_some (normal_patterns vars defs (reverse ss ++ bs) ps) (λ qs. option_map (λ u. quantified (λ v. exists ss qs v) u) (normal vars defs (reverse ss ++ bs) t)) u e in
         let q = map_some (λ u. quantified (λ v. exists ss p.0 v) u) (normal vars defs (reverse ss ++ bs) t) u p.2 in
         let i = (parts_of_quantifier vars defs ss ps t bs k s).1 in
         subst (λ x. Gives frees calls x b r) q.2 (exists_gives vars defs frees calls has_call keeps_call fits call_sorts q.0 ss p.0 b r
-        (some_holds_map frees calls ss t q.0 b r (λ vs h. holds_alike t q.0 (reverse vs ++ b) (λ v w. normal_gives t q.0 (reverse ss ++ bs) (reverse vs ++ b) boolean v q.1 i (are_of_bound ss bs vs b h f) w)) g))
+        (decided_some ss (λ vs. Holds frees calls t (reverse vs ++ b)) (λ vs. Holds frees calls q.0 (reverse vs ++ b)) r (λ vs h. holds_alike t q.0 (reverse vs ++ b) (λ v w. normal_gives t q.0 (reverse ss ++ bs) (reverse vs ++ b) boolean v q.1 i (are_of_bound ss bs vs b h f) w)) g))
 
-    normal_gives_each : (ts us : Trees) (bs : List Kind) (b : List Value) (ks : List Kind) (vs : List Value) → normal_each vars defs bs ts ≡ Some us → are vars defs bs ks ts ≡ true → are_of bs b ≡ true → GivesEach frees calls ts b vs → GivesEach frees calls us b vs
+    pub normal_gives_each : (ts us : Trees) (bs : List Kind) (b : List Value) (ks : List Kind) (vs : List Value) → normal_each vars defs bs ts ≡ Some us → are vars defs bs ks ts ≡ true → are_of bs b ≡ true → GivesEach frees calls ts b vs → GivesEach frees calls us b vs
     normal_gives_each no_trees us bs b ks vs e s f g = some_has (λ x. GivesEach frees calls x b vs) no_trees us e g
     normal_gives_each (tree t ts) us bs b [] vs e s f g = absurd (cc)
     normal_gives_each (tree t ts) us bs b (k ∷ ks) vs e s f g =
@@ -134,7 +121,7 @@ module _ (vars : List Kind) (defs : List Def) (frees : List Value) (calls : Call
         let i = first_of_sort vars defs k ks t ts bs s in
         some_has (λ x. GivesEach frees calls x b vs) (tree p.0 q.0) us q.2 (g.0, g.1, normal_gives t p.0 bs b k g.0 p.1 i.0 f g.2, normal_gives_each ts q.0 bs b ks g.1 q.1 i.1 f g.3, g.4)
 
-    normal_gives_every : (ts us : Trees) (bs : List Kind) (b : List Value) (h : Bool) → normal_each vars defs bs ts ≡ Some us → are_formulas vars defs bs ts ≡ true → are_of bs b ≡ true → GivesEvery frees calls ts b h → GivesEvery frees calls us b h
+    pub normal_gives_every : (ts us : Trees) (bs : List Kind) (b : List Value) (h : Bool) → normal_each vars defs bs ts ≡ Some us → are_formulas vars defs bs ts ≡ true → are_of bs b ≡ true → GivesEvery frees calls ts b h → GivesEvery frees calls us b h
     normal_gives_every no_trees us bs b h e s f g = some_has (λ x. GivesEvery frees calls x b h) no_trees us e g
     normal_gives_every (tree t ts) us bs b h e s f g =
         let p = bind_some (normal vars defs bs t) (λ u. normal_each vars defs bs ts >>= λ us. Some (tree u us)) us e in
@@ -142,7 +129,7 @@ module _ (vars : List Kind) (defs : List Def) (frees : List Value) (calls : Call
         let i = first_formula vars defs t ts bs s in
         some_has (λ x. GivesEvery frees calls x b h) (tree p.0 q.0) us q.2 (g.0, g.1, normal_gives t p.0 bs b boolean g.0 p.1 i.0 f g.2, normal_gives_every ts q.0 bs b g.1 q.1 i.1 f g.3, g.4)
 
-    normal_gives_any : (ts us : Trees) (bs : List Kind) (b : List Value) (h : Bool) → normal_each vars defs bs ts ≡ Some us → are_formulas vars defs bs ts ≡ true → are_of bs b ≡ true → GivesAny frees calls ts b h → GivesAny frees calls us b h
+    pub normal_gives_any : (ts us : Trees) (bs : List Kind) (b : List Value) (h : Bool) → normal_each vars defs bs ts ≡ Some us → are_formulas vars defs bs ts ≡ true → are_of bs b ≡ true → GivesAny frees calls ts b h → GivesAny frees calls us b h
     normal_gives_any no_trees us bs b h e s f g = some_has (λ x. GivesAny frees calls x b h) no_trees us e g
     normal_gives_any (tree t ts) us bs b h e s f g =
         let p = bind_some (normal vars defs bs t) (λ u. normal_each vars defs bs ts >>= λ us. Some (tree u us)) us e in
@@ -151,7 +138,7 @@ module _ (vars : List Kind) (defs : List Def) (frees : List Value) (calls : Call
         some_has (λ x. GivesAny frees calls x b h) (tree p.0 q.0) us q.2 (g.0, g.1, normal_gives t p.0 bs b boolean g.0 p.1 i.0 f g.2, normal_gives_any ts q.0 bs b g.1 q.1 i.1 f g.3, g.4)
 
     -- the parts of a Sum join one that has the value m
-    normal_sum_gives : (ps : Parts) (s q : Linear) (bs : List Kind) (b : List Value) (n m : ℤ) → normal_sum vars defs bs ps s ≡ Some q → are_ints vars defs bs ps ≡ true → are_of bs b ≡ true → GivesSum frees calls ps b n → linear_is s b m → linear_is q b (n +ℤ m)
+    pub normal_sum_gives : (ps : Parts) (s q : Linear) (bs : List Kind) (b : List Value) (n m : ℤ) → normal_sum vars defs bs ps s ≡ Some q → are_ints vars defs bs ps ≡ true → are_of bs b ≡ true → GivesSum frees calls ps b n → linear_is s b m → linear_is q b (n +ℤ m)
     normal_sum_gives no_parts s q bs b n m e i f g h = some_has (λ x. linear_is x b (n +ℤ m)) s q e (h.0, h.1, ap (λ x. x +ℤ m) g ∙ Z.zero_plus m ∙ h.2)
     normal_sum_gives (part k t ps) s q bs b n m e i f g h =
         let p = bind_some (normal vars defs bs t) (λ u. add_term k u s >>= λ r. normal_sum vars defs bs ps r) q e in
@@ -160,7 +147,3 @@ module _ (vars : List Kind) (defs : List Def) (frees : List Value) (calls : Call
         let a = term_gives vars defs frees calls has_call keeps_call fits call_sorts p.0 k s o.0 b g.0 m (normal_gives t p.0 bs b int g.0 p.1 j.0 f g.2) h o.1 in
         let c = normal_sum_gives ps o.0 q bs b g.1 ((k *ℤ int_of g.0) +ℤ m) o.2 j.1 f g.3 a in
         (c.0, c.1, ap (λ x. x +ℤ m) g.4 ∙ Z.part_last (k *ℤ int_of g.0) g.1 m ∙ c.2)
-
-  -- a term and its normal form say the same
-  pub normal_same : (t u : Tree) (bs : List Kind) (b : List Value) (k : Kind) → normal vars defs bs t ≡ Some u → sort_of vars defs bs t ≡ Some k → are_of bs b ≡ true → Same (With frees calls t b) (With frees calls u b)
-  normal_same t u bs b k e s f = same_values frees calls has_call keeps_call frees calls has_call keeps_call t u b b (λ r g. normal_gives t u bs b k r e s f g)

@@ -1,9 +1,10 @@
 -- Sums and products of numbers are numbers.
-use Rattle.std.proofs.Common.{◌≡◌, refl, sym, ap, subst, ℤ, pos, negsuc, ◌+ℤ◌, ◌*ℤ◌, Bool, true, false, ◌&&◌, cond, Option, Some, None, option_map, List, int_eq, Ordering, Less, Equal, Greater}
-use Rattle.logic_core.specs.Tree.{Kind, int, boolean, map, Tree, num, truth, free, bound, linear, mul, read, write, choose, call, negation, all, some, equal, at_most, for_all, exists, Trees, no_trees, tree, Parts, no_parts, part, Patterns, no_patterns, pattern}
+-- Here s is a sort, h that the atoms so far are numbers, e what the computation gives; p and q are its steps, f the sorts of the first part and of the rest.
+use Rattle.std.proofs.Common.{◌≡◌, refl, sym, subst, ℤ, pos, negsuc, ◌+ℤ◌, ◌*ℤ◌, true, ◌&&◌, Some, None, option_map, List, int_eq, Ordering, Less, Equal, Greater}
+use Rattle.logic_core.specs.Tree.{Kind, int, boolean, Tree, num, linear, mul, at_most, Parts, no_parts, part}
 use Rattle.logic_core.specs.Def.{Def}
 use Rattle.logic_core.specs.Order.{order}
-use Rattle.logic_core.specs.Wide.{◌>>=◌, when, checked_add, checked_mul, checked}
+use Rattle.logic_core.specs.Wide.{◌>>=◌, checked_add, checked_mul, checked}
 use Rattle.logic_core.specs.Sorts.{is, sort_of, are_ints}
 use Rattle.logic_core.specs.Sum.{Linear, constant, with_part, add_atom, add_number, add_parts, add_term, sum_term, term_of, affine, difference, in_order, product_with, product}
 use Rattle.logic_laws.proofs.Options.{both_true, all_true, some_has, bind_some, map_some, when_some, when_true, cond_has, cond_some}
@@ -31,10 +32,10 @@ number_is k n s r h =
     (let a = checked_is (k *ℤ n) p.0 p.1 in let b = checked_is (s.rest +ℤ p.0) q.0 q.1 in (refl, cc))
 
 module _ (vars : List Kind) (defs : List Def) where
-  one_more_int : (k : ℤ) (t : Tree) (ps : Parts) (b : List Kind) → sort_of vars defs b t ≡ Some int → are_ints vars defs b ps ≡ true → are_ints vars defs b (part k t ps) ≡ true
+  pub one_more_int : (k : ℤ) (t : Tree) (ps : Parts) (b : List Kind) → sort_of vars defs b t ≡ Some int → are_ints vars defs b ps ≡ true → are_ints vars defs b (part k t ps) ≡ true
   one_more_int k t ps b s h = all_true (is int (sort_of vars defs b t)) (are_ints vars defs b ps) (sort_is int (sort_of vars defs b t) s) h
 
-  with_part_ints : (k : ℤ) (t : Tree) (ps : Parts) (b : List Kind) → sort_of vars defs b t ≡ Some int → are_ints vars defs b ps ≡ true → are_ints vars defs b (with_part k t ps) ≡ true
+  pub with_part_ints : (k : ℤ) (t : Tree) (ps : Parts) (b : List Kind) → sort_of vars defs b t ≡ Some int → are_ints vars defs b ps ≡ true → are_ints vars defs b (with_part k t ps) ≡ true
   with_part_ints k t ps b s h = cond_has (λ qs. are_ints vars defs b qs ≡ true) (int_eq k (pos 0)) ps (part k t ps) (λ _. h) (λ _. one_more_int k t ps b s h)
 
   pub first_int : (k : ℤ) (t : Tree) (ps : Parts) (b : List Kind) → are_ints vars defs b (part k t ps) ≡ true → (sort_of vars defs b t ≡ Some int) × (are_ints vars defs b ps ≡ true)
