@@ -159,7 +159,7 @@ module _ (vars : List Kind) (defs : List Def) where
   inequality_sort x y u b sx sy e = let p = map_some zero_at_most (difference y x) u e in subst (λ v. sort_of vars defs b v ≡ Some boolean) p.2 (zero_at_most_sort p.0 b (difference_sort vars defs y x p.0 b sy sx p.1))
 
   -- a choice between terms of one sort
-  choose_sort : (c x y : Tree) (b : List Kind) (k : Kind) → sort_of vars defs b c ≡ Some boolean → sort_of vars defs b x ≡ Some k → sort_of vars defs b y ≡ Some k → sort_of vars defs b (choose c x y) ≡ Some k
+  pub choose_sort : (c x y : Tree) (b : List Kind) (k : Kind) → sort_of vars defs b c ≡ Some boolean → sort_of vars defs b x ≡ Some k → sort_of vars defs b y ≡ Some k → sort_of vars defs b (choose c x y) ≡ Some k
   choose_sort c x y b k sc sx sy = subst (λ s. (s >>= λ j. when (is boolean (sort_of vars defs b c) && is j (sort_of vars defs b y)) (Some j)) ≡ Some k) (sym sx)
       (when_true (is boolean (sort_of vars defs b c) && is k (sort_of vars defs b y)) (Some k) (all_true (is boolean (sort_of vars defs b c)) (is k (sort_of vars defs b y)) (sort_is boolean (sort_of vars defs b c) sc) (sort_is k (sort_of vars defs b y) sy)))
 

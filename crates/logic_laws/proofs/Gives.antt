@@ -56,6 +56,19 @@ module _ (frees : List Value) (calls : Calls) where
     GivesSum no_parts b n = n ≡ pos 0
     GivesSum (part k t ps) b n = (v : Value) × (m : ℤ) × Gives t b v × GivesSum ps b m × (n ≡ (k *ℤ int_of v) +ℤ m)
 
+-- where the bodies hold alike for all values, the quantified formulas are decided alike
+pub decided_every : (ss : List Kind) (H K : List Value → Type 0) (r : Value) → ((vs : List Value) → are_of ss vs ≡ true → (H vs → K vs) × (K vs → H vs)) → Decided ((vs : List Value) → IsTrue (are_of ss vs) → H vs) r → Decided ((vs : List Value) → IsTrue (are_of ss vs) → K vs) r
+decided_every ss H K r f (inl a) = inl ((λ vs h. (f vs h).0 (a.0 vs h)), a.1)
+decided_every ss H K r f (inr a) = inr ((λ k. a.0 (λ vs h. (f vs h).1 (k vs h))), a.1)
+
+pub decided_some : (ss : List Kind) (H K : List Value → Type 0) (r : Value) → ((vs : List Value) → are_of ss vs ≡ true → (H vs → K vs) × (K vs → H vs)) → Decided (¬ ((vs : List Value) → IsTrue (are_of ss vs) → ¬ H vs)) r → Decided (¬ ((vs : List Value) → IsTrue (are_of ss vs) → ¬ K vs)) r
+decided_some ss H K r f (inl a) = inl ((λ k. a.0 (λ vs h x. k vs h ((f vs h).0 x))), a.1)
+decided_some ss H K r f (inr a) = inr ((λ k. a.0 (λ n. k (λ vs h x. n vs h ((f vs h).1 x)))), a.1)
+
+pub if_map : (c : Bool) (G H G' H' : Type 0) → (G → G') → (H → H') → If c G H → If c G' H'
+if_map true G H G' H' f k g = f g
+if_map false G H G' H' f k g = k g
+
 -- what is said with M is what is said of x, where it can be shown by contradiction
 abbrev pub Says : {A : Type 0} → ((A → Type 0) → Type 0) → A → Type 1
 Says {A} M x = (P : A → Type 0) → ((y : A) → Stable (P y)) → (M P → P x) × (P x → M P)

@@ -14,3 +14,11 @@ pub mod FormulaValues
 pub mod NormalValues
 pub mod DefinedSorts
 pub mod Assigned
+pub mod CarriedSorts
+pub mod SortFrame
+pub mod ReplacedSorts
+pub mod SubstitutedSorts
+pub mod ValueFrame
+pub mod Unfolding
+pub mod Paired
+pub mod SubstitutedValues

@@ -72,11 +72,11 @@ module _ (vars : List Kind) (defs : List Def) where
   first_of_sort k ks t ts b h = let p = both_true (is k (sort_of vars defs b t)) (are vars defs b ks ts) h in (is_sort k (sort_of vars defs b t) p.0, p.1)
 
   -- a term that has a sort
-  some_sort : (s : Option Kind) (f : Bool) → is_some_and s (λ _. f) ≡ true → (k : Kind) × (s ≡ Some k) × (f ≡ true)
+  pub some_sort : (s : Option Kind) (f : Bool) → is_some_and s (λ _. f) ≡ true → (k : Kind) × (s ≡ Some k) × (f ≡ true)
   some_sort None f h = absurd (cc)
   some_sort (Some k) f h = (k, refl, h)
 
-  sort_some : (s : Option Kind) (f : Bool) (k : Kind) → s ≡ Some k → f ≡ true → is_some_and s (λ _. f) ≡ true
+  pub sort_some : (s : Option Kind) (f : Bool) (k : Kind) → s ≡ Some k → f ≡ true → is_some_and s (λ _. f) ≡ true
   sort_some None f k e h = absurd (cc)
   sort_some (Some j) f k e h = h
 

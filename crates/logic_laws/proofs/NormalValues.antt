@@ -19,23 +19,10 @@ use Rattle.logic_laws.proofs.SumSorts.{first_int, term_ints}
 use Rattle.logic_laws.proofs.FormulaSorts.{first_formula, parts_of_all, part_of_negation, parts_of_at_most, parts_of_equal, parts_of_quantifier}
 use Rattle.logic_laws.proofs.NormalSorts.{parts_of_mul, parts_of_read, parts_of_write, parts_of_choose, parts_of_call, first_of_sort, normal_sort, normal_formulas, normal_ints}
 use Rattle.logic_laws.proofs.Tables.{are_of_bound}
-use Rattle.logic_laws.proofs.Gives.{Decided, AllHold, NoneHolds, Gives, GivesEach, GivesEvery, GivesAny, GivesSum, same_values}
+use Rattle.logic_laws.proofs.Gives.{decided_every, decided_some, if_map, Gives, GivesEach, GivesEvery, GivesAny, GivesSum, same_values}
 use Rattle.logic_laws.proofs.ValueSorts.{CallsHaveSorts}
 use Rattle.logic_laws.proofs.SumValues.{GivesLinear, term_gives, linear_gives, constant_gives, product_gives}
 use Rattle.logic_laws.proofs.FormulaValues.{conjunction_gives, disjunction_gives, negated_gives, equation_gives, inequality_gives, choice_gives, for_all_gives, exists_gives}
-
-if_map : (c : Bool) (G H G' H' : Type 0) → (G → G') → (H → H') → If c G H → If c G' H'
-if_map true G H G' H' f k g = f g
-if_map false G H G' H' f k g = k g
-
-module _ (frees : List Value) (calls : Calls) where
-  pub all_hold_map : (ss : List Kind) (t u : Tree) (b : List Value) (r : Value) → ((vs : List Value) → are_of ss vs ≡ true → (Holds frees calls t (reverse vs ++ b) → Holds frees calls u (reverse vs ++ b)) × (Holds frees calls u (reverse vs ++ b) → Holds frees calls t (reverse vs ++ b))) → Decided (AllHold frees calls ss t b) r → Decided (AllHold frees calls ss u b) r
-  all_hold_map ss t u b r f (inl a) = inl ((λ vs h. (f vs h).0 (a.0 vs h)), a.1)
-  all_hold_map ss t u b r f (inr a) = inr ((λ k. a.0 (λ vs h. (f vs h).1 (k vs h))), a.1)
-
-  pub some_holds_map : (ss : List Kind) (t u : Tree) (b : List Value) (r : Value) → ((vs : List Value) → are_of ss vs ≡ true → (Holds frees calls t (reverse vs ++ b) → Holds frees calls u (reverse vs ++ b)) × (Holds frees calls u (reverse vs ++ b) → Holds frees calls t (reverse vs ++ b))) → Decided (¬ NoneHolds frees calls ss t b) r → Decided (¬ NoneHolds frees calls ss u b) r
-  some_holds_map ss t u b r f (inl a) = inl ((λ k. a.0 (λ vs h x. k vs h ((f vs h).0 x))), a.1)
-  some_holds_map ss t u b r f (inr a) = inr ((λ k. a.0 (λ n. k (λ vs h x. n vs h ((f vs h).1 x)))), a.1)
 
 module _ (vars : List Kind) (defs : List Def) (frees : List Value) (calls : Calls) (has_call : (f : ℕ) (vs : List Value) → HasOne (calls f vs)) (keeps_call : (f : ℕ) (vs : List Value) → Keeps (calls f vs)) (fits : are_of vars frees ≡ true) (call_sorts : CallsHaveSorts defs calls) where
   -- both hold alike where a value of the one is one of the other
@@ -117,13 +104,13 @@ module _ (vars : List Kind) (defs : List Def) (frees : List Value) (calls : Call
         let q = map_some (λ u. quantified (λ v. for_all ss p.0 v) u) (normal vars defs (reverse ss ++ bs) t) u p.2 in
         let i = (parts_of_quantifier vars defs ss ps t bs k s).1 in
         subst (λ x. Gives frees calls x b r) q.2 (for_all_gives vars defs frees calls has_call keeps_call fits call_sorts q.0 ss p.0 b r
-        (all_hold_map frees calls ss t q.0 b r (λ vs h. holds_alike t q.0 (reverse vs ++ b) (λ v w. normal_gives t q.0 (reverse ss ++ bs) (reverse vs ++ b) boolean v q.1 i (are_of_bound ss bs vs b h f) w)) g))
+        (decided_every ss (λ vs. Holds frees calls t (reverse vs ++ b)) (λ vs. Holds frees calls q.0 (reverse vs ++ b)) r (λ vs h. holds_alike t q.0 (reverse vs ++ b) (λ v w. normal_gives t q.0 (reverse ss ++ bs) (reverse vs ++ b) boolean v q.1 i (are_of_bound ss bs vs b h f) w)) g))
     normal_gives (exists ss ps t) u bs b k r e s f g =
         let p = bind_some (normal_patterns vars defs (reverse ss ++ bs) ps) (λ qs. option_map (λ u. quantified (λ v. exists ss qs v) u) (normal vars defs (reverse ss ++ bs) t)) u e in
         let q = map_some (λ u. quantified (λ v. exists ss p.0 v) u) (normal vars defs (reverse ss ++ bs) t) u p.2 in
         let i = (parts_of_quantifier vars defs ss ps t bs k s).1 in
         subst (λ x. Gives frees calls x b r) q.2 (exists_gives vars defs frees calls has_call keeps_call fits call_sorts q.0 ss p.0 b r
-        (some_holds_map frees calls ss t q.0 b r (λ vs h. holds_alike t q.0 (reverse vs ++ b) (λ v w. normal_gives t q.0 (reverse ss ++ bs) (reverse vs ++ b) boolean v q.1 i (are_of_bound ss bs vs b h f) w)) g))
+        (decided_some ss (λ vs. Holds frees calls t (reverse vs ++ b)) (λ vs. Holds frees calls q.0 (reverse vs ++ b)) r (λ vs h. holds_alike t q.0 (reverse vs ++ b) (λ v w. normal_gives t q.0 (reverse ss ++ bs) (reverse vs ++ b) boolean v q.1 i (are_of_bound ss bs vs b h f) w)) g))
 
     normal_gives_each : (ts us : Trees) (bs : List Kind) (b : List Value) (ks : List Kind) (vs : List Value) → normal_each vars defs bs ts ≡ Some us → are vars defs bs ks ts ≡ true → are_of bs b ≡ true → GivesEach frees calls ts b vs → GivesEach frees calls us b vs
     normal_gives_each no_trees us bs b ks vs e s f g = some_has (λ x. GivesEach frees calls x b vs) no_trees us e g
