@@ -13,7 +13,6 @@ pub mod Booleans
 pub mod FormulaValues
 pub mod NormalValues
 pub mod DefinedSorts
-pub mod Assigned
 pub mod CarriedSorts
 pub mod SortFrame
 pub mod ReplacedSorts
@@ -22,3 +21,6 @@ pub mod ValueFrame
 pub mod Unfolding
 pub mod Paired
 pub mod SubstitutedValues
+pub mod ReplacedValues
+pub mod Bodies
+pub mod Assigned
