@@ -1,17 +1,14 @@
 -- Appending formulas: facts stay formulas, and the new facts hold where the formulas do.
-use Rattle.std.proofs.Common.{◌≡◌, ◌∙◌, refl, sym, subst, ℕ, IsTrue, Option, Some, None, List, [], ◌∷◌, ◌++◌}
+use Rattle.std.proofs.Common.{◌≡◌, ◌∙◌, refl, sym, subst, ℕ, IsTrue, Some, List, [], ◌∷◌}
 use Rattle.std.specs.Prelude.{All, slice_get}
 use Rattle.std.proofs.lemmas.List.Elements.{All-nil, All-cons, All-head, All-tail, All-push}
 use Rattle.std.proofs.lemmas.Option.{slice_get_within, get_or_from_slice_get}
-use Rattle.logic_core.specs.Tree.{Kind, boolean, Tree}
-use Rattle.logic_core.specs.Value.{Value, holds, are_of}
+use Rattle.logic_core.specs.Tree.{boolean, Tree}
+use Rattle.logic_core.specs.Value.{Value, are_of}
 use Rattle.logic_core.specs.Def.{Def}
 use Rattle.logic_core.specs.Wide.{◌>>=◌}
 use Rattle.logic_core.specs.Normal.{normal}
-use Rattle.logic_core.specs.Meaning.{Holds}
-use Rattle.logic_core.specs.Valid.{calls_of}
-use Rattle.logic_core.proofs.Kept.{true_stable}
-use Rattle.proof_core.specs.Context.{Context, fact, with_fact, appended, appended_each, children}
+use Rattle.proof_core.specs.Context.{Context, with_fact, appended, appended_each, children}
 use Rattle.proof_core.specs.Ends.{one_each}
 use Rattle.proof_core.specs.Soundness.{IsFormula, IsSorted, IsUnsatisfiable}
 use Rattle.logic_laws.proofs.Options.{bind_some}
@@ -31,7 +28,7 @@ module _ (defs : List Def) where
       subst (λ x. Extends c (t ∷ []) x) is_d (record {
         vars = refl;
         sorted = record { definitions = s.definitions; facts = All-push (IsFormula c.vars defs) c.facts p.0 s.facts (normal_sort c.vars defs s.definitions t p.0 boolean formula p.1) };
-        hold = λ frees fit all new. All-push (HoldsIn defs frees) c.facts p.0 all (same_holds defs frees t p.0 (normal_value c.vars defs s.definitions frees fit t p.0 boolean formula p.1) (All-head (HoldsIn defs frees) t [] new));
+        hold = λ frees fit all new. All-push (HoldsIn defs frees) c.facts p.0 all ((same_holds defs frees t p.0 (normal_value c.vars defs s.definitions frees fit t p.0 boolean formula p.1)).0 (All-head (HoldsIn defs frees) t [] new));
       })
 
   pub each_extends : (ts : List Tree) (c d : Context) → IsSorted defs c → All (IsFormula c.vars defs) ts → appended_each defs c ts ≡ Some d → Extends c ts d
@@ -68,12 +65,13 @@ module _ (defs : List Def) where
       let q = bind_some (children defs c (one_each ts)) (λ rest. Some (p.0 ∷ rest)) ds p.2 in
       let is_ds : p.0 ∷ q.0 ≡ ds = cc in
       let first = each_extends (t ∷ []) c p.0 s (All-cons (IsFormula c.vars defs) t [] (All-head (IsFormula c.vars defs) t ts formulas) (All-nil (IsFormula c.vars defs))) p.1 in
-      let others = children_extend ts c q.0 s (All-tail (IsFormula c.vars defs) t ts formulas) q.1 in
-      (subst (All (IsSorted defs)) is_ds (All-cons (IsSorted defs) p.0 q.0 first.sorted others.0),
-       λ unsat frees fit all. let each = subst (All (IsUnsatisfiable defs)) (sym is_ds) unsat in
-          All-cons (λ u. ¬ HoldsIn defs frees u) t ts
-              (λ h. refuted c (t ∷ []) p.0 first (All-head (IsUnsatisfiable defs) p.0 q.0 each) frees fit all (All-cons (HoldsIn defs frees) t [] h (All-nil (HoldsIn defs frees))))
-              (others.1 (All-tail (IsUnsatisfiable defs) p.0 q.0 each) frees fit all))
+      let others = children_extend ts c q.0 s (All-tail (IsFormula c.vars defs) t ts formulas) q.1 in (
+        subst (All (IsSorted defs)) is_ds (All-cons (IsSorted defs) p.0 q.0 first.sorted others.0),
+        λ unsat frees fit all. let each = subst (All (IsUnsatisfiable defs)) (sym is_ds) unsat in
+            All-cons (λ u. ¬ HoldsIn defs frees u) t ts
+            (λ h. refuted c (t ∷ []) p.0 first (All-head (IsUnsatisfiable defs) p.0 q.0 each) frees fit all (All-cons (HoldsIn defs frees) t [] h (All-nil (HoldsIn defs frees))))
+            (others.1 (All-tail (IsUnsatisfiable defs) p.0 q.0 each) frees fit all),
+      )
 
 -- what all have, the one at a number has
 pub at_fact : {A : Type 0} (P : A → Type 0) (xs : List A) (k : ℕ) (x : A) → slice_get xs k ≡ Some x → All P xs → P x

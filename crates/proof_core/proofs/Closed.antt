@@ -1,5 +1,5 @@
 -- Closed terms over an assignment: their values, and the laws of terms on which the rules stand.
-use Rattle.std.proofs.Common.{◌≡◌, refl, ℕ, Bool, true, IsTrue, Option, Some, List, []}
+use Rattle.std.proofs.Common.{◌≡◌, ◌↔◌, refl, ℕ, IsTrue, Some, List, []}
 use Rattle.std.specs.Prelude.{All, slice_get}
 use Rattle.logic_core.specs.Tree.{Kind, boolean, Tree, call, negation, no_trees}
 use Rattle.logic_core.specs.Value.{Value, holds, is_of, are_of}
@@ -16,6 +16,10 @@ use Rattle.logic_core.proofs.Replaced.{Same}
 use Rattle.logic_laws.proofs.Gives.{Gives, Says, gives, said}
 use Rattle.logic_laws.proofs.ValueSorts.{CallsHaveSorts, gives_sort}
 use Rattle.logic_laws.proofs.NormalSorts.{normal_sort as normal_sort_law}
+use Rattle.logic_laws.proofs.DefinedSorts.{defined_sorts}
+use Rattle.logic_laws.proofs.ReplacedSorts.{replaced_sort as replaced_sort_law}
+use Rattle.proof_core.proofs.Bodies.{lone_body_sort}
+use Rattle.logic_laws.proofs.Assigned.{same_normal, same_negated, same_with_replaced, same_called}
 
 module _ (defs : List Def) (frees : List Value) where
   -- what is said of the value of a closed term
@@ -61,35 +65,35 @@ module _ (defs : List Def) (frees : List Value) where
   )
 
   -- what is said of two terms alike holds of both
-  pub same_holds : (t u : Tree) → Same (Of t) (Of u) → HoldsIn t → HoldsIn u
-  same_holds t u e = (e (λ w. IsTrue (holds w)) (λ w. true_stable (holds w))).0
+  pub same_holds : (t u : Tree) → Same (Of t) (Of u) → HoldsIn t ↔ HoldsIn u
+  same_holds t u e = e (λ w. IsTrue (holds w)) (λ w. true_stable (holds w))
 
 module _ (vars : List Kind) (defs : List Def) (bodies : IsTrue (bodies_sorted vars [] defs)) where
   pub normal_sort : (t u : Tree) (k : Kind) → sort_of vars defs [] t ≡ Some k → normal vars defs [] t ≡ Some u → sort_of vars defs [] u ≡ Some k
   normal_sort t u k s n = normal_sort_law vars defs t u [] k n s
 
   pub replaced_sort : (old new t : Tree) (j k : Kind) → sort_of vars defs [] old ≡ Some j → sort_of vars defs [] new ≡ Some j → sort_of vars defs [] t ≡ Some k → sort_of vars defs [] (replaced old new t) ≡ Some k
-  replaced_sort old new t j k s r h = ?
+  replaced_sort old new t j k s r h = replaced_sort_law vars defs old new t [] j k s r h
 
   pub body_sort : (n : ℕ) (d : Def) (k : Kind) → slice_get defs n ≡ Some d → sort_of vars defs [] (call n no_trees) ≡ Some k → sort_of vars defs [] d.body ≡ Some k
-  body_sort n d k g s = ?
+  body_sort n d k g s = lone_body_sort vars defs n d k bodies g s
 
   module _ (frees : List Value) (fit : IsTrue (are_of vars frees)) where
     pub call_sorts : CallsHaveSorts defs (calls_of frees defs)
-    call_sorts = ?here
+    call_sorts = defined_sorts vars frees fit defs bodies
 
     -- the value of a term is of its sort
     pub value_sort : (t : Tree) (k : Kind) (v : Value) → sort_of vars defs [] t ≡ Some k → Has defs frees t v → IsTrue (is_of k v)
     value_sort t k v s h = gives_sort vars defs frees (calls_of frees defs) (has_defined frees defs) fit call_sorts t [] [] k v s refl h
 
     pub normal_value : (t u : Tree) (k : Kind) → sort_of vars defs [] t ≡ Some k → normal vars defs [] t ≡ Some u → Same (Of defs frees t) (Of defs frees u)
-    normal_value t u k s n = ?
+    normal_value t u k s n = same_normal vars defs frees (bodies, fit) t u [] [] k refl s n
 
-    pub negated_value : (t u : Tree) → sort_of vars defs [] t ≡ Some boolean → negated t ≡ Some u → Same (Of defs frees u) (Of defs frees (negation t))
-    negated_value t u s n = ?
+    pub negated_value : (t u : Tree) → sort_of vars defs [] t ≡ Some boolean → negated t ≡ Some u → Same (Of defs frees (negation t)) (Of defs frees u)
+    negated_value t u s n = same_negated vars defs frees (bodies, fit) t u [] [] refl s n
 
     pub replaced_value : (old new t : Tree) (j k : Kind) → sort_of vars defs [] old ≡ Some j → sort_of vars defs [] new ≡ Some j → Same (Of defs frees old) (Of defs frees new) → sort_of vars defs [] t ≡ Some k → Same (Of defs frees t) (Of defs frees (replaced old new t))
-    replaced_value old new t j k s r e h = ?
+    replaced_value old new t j k s r e h = same_with_replaced vars defs frees (bodies, fit) old new t [] j s r e
 
     pub called_value : (n : ℕ) (d : Def) → slice_get defs n ≡ Some d → Same (Of defs frees (call n no_trees)) (Of defs frees d.body)
-    called_value n d g = ?
+    called_value n d g = same_called vars defs frees (bodies, fit) n d [] g

@@ -1,5 +1,5 @@
 -- When an And, an Or and a Not hold.
-use Rattle.std.proofs.Common.{◌≡◌, ◌∙◌, refl, sym, ap, Bool, true, false, ◌&&◌, ◌||◌, not, IsTrue, List, []}
+use Rattle.std.proofs.Common.{◌∙◌, refl, sym, ap, Bool, true, false, ◌||◌, not, IsTrue, List, []}
 use Rattle.std.specs.Prelude.{All}
 use Rattle.std.proofs.lemmas.List.Elements.{All-nil, All-cons, All-head, All-tail}
 use Rattle.logic_core.specs.Tree.{Tree, Trees, no_trees, tree, negation, all, some}
@@ -10,7 +10,7 @@ use Rattle.logic_core.specs.Valid.{calls_of}
 use Rattle.logic_core.proofs.Kept.{Stable}
 use Rattle.logic_laws.proofs.Gives.{GivesEvery, GivesAny}
 use Rattle.logic_laws.proofs.Options.{both_true}
-use Rattle.proof_core.proofs.Closed.{HoldsIn, AllHold, Has, has_one, value_holds, holds_by_value, holds_stable}
+use Rattle.proof_core.proofs.Closed.{HoldsIn, AllHold, has_one, value_holds, holds_by_value, holds_stable}
 
 pub neither : (a b : Bool) → IsTrue (a || b) → (IsTrue a → ⊥) → (IsTrue b → ⊥) → ⊥
 neither true b h no_a no_b = no_a refl

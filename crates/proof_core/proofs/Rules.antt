@@ -1,30 +1,25 @@
 -- Each rule is sound.
-use Rattle.std.proofs.Common.{◌≡◌, refl, sym, ap, subst, ℕ, nat_eq, Bool, true, false, ◌&&◌, ◌||◌, not, IsTrue, Option, Some, None, List, [], ◌∷◌, ◌++◌}
+use Rattle.std.proofs.Common.{◌≡◌, refl, sym, subst, ℕ, nat_eq, Bool, true, false, ◌&&◌, ◌||◌, IsTrue, Option, Some, None, List, [], ◌∷◌, ◌++◌}
 use Rattle.std.specs.Prelude.{All, is_some, slice_get}
-use Rattle.std.proofs.lemmas.List.Elements.{All-nil, All-cons, All-push, All-append, All-head}
+use Rattle.std.proofs.lemmas.List.Elements.{All-nil, All-cons, All-push}
 use Rattle.logic_core.specs.Tree.{Kind, boolean, Tree, truth, call, negation, all, some, Trees, no_trees, tree}
-use Rattle.logic_core.specs.Value.{Value, holds, are_of}
-use Rattle.logic_core.specs.Def.{Def, Obligation}
+use Rattle.logic_core.specs.Value.{Value}
+use Rattle.logic_core.specs.Def.{Def}
 use Rattle.logic_core.specs.Same.{same_term, is_some_and}
 use Rattle.logic_core.specs.Wide.{◌>>=◌, when}
 use Rattle.logic_core.specs.Sorts.{sort_of, are_formulas}
 use Rattle.logic_core.specs.Subterm.{listed, replaced}
 use Rattle.logic_core.specs.Junction.{negated, is_truth}
-use Rattle.logic_core.specs.Meaning.{With, Holds}
-use Rattle.logic_core.specs.Valid.{calls_of}
-use Rattle.logic_core.proofs.Values.{HasOne, has_value, closes}
-use Rattle.logic_core.proofs.Kept.{Keeps, true_stable, keeps}
-use Rattle.logic_core.proofs.Defined.{has_defined, keeps_defined}
 use Rattle.logic_core.proofs.Replaced.{Same}
 use Rattle.logic_core.proofs.SameTerm.{same_is_equal}
-use Rattle.proof_core.specs.Context.{Context, fact, appended, appended_each, children, named, start}
+use Rattle.proof_core.specs.Context.{Context, fact, appended, children, named}
 use Rattle.proof_core.specs.Says.{says}
 use Rattle.proof_core.specs.Steps.{split, replacement, body_of, unfolded, stands_in}
 use Rattle.proof_core.specs.Ends.{is_negation_of, one_each, cases}
-use Rattle.proof_core.specs.Soundness.{IsFormula, IsWellSorted, IsSorted, IsUnsatisfiable, SplitIsSound, ReplaceIsSound, UnfoldIsSound, CasesAreSound, CloseIsSound, StartIsSound}
+use Rattle.proof_core.specs.Soundness.{IsFormula, IsSorted, IsUnsatisfiable, SplitIsSound, ReplaceIsSound, UnfoldIsSound, CasesAreSound, CloseIsSound, StartIsSound}
 use Rattle.logic_laws.proofs.Options.{both_true, bind_some}
 use Rattle.logic_laws.proofs.FormulaSorts.{first_formula, parts_of_all, negation_sort}
-use Rattle.proof_core.proofs.Closed.{Of, HoldsIn, AllHold, same_holds, holds_stable, body_sort, replaced_sort, replaced_value, called_value, negated_value}
+use Rattle.proof_core.proofs.Closed.{Of, HoldsIn, same_holds, holds_stable, body_sort, replaced_sort, replaced_value, called_value, negated_value}
 use Rattle.proof_core.proofs.Junctions.{parts_hold, none_holds, not_holds, not_both, neither}
 use Rattle.proof_core.proofs.Said.{said_sort, said_value}
 use Rattle.proof_core.proofs.Appended.{appended_extends, each_extends, followed, one_followed, refuted, children_extend, at_fact}
@@ -52,7 +47,7 @@ split_at defs c d f (all ts) s k e =
     let formula : IsFormula c.vars defs (all ts) = at_fact (IsFormula c.vars defs) c.facts f (all ts) k s.facts in
     let parts = parts_formulas c.vars defs ts (parts_of_all c.vars defs ts [] formula) in
     followed defs c (listed ts) d (each_extends defs (listed ts) c d s parts e)
-        (λ frees fit hold. parts_hold defs frees ts (at_fact (HoldsIn defs frees) c.facts f (all ts) k hold))
+    (λ frees fit hold. parts_hold defs frees ts (at_fact (HoldsIn defs frees) c.facts f (all ts) k hold))
 split_at defs c d f t s k e = absurd (cc)
 
 pub split_is_sound : SplitIsSound
@@ -70,9 +65,9 @@ replace_is_sound f g t defs c d s e =
     let equation : IsFormula c.vars defs q.0 = at_fact (IsFormula c.vars defs) c.facts g q.0 q.1 s.facts in
     let new_sort = said_sort c.vars defs q.0 t new.0 sort.0 equation sort.1 new.1 in
     one_followed defs c d (replaced t new.0 p.0) (appended_extends defs c d (replaced t new.0 p.0) s (replaced_sort c.vars defs s.definitions t new.0 p.0 sort.0 boolean sort.1 new_sort formula) new.2)
-        (λ frees fit hold.
-          let same = said_value c.vars defs s.definitions frees fit q.0 t new.0 equation (at_fact (HoldsIn defs frees) c.facts g q.0 q.1 hold) new.1 in
-          same_holds defs frees p.0 (replaced t new.0 p.0) (replaced_value c.vars defs s.definitions frees fit t new.0 p.0 sort.0 boolean sort.1 new_sort same formula) (at_fact (HoldsIn defs frees) c.facts f p.0 p.1 hold))
+    (λ frees fit hold.
+    let same = said_value c.vars defs s.definitions frees fit q.0 t new.0 equation (at_fact (HoldsIn defs frees) c.facts g q.0 q.1 hold) new.1 in
+    (same_holds defs frees p.0 (replaced t new.0 p.0) (replaced_value c.vars defs s.definitions frees fit t new.0 p.0 sort.0 boolean sort.1 new_sort same formula)).0 (at_fact (HoldsIn defs frees) c.facts f p.0 p.1 hold))
 
 -- unfold
 unfold_at : (defs : List Def) (c d : Context) (f : ℕ) (t u b : Tree) (k : Kind) → IsSorted defs c → fact c f ≡ Some u → named defs c t ≡ Some k → body_of defs t ≡ Some b → appended defs c (replaced t b u) ≡ Some d → IsSorted defs d × (IsUnsatisfiable defs d → IsUnsatisfiable defs c)
@@ -83,9 +78,9 @@ unfold_at defs c d f (call n no_trees) u b k s g sort body e =
     let new_sort : sort_of c.vars defs [] b ≡ Some k = subst (λ x. sort_of c.vars defs [] x ≡ Some k) is_b (body_sort c.vars defs s.definitions n p.0 k p.1 sort) in
     let t = call n no_trees in
     one_followed defs c d (replaced t b u) (appended_extends defs c d (replaced t b u) s (replaced_sort c.vars defs s.definitions t b u k boolean sort new_sort formula) e)
-        (λ frees fit hold.
-          let same : Same (Of defs frees t) (Of defs frees b) = subst (λ x. Same (Of defs frees t) (Of defs frees x)) is_b (called_value c.vars defs s.definitions frees fit n p.0 p.1) in
-          same_holds defs frees u (replaced t b u) (replaced_value c.vars defs s.definitions frees fit t b u k boolean sort new_sort same formula) (at_fact (HoldsIn defs frees) c.facts f u g hold))
+    (λ frees fit hold.
+    let same : Same (Of defs frees t) (Of defs frees b) = subst (λ x. Same (Of defs frees t) (Of defs frees x)) is_b (called_value c.vars defs s.definitions frees fit n p.0 p.1) in
+    (same_holds defs frees u (replaced t b u) (replaced_value c.vars defs s.definitions frees fit t b u k boolean sort new_sort same formula)).0 (at_fact (HoldsIn defs frees) c.facts f u g hold))
 unfold_at defs c d f t u b k s g sort body e = absurd (cc)
 
 pub unfold_is_sound : UnfoldIsSound
@@ -126,11 +121,11 @@ close_is_sound f g defs c s h frees fit hold =
     let second : HoldsIn defs frees q.0 = at_fact (HoldsIn defs frees) c.facts g q.0 q.1 hold in
     let formula : IsFormula c.vars defs p.0 = at_fact (IsFormula c.vars defs) c.facts f p.0 p.1 s.facts in
     neither (nat_eq f g && is_truth false p.0) (is_negation_of q.0 p.0) q.2
-        (λ e. truth_is_false defs frees p.0 (both_true (nat_eq f g) (is_truth false p.0) e).1 first)
-        (λ e. let n = some_and (negated p.0) (λ u. same_term u q.0) e in
-            let opposite : HoldsIn defs frees n.0 = subst (HoldsIn defs frees) (sym (same_is_equal n.0 q.0 n.2)) second in
-            let negation_holds = same_holds defs frees n.0 (negation p.0) (negated_value c.vars defs s.definitions frees fit p.0 n.0 formula n.1) opposite in
-            not_both defs frees p.0 first negation_holds)
+    (λ e. truth_is_false defs frees p.0 (both_true (nat_eq f g) (is_truth false p.0) e).1 first)
+    (λ e. let n = some_and (negated p.0) (λ u. same_term u q.0) e in
+    let opposite : HoldsIn defs frees n.0 = subst (HoldsIn defs frees) (sym (same_is_equal n.0 q.0 n.2)) second in
+    let negation_holds = (same_holds defs frees (negation p.0) n.0 (negated_value c.vars defs s.definitions frees fit p.0 n.0 formula n.1)).1 opposite in
+    not_both defs frees p.0 first negation_holds)
 
 -- the start
 pub start_is_sound : StartIsSound
@@ -138,7 +133,9 @@ start_is_sound o c s e =
     let first : Context = record { vars = o.vars; facts = [] } in
     let opposite : IsFormula o.vars o.defs (negation o.goal) = negation_sort o.vars o.defs o.goal [] s.goal in
     let formulas : All (IsFormula o.vars o.defs) (o.axioms ++ negation o.goal ∷ []) = All-push (IsFormula o.vars o.defs) o.axioms (negation o.goal) s.axioms opposite in
-    let x = each_extends o.defs (o.axioms ++ negation o.goal ∷ []) first c (record { definitions = s.definitions; facts = All-nil (IsFormula o.vars o.defs) }) formulas e in
-    (x.sorted, λ unsat frees fit axioms.
-      holds_stable o.defs frees o.goal (λ untrue. refuted o.defs first (o.axioms ++ negation o.goal ∷ []) c x unsat frees fit (All-nil (HoldsIn o.defs frees))
-          (All-push (HoldsIn o.defs frees) o.axioms (negation o.goal) axioms (not_holds o.defs frees o.goal untrue))))
+    let x = each_extends o.defs (o.axioms ++ negation o.goal ∷ []) first c (record { definitions = s.definitions; facts = All-nil (IsFormula o.vars o.defs) }) formulas e in (
+      x.sorted,
+      λ unsat frees fit axioms.
+          holds_stable o.defs frees o.goal (λ untrue. refuted o.defs first (o.axioms ++ negation o.goal ∷ []) c x unsat frees fit (All-nil (HoldsIn o.defs frees))
+          (All-push (HoldsIn o.defs frees) o.axioms (negation o.goal) axioms (not_holds o.defs frees o.goal untrue))),
+    )

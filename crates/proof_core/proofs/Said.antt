@@ -1,9 +1,9 @@
 -- What a fact says is so: where it holds, the term and what it says the term is equal to have one value and one sort.
-use Rattle.std.proofs.Common.{◌≡◌, ◌∙◌, refl, sym, ap, subst, ℕ, ℤ, pos, negsuc, ◌+ℤ◌, ◌*ℤ◌, Bool, true, false, ◌&&◌, not, cond, IsTrue, Option, Some, None, List, [], arith, int_eq}
+use Rattle.std.proofs.Common.{◌≡◌, ◌∙◌, refl, sym, ap, subst, ℤ, pos, negsuc, ◌+ℤ◌, ◌*ℤ◌, Bool, true, false, not, cond, IsTrue, Option, Some, None, List, [], arith, int_eq}
 use Rattle.std.proofs.lemmas.Int.{ints}
 use Rattle.std.proofs.lemmas.Bool.Decides.{Decides-int_eq}
 use Rattle.logic_core.specs.Tree.{Kind, int, boolean, Tree, num, truth, linear, negation, equal, Parts, no_parts, part}
-use Rattle.logic_core.specs.Value.{Value, whole, flag, table, int_of, holds, same, is_of, are_of}
+use Rattle.logic_core.specs.Value.{Value, whole, flag, table, int_of, holds, is_of, are_of}
 use Rattle.logic_core.specs.Def.{Def}
 use Rattle.logic_core.specs.Same.{same_term}
 use Rattle.logic_core.specs.Sorts.{is, sort_of, are_ints, bodies_sorted}
@@ -13,8 +13,8 @@ use Rattle.logic_core.specs.Valid.{calls_of}
 use Rattle.logic_core.proofs.Defined.{has_defined, keeps_defined}
 use Rattle.logic_core.proofs.Replaced.{Same}
 use Rattle.logic_core.proofs.SameTerm.{same_is_equal}
-use Rattle.logic_laws.proofs.Options.{both_true, all_true, some_has, bind_some, when_some, when_true, cond_has, cond_some}
-use Rattle.logic_laws.proofs.SortTests.{is_sort, sort_is}
+use Rattle.logic_laws.proofs.Options.{all_true, some_has, bind_some, when_some, cond_has, cond_some}
+use Rattle.logic_laws.proofs.SortTests.{sort_is}
 use Rattle.logic_laws.proofs.SumSorts.{first_int, sum_sort, affine_sort}
 use Rattle.logic_laws.proofs.FormulaSorts.{part_of_negation, parts_of_equal}
 use Rattle.logic_laws.proofs.SameValue.{same_equal}
@@ -67,22 +67,22 @@ module _ (vars : List Kind) (defs : List Def) where
       let k_int : int ≡ k = cc in
       let rest : Sort (rest_of s t) int = sum_sort vars defs (without t s.parts) s.rest [] (without_numbers t s.parts h) in
       subst (Sort u) k_int (cond_some (λ x. Sort x int) (int_eq p.0 (pos 1)) (affine (negsuc 0) (rest_of s t) (pos 0)) (cond (int_eq p.0 (negsuc 0)) (Some (rest_of s t)) None) u p.2
-          (λ _ a. affine_sort vars defs (negsuc 0) (rest_of s t) (pos 0) u [] rest a)
-          (λ _ g. cond_some (λ x. Sort x int) (int_eq p.0 (negsuc 0)) (Some (rest_of s t)) None u g (λ _ a. some_has (λ x. Sort x int) (rest_of s t) u a rest) (λ _ a. absurd (cc))))
+      (λ _ a. affine_sort vars defs (negsuc 0) (rest_of s t) (pos 0) u [] rest a)
+      (λ _ g. cond_some (λ x. Sort x int) (int_eq p.0 (negsuc 0)) (Some (rest_of s t)) None u g (λ _ a. some_has (λ x. Sort x int) (rest_of s t) u a rest) (λ _ a. absurd (cc))))
 
   other_side_sort : (a b t u : Tree) (j k : Kind) → Sort a j → Sort b j → Sort t k → other_side a b t ≡ Some u → Sort u k
   other_side_sort a b t u j k sa sb st e = cond_some (λ x. Sort x k) (same_term a t) (Some b) (cond (same_term b t) (Some a) None) u e
       (λ s g. let at_a : Sort a k = subst (λ x. Sort x k) (sym (same_is_equal a t s)) st in some_has (λ x. Sort x k) b u g (cc))
       (λ _ g. cond_some (λ x. Sort x k) (same_term b t) (Some a) None u g
-          (λ s f. let at_b : Sort b k = subst (λ x. Sort x k) (sym (same_is_equal b t s)) st in some_has (λ x. Sort x k) a u f (cc))
-          (λ _ f. absurd (cc)))
+      (λ s f. let at_b : Sort b k = subst (λ x. Sort x k) (sym (same_is_equal b t s)) st in some_has (λ x. Sort x k) a u f (cc))
+      (λ _ f. absurd (cc)))
 
   by_equation_sort : (g t u : Tree) (k : Kind) → Sort g boolean → Sort t k → by_equation g t ≡ Some u → Sort u k
   by_equation_sort (equal d z) t u k sg st e = let p = parts_of_equal vars defs d z [] boolean sg in
       cond_some (λ x. Sort x k) (is_zero z) (solved (sum_of d) t) (other_side d z t) u e
-          (λ zero g. let number : p.0 ≡ int = (let a : Sort (num (pos 0)) p.0 = subst (λ x. Sort x p.0) (zero_side z zero) p.2 in cc) in
-              solved_sort (sum_of d) t u k (sum_numbers d (subst (Sort d) number p.1)) st g)
-          (λ _ g. other_side_sort d z t u p.0 k p.1 p.2 st g)
+      (λ zero g. let number : p.0 ≡ int = (let a : Sort (num (pos 0)) p.0 = subst (λ x. Sort x p.0) (zero_side z zero) p.2 in cc) in
+      solved_sort (sum_of d) t u k (sum_numbers d (subst (Sort d) number p.1)) st g)
+      (λ _ g. other_side_sort d z t u p.0 k p.1 p.2 st g)
   by_equation_sort g t u k sg st e = absurd (cc)
 
   truth_sort : (x : Bool) (g t u : Tree) (k : Kind) → Sort g boolean → Sort t k → same_term g t ≡ true → Some (truth x) ≡ Some u → Sort u k
@@ -144,22 +144,25 @@ module _ (vars : List Kind) (defs : List Def) (bodies : IsTrue (bodies_sorted va
       let q = parted frees (calls_of frees defs) t s.parts p.0 n p.1 gs in
       let sum : ((p.0 *ℤ int_of q.0) +ℤ q.1) +ℤ s.rest ≡ pos 0 = ap (λ i. i +ℤ s.rest) (sym q.4) ∙ zero in
       let w : whole (int_of q.0) ≡ q.0 = number_value q.0 (value_sort vars defs bodies frees fit t int q.0 number q.2) in
-      let r : Has defs frees (rest_of s t) (whole (q.1 +ℤ s.rest)) = linear_gives vars defs frees (calls_of frees defs) (has_defined frees defs) (keeps_defined frees defs) fit (call_sorts vars defs bodies frees fit) (record { parts = without t s.parts; rest = s.rest }) [] [] (q.1 +ℤ s.rest) others refl (q.1, q.3, refl) in
-      (q.0, q.2, cond_some (λ x. Has defs frees x q.0) (int_eq p.0 (pos 1)) (affine (negsuc 0) (rest_of s t) (pos 0)) (cond (int_eq p.0 (negsuc 0)) (Some (rest_of s t)) None) u p.2
-          (λ up a. let unit : p.0 ≡ pos 1 = (Decides-int_eq p.0 (pos 1)).0 up in
-              subst (Has defs frees u) (ap whole (solved_up p.0 (int_of q.0) q.1 s.rest unit sum) ∙ w)
-                (affine_gives vars defs frees (calls_of frees defs) (has_defined frees defs) (keeps_defined frees defs) fit (call_sorts vars defs bodies frees fit) (negsuc 0) (rest_of s t) (pos 0) u [] [] (whole (q.1 +ℤ s.rest)) rest refl r a))
-          (λ _ g. cond_some (λ x. Has defs frees x q.0) (int_eq p.0 (negsuc 0)) (Some (rest_of s t)) None u g
-              (λ down a. let unit : p.0 ≡ negsuc 0 = (Decides-int_eq p.0 (negsuc 0)).0 down in
-                  some_has (λ x. Has defs frees x q.0) (rest_of s t) u a (subst (Has defs frees (rest_of s t)) (ap whole (solved_down p.0 (int_of q.0) q.1 s.rest unit sum) ∙ w) r))
-              (λ _ a. absurd (cc))))
+      let r : Has defs frees (rest_of s t) (whole (q.1 +ℤ s.rest)) = linear_gives vars defs frees (calls_of frees defs) (has_defined frees defs) (keeps_defined frees defs) fit (call_sorts vars defs bodies frees fit) (record { parts = without t s.parts; rest = s.rest }) [] [] (q.1 +ℤ s.rest) others refl (q.1, q.3, refl) in (
+        q.0,
+        q.2,
+        cond_some (λ x. Has defs frees x q.0) (int_eq p.0 (pos 1)) (affine (negsuc 0) (rest_of s t) (pos 0)) (cond (int_eq p.0 (negsuc 0)) (Some (rest_of s t)) None) u p.2
+            (λ up a. let unit : p.0 ≡ pos 1 = (Decides-int_eq p.0 (pos 1)).0 up in
+            subst (Has defs frees u) (ap whole (solved_up p.0 (int_of q.0) q.1 s.rest unit sum) ∙ w)
+            (affine_gives vars defs frees (calls_of frees defs) (has_defined frees defs) (keeps_defined frees defs) fit (call_sorts vars defs bodies frees fit) (negsuc 0) (rest_of s t) (pos 0) u [] [] (whole (q.1 +ℤ s.rest)) rest refl r a))
+            (λ _ g. cond_some (λ x. Has defs frees x q.0) (int_eq p.0 (negsuc 0)) (Some (rest_of s t)) None u g
+            (λ down a. let unit : p.0 ≡ negsuc 0 = (Decides-int_eq p.0 (negsuc 0)).0 down in
+            some_has (λ x. Has defs frees x q.0) (rest_of s t) u a (subst (Has defs frees (rest_of s t)) (ap whole (solved_down p.0 (int_of q.0) q.1 s.rest unit sum) ∙ w) r))
+            (λ _ a. absurd (cc))),
+      )
 
   other_side_shared : (a b t u : Tree) (v : Value) → Has defs frees a v → Has defs frees b v → other_side a b t ≡ Some u → Shared t u
   other_side_shared a b t u v ha hb e = cond_some (λ x. Shared t x) (same_term a t) (Some b) (cond (same_term b t) (Some a) None) u e
       (λ s g. some_has (λ x. Shared t x) b u g (v, subst (λ x. Has defs frees x v) (same_is_equal a t s) ha, hb))
       (λ _ g. cond_some (λ x. Shared t x) (same_term b t) (Some a) None u g
-          (λ s f. some_has (λ x. Shared t x) a u f (v, subst (λ x. Has defs frees x v) (same_is_equal b t s) hb, ha))
-          (λ _ f. absurd (cc)))
+      (λ s f. some_has (λ x. Shared t x) a u f (v, subst (λ x. Has defs frees x v) (same_is_equal b t s) hb, ha))
+      (λ _ f. absurd (cc)))
 
   itself_shared : (g t u : Tree) → Has defs frees g (flag true) → cond (same_term g t) (Some (truth true)) None ≡ Some u → Shared t u
   itself_shared g t u h e = cond_some (λ x. Shared t x) (same_term g t) (Some (truth true)) None u e
@@ -169,7 +172,7 @@ module _ (vars : List Kind) (defs : List Def) (bodies : IsTrue (bodies_sorted va
   by_truth_shared : (g t u : Tree) → Sort vars defs g boolean → Has defs frees g (flag true) → by_truth g t ≡ Some u → Shared t u
   by_truth_shared (negation a) t u sg h e = cond_some (λ x. Shared t x) (same_term a t) (Some (truth false)) (cond (same_term (negation a) t) (Some (truth true)) None) u e
       (λ s f. let is_false : h.0 ≡ flag false = false_value h.0 (value_sort vars defs bodies frees fit a boolean h.0 (part_of_negation vars defs a [] boolean sg) h.1) (sym (ap holds h.2)) in
-          some_has (λ x. Shared t x) (truth false) u f (flag false, subst (λ x. Has defs frees x (flag false)) (same_is_equal a t s) (subst (Has defs frees a) is_false h.1), refl))
+      some_has (λ x. Shared t x) (truth false) u f (flag false, subst (λ x. Has defs frees x (flag false)) (same_is_equal a t s) (subst (Has defs frees a) is_false h.1), refl))
       (λ _ f. itself_shared (negation a) t u h f)
   by_truth_shared g t u sg h e = itself_shared g t u h e
 
@@ -178,12 +181,12 @@ module _ (vars : List Kind) (defs : List Def) (bodies : IsTrue (bodies_sorted va
       let p = parts_of_equal vars defs d z [] boolean sg in
       let one : h.0 ≡ h.1 = same_equal h.0 h.1 (sym (ap holds h.4)) in
       cond_some (λ x. Shared t x) (is_zero z) (solved (sum_of d) t) (other_side d z t) u e
-          (λ zero g. let is_number : z ≡ num (pos 0) = zero_side z zero in
-              let number : p.0 ≡ int = (let a : Sort vars defs (num (pos 0)) p.0 = subst (λ x. Sort vars defs x p.0) is_number p.2 in cc) in
-              let at_zero : h.1 ≡ whole (pos 0) = subst (λ x. Has defs frees x h.1) is_number h.3 in
-              let sum = zero_sum frees (calls_of frees defs) d h.0 h.2 (one ∙ at_zero) in
-              solved_shared (sum_of d) t u sum.0 (sum_numbers vars defs d (subst (Sort vars defs d) number p.1)) sum.1 sum.2 g)
-          (λ _ g. other_side_shared d z t u h.0 h.2 (subst (Has defs frees z) (sym one) h.3) g)
+      (λ zero g. let is_number : z ≡ num (pos 0) = zero_side z zero in
+      let number : p.0 ≡ int = (let a : Sort vars defs (num (pos 0)) p.0 = subst (λ x. Sort vars defs x p.0) is_number p.2 in cc) in
+      let at_zero : h.1 ≡ whole (pos 0) = subst (λ x. Has defs frees x h.1) is_number h.3 in
+      let sum = zero_sum frees (calls_of frees defs) d h.0 h.2 (one ∙ at_zero) in
+      solved_shared (sum_of d) t u sum.0 (sum_numbers vars defs d (subst (Sort vars defs d) number p.1)) sum.1 sum.2 g)
+      (λ _ g. other_side_shared d z t u h.0 h.2 (subst (Has defs frees z) (sym one) h.3) g)
   by_equation_shared g t u sg h e = absurd (cc)
 
   -- what a fact that holds says a term is equal to has the term's value

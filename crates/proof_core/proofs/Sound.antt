@@ -2,11 +2,10 @@
 use Rattle.std.proofs.Common.{subst, List, [], ◌∷◌}
 use Rattle.std.specs.Prelude.{All}
 use Rattle.std.proofs.lemmas.List.Elements.{All-nil, All-cons, All-head, All-tail}
-use Rattle.logic_core.specs.Def.{Def, Obligation}
-use Rattle.logic_core.specs.Valid.{Valid}
+use Rattle.logic_core.specs.Def.{Def}
 use Rattle.proof_core.specs.Proof.{Step, by_split, by_replace, by_unfold, Proof, proof, Proofs, no_proofs, one_proof, End, by_close, by_cases}
 use Rattle.proof_core.specs.Context.{Context}
-use Rattle.proof_core.specs.Accepted.{Leads, Refutes, Ends, RefuteEach, IsAccepted}
+use Rattle.proof_core.specs.Accepted.{Leads, Refutes, Ends, RefuteEach}
 use Rattle.proof_core.specs.Soundness.{IsSorted, IsUnsatisfiable, StepIsSound, AcceptanceIsSound}
 use Rattle.proof_core.proofs.Rules.{split_is_sound, replace_is_sound, unfold_is_sound, cases_are_sound, close_is_sound, start_is_sound}
 

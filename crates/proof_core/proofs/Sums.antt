@@ -1,5 +1,5 @@
 -- The value of a sum: an atom's multiple and the rest.
-use Rattle.std.proofs.Common.{◌≡◌, ◌∙◌, refl, sym, ap, subst, ℤ, pos, ◌+ℤ◌, ◌*ℤ◌, Bool, true, false, cond, Option, Some, None, List, [], arith}
+use Rattle.std.proofs.Common.{◌≡◌, ◌∙◌, refl, sym, ap, subst, ℤ, pos, ◌+ℤ◌, ◌*ℤ◌, Bool, true, false, cond, Some, List, [], arith}
 use Rattle.std.proofs.lemmas.Int.{ints}
 use Rattle.logic_core.specs.Tree.{Tree, num, linear, Parts, no_parts, part}
 use Rattle.logic_core.specs.Value.{Value, whole, int_of}
