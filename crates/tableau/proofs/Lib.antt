@@ -1,2 +1,4 @@
 mod SearchExamples
 pub mod Turns
+pub mod Reversed
+pub mod Moves

@@ -1,6 +1,9 @@
 // The search for a proof.
 #![tactic(auto)]
 
+pub mod assembly;
 pub mod branch;
 pub mod change;
 pub mod fact;
+pub mod partial;
+pub mod played;
