@@ -2,3 +2,4 @@ mod SearchExamples
 pub mod Turns
 pub mod Reversed
 pub mod Moves
+pub mod Found

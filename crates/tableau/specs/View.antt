@@ -43,3 +43,13 @@ partial_of p = proofs.proof (steps_of (reverse p.steps.items)) (end_of p.end)
 -- the proofs under way of a stack whose top is its end
 abbrev pub partials_of : List PartialProof → List proofs.Proof
 partials_of ps = map partial_of (reverse ps)
+
+-- the place of a fact that is found
+abbrev pub place_of : {A : Type 0} → Option (branch.At A) → Option ℕ
+place_of None = None
+place_of (Some a) = Some a.at
+
+-- the place of a fact, and what is found in it
+abbrev pub found_at : {A : Type 0} → Option (branch.At A) → Option (ℕ × A)
+found_at None = None
+found_at (Some a) = Some (a.at, a.what)

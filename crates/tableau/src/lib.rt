@@ -5,5 +5,8 @@ pub mod assembly;
 pub mod branch;
 pub mod change;
 pub mod fact;
+pub mod oldest;
+pub mod oriented;
+pub mod outside;
 pub mod partial;
 pub mod played;
