@@ -1,0 +1,49 @@
+-- Lists made item by item in a loop: what is made so far, and then what the rest gives, is what the whole list gives.
+use Rattle.std.proofs.Common.{◌≡◌, ◌∙◌, refl, sym, ap, ℕ, ◌+◌, ◌<◌, ◌≤◌, ℤ, Vec, Option, Some, None, option_map, List, [], ◌∷◌, ◌++◌, length, get_or, drop}
+use Rattle.std.proofs.lemmas.List.{at_drop_more, at_drop_all}
+use Rattle.std.specs.declared.alloc.Global.{Global}
+use Rattle.logic_core.specs.Tree.{Tree, Trees, no_trees, tree, Parts, no_parts, part, Patterns, no_patterns, pattern}
+use Rattle.logic_core.specs.View.{trees_of, parts_of, patterns_of, each_items}
+use Rattle.logic_core.specs.Wide.{◌>>=◌}
+
+-- the items of the list in front of a value
+abbrev pub before : {B R : Type 0} → (B → R → R) → List B → R → R
+before cons [] r = r
+before cons (b ∷ bs) r = cons b (before cons bs r)
+
+abbrev pub tree_before : Tree → Trees → Trees
+tree_before t us = tree t us
+
+abbrev pub part_before : ℤ × Tree → Parts → Parts
+part_before p qs = part p.0 p.1 qs
+
+abbrev pub pattern_before : Vec Tree Global → Patterns → Patterns
+pattern_before p qs = pattern (trees_of p.items) qs
+
+-- in front of nothing
+pub trees_before_none : (ts : List Tree) → before tree_before ts no_trees ≡ trees_of ts
+trees_before_none [] = refl
+trees_before_none (t ∷ ts) = ap (tree t) (trees_before_none ts)
+
+pub parts_before_none : (ps : List (ℤ × Tree)) → before part_before ps no_parts ≡ parts_of ps
+parts_before_none [] = refl
+parts_before_none (p ∷ ps) = ap (part p.0 p.1) (parts_before_none ps)
+
+pub patterns_before_none : (ps : List (Vec Tree Global)) → before pattern_before ps no_patterns ≡ patterns_of (each_items ps)
+patterns_before_none [] = refl
+patterns_before_none (p ∷ ps) = ap (pattern (trees_of p.items)) (patterns_before_none ps)
+
+-- one item more
+pub before_push : {B R : Type 0} (cons : B → R → R) (bs : List B) (b : B) (r : R) → before cons (bs ++ b ∷ []) r ≡ before cons bs (cons b r)
+before_push cons [] b r = refl
+before_push cons (c ∷ bs) b r = ap (cons c) (before_push cons bs b r)
+
+-- a step of the loop: the next item x of the list is turned into y
+pub made_more : {A B R : Type 0} (cons : B → R → R) (F : List A → R) (xs : List A) (made made' : List B) (i : ℕ) (x : A) (y : B) (whole : R) → i < length xs → x ≡ get_or xs i x → made' ≡ made ++ y ∷ [] → before cons made (F (drop i xs)) ≡ whole → F (x ∷ drop (i + 1) xs) ≡ cons y (F (drop (i + 1) xs)) → before cons made' (F (drop (i + 1) xs)) ≡ whole
+made_more cons F xs made made' i x y whole within is pushed so_far gives =
+    let here : F (drop i xs) ≡ F (x ∷ drop (i + 1) xs) = at_drop_more F xs i x within ∙ ap (λ z. F (z ∷ drop (i + 1) xs)) (sym is) in
+    ap (λ zs. before cons zs (F (drop (i + 1) xs))) pushed ∙ before_push cons made y (F (drop (i + 1) xs)) ∙ ap (before cons made) (sym (here ∙ gives)) ∙ so_far
+
+-- its end
+pub made_all : {A B R : Type 0} (cons : B → R → R) (F : List A → R) (xs : List A) (made : List B) (i : ℕ) (whole : R) → length xs ≤ i → before cons made (F (drop i xs)) ≡ whole → before cons made (F []) ≡ whole
+made_all cons F xs made i whole past so_far = ap (before cons made) (sym (at_drop_all F xs i past)) ∙ so_far
