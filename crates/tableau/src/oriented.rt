@@ -1,7 +1,7 @@
 // Oriented facts: the left side of a fact.
-ghost use Rattle.std.specs.Prelude.{◌≡◌, ℕ, ◌&&◌, ◌||◌, nat_eq, Some};
+ghost use Rattle.std.specs.Prelude.{◌≡◌, ◌&&◌, ◌||◌, not, nat_eq, Some};
+ghost use Rattle.logic_core.specs.Wide.{when};
 ghost use Rattle.std.specs.Option.{option_copied};
-ghost use Rattle.logic_core.specs.Tree.{Tree};
 ghost use Rattle.logic_core.specs.Subterm.{has_quantifier, has_any, has_part, is_quantifier};
 ghost use Rattle.logic_core.specs.Junction.{is_zero};
 ghost use Rattle.logic_core.specs.View.{trees_of, parts_of};
@@ -147,15 +147,31 @@ fn solvable(parts: &[(i128, Term)]) -> Option<&Term>
     best
 }
 
+/// The atom of a part, where it isn't a variable and has coefficient 1.
+fn simple_atom(part: &(i128, Term)) -> Option<&Term>
+    ensures { option_copied result ≡ when (is_one part.now.0 && not (is_variable part.now.1)) (Some part.now.1) }
+{
+    if part.0 == 1 && !is_variable(&part.1) {
+        Some(&part.1)
+    } else {
+        None
+    }
+}
+
 /// The lead where it isn't a variable and has coefficient 1, and the rest is a number or one atom
 /// of coefficient 1.
 fn simple_lead(parts: &[(i128, Term)], rest: i128) -> Option<&Term>
     ensures { option_copied result ≡ simple_lead (parts_of parts.now) rest }
 {
     match parts {
-        [lead] if lead.0 == 1 && !is_variable(&lead.1) => Some(&lead.1),
-        [lead, other] if lead.0 == 1 && !is_variable(&lead.1) && other.0 == -1 && rest == 0 => {
-            Some(&lead.1)
+        [] => None,
+        [lead] => simple_atom(lead),
+        [lead, other] => {
+            if other.0 == -1 && rest == 0 {
+                simple_atom(lead)
+            } else {
+                None
+            }
         }
         _ => None,
     }
