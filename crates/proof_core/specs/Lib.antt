@@ -4,6 +4,7 @@ pub mod Says
 pub mod Steps
 pub mod Ends
 pub mod Accepted
+pub mod Soundness
 pub mod Codes
 pub mod View
 pub mod ProofView

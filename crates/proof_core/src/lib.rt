@@ -1,5 +1,9 @@
-// Proofs of obligations, and when one is accepted.
+// Proofs of obligations, when one is accepted, and that an accepted proof shows its goal.
 #![tactic(auto)]
 
 pub mod copy;
 pub mod proof;
+pub mod says;
+pub mod soundness;
+#[cfg(test)]
+mod tests;

@@ -1,0 +1,7 @@
+pub mod Assignment
+pub mod SortLaws
+pub mod ValueLaws
+pub mod NormalLaws
+pub mod ReplaceLaws
+pub mod BinderLaws
+pub mod VariableLaws

@@ -1,0 +1,58 @@
+-- What each rule has to keep, so that an accepted proof shows its goal: where no assignment makes all facts hold after a rule, none does before it.
+use Rattle.std.specs.Prelude.{◌≡◌, ℕ, IsTrue, Some, List, [], All}
+use Rattle.logic_core.specs.Tree.{Kind, boolean, Tree}
+use Rattle.logic_core.specs.Value.{Value, are_of}
+use Rattle.logic_core.specs.Def.{Def, Obligation}
+use Rattle.logic_core.specs.Meaning.{Holds}
+use Rattle.logic_core.specs.Valid.{Valid, calls_of}
+use Rattle.logic_core.specs.Sorts.{sort_of, bodies_sorted}
+use Rattle.proof_core.specs.Proof.{Step, by_split, by_replace, by_unfold, Proof}
+use Rattle.proof_core.specs.Context.{Context, start}
+use Rattle.proof_core.specs.Steps.{after_step}
+use Rattle.proof_core.specs.Ends.{closes, after_cases}
+use Rattle.proof_core.specs.Accepted.{IsAccepted}
+
+-- a closed, well-sorted term of Bool over these variables and definitions
+abbrev pub IsFormula : List Kind → List Def → Tree → Type 0
+IsFormula vars defs t = sort_of vars defs [] t ≡ Some boolean
+
+pub record IsWellSorted (o : Obligation) : Type 0 where
+  pub definitions : IsTrue (bodies_sorted o.vars [] o.defs)
+  pub axioms : All (IsFormula o.vars o.defs) o.axioms
+  pub goal : IsFormula o.vars o.defs o.goal
+
+pub record IsSorted (defs : List Def) (c : Context) : Type 0 where
+  pub definitions : IsTrue (bodies_sorted c.vars [] defs)
+  pub facts : All (IsFormula c.vars defs) c.facts
+
+-- no assignment makes all facts hold
+abbrev pub IsUnsatisfiable : List Def → Context → Type 0
+IsUnsatisfiable defs c = (frees : List Value) → IsTrue (are_of c.vars frees) → ¬ All (λ t. Holds frees (calls_of frees defs) t []) c.facts
+
+-- a step: facts stay formulas, and a refuted context after it refutes the one before it
+abbrev pub StepIsSound : Step → Type 0
+StepIsSound s = (defs : List Def) (c d : Context) → IsSorted defs c → after_step defs c s ≡ Some d → IsSorted defs d × (IsUnsatisfiable defs d → IsUnsatisfiable defs c)
+
+abbrev pub SplitIsSound : Type 0
+SplitIsSound = (f : ℕ) → StepIsSound (by_split f)
+
+abbrev pub ReplaceIsSound : Type 0
+ReplaceIsSound = (f g : ℕ) (t : Tree) → StepIsSound (by_replace f g t)
+
+abbrev pub UnfoldIsSound : Type 0
+UnfoldIsSound = (f : ℕ) (t : Tree) → StepIsSound (by_unfold f t)
+
+-- a split into cases: where each child is refuted, so is the context before it
+abbrev pub CasesAreSound : Type 0
+CasesAreSound = (f : ℕ) (defs : List Def) (c : Context) (ds : List Context) → IsSorted defs c → after_cases defs c f ≡ Some ds → All (IsSorted defs) ds × (All (IsUnsatisfiable defs) ds → IsUnsatisfiable defs c)
+
+abbrev pub CloseIsSound : Type 0
+CloseIsSound = (f g : ℕ) (defs : List Def) (c : Context) → IsSorted defs c → IsTrue (closes c f g) → IsUnsatisfiable defs c
+
+-- the facts at the start are refuted only where the goal is valid
+abbrev pub StartIsSound : Type 0
+StartIsSound = (o : Obligation) (c : Context) → IsWellSorted o → start o ≡ Some c → IsSorted o.defs c × (IsUnsatisfiable o.defs c → Valid o)
+
+-- an accepted proof shows its goal
+abbrev pub AcceptanceIsSound : Type 0
+AcceptanceIsSound = (o : Obligation) (p : Proof) → IsWellSorted o → IsAccepted o p → Valid o
