@@ -7,3 +7,5 @@ pub mod Tracked
 pub mod OutsideSorts
 pub mod Outcomes
 pub mod RulesGo
+pub mod RewritesGo
+pub mod Refuting

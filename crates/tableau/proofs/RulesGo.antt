@@ -83,7 +83,7 @@ neither : (a b : Bool) → (a || b) ≡ false → (a ≡ false) × (b ≡ false)
 neither true b h = absurd (cc)
 neither false b h = (refl, h)
 
-second : (a b : Bool) → b ≡ true → (a || b) ≡ true
+pub second : (a b : Bool) → b ≡ true → (a || b) ≡ true
 second true b h = refl
 second false b h = h
 
@@ -123,7 +123,7 @@ module _ (defs : List Def) where
           (λ _. close_by_goes c p.0 p.1 pair.0 pair.1 pair.2) (λ _. close_by_goes c p.1 p.0 pair.1 pair.0 (turned p.0 p.1 pair.2)))
 
 -- a rule that is applied at the oldest fact in which something is found
-found_at_oldest : {A : Type 0} (test : Fact → Option A) (apply : At A → Option Move) (b : Branch) (m : Move)
+pub found_at_oldest : {A : Type 0} (test : Fact → Option A) (apply : At A → Option Move) (b : Branch) (m : Move)
     → ◌≡◌ {A = Attempt Move} (elim (oldest test b) [ None ↦ none | Some a ↦ unless_wide (apply a) ]) (gives m) → (a : At A) × (oldest test b ≡ Some a) × (apply a ≡ Some m)
 found_at_oldest {A} test apply b m h = at_oldest (oldest test b) refl h
   where
@@ -136,7 +136,7 @@ found_at_oldest {A} test apply b m h = at_oldest (oldest test b) refl h
     at_oldest (Some a) e k = (a, e, at_gives (apply a) k)
 
 -- a move that goes on in one context
-on_one_goes : (defs : List Def) (c d : Context) (n : Made) (ss : List Step) → n.steps ≡ ss → Leads defs c ss d → Tracks n.branch d → IsSorted defs d → Outcome defs c (on_one n)
+pub on_one_goes : (defs : List Def) (c d : Context) (n : Made) (ss : List Step) → n.steps ≡ ss → Leads defs c ss d → Tracks n.branch d → IsSorted defs d → Outcome defs c (on_one n)
 on_one_goes defs c d n ss e leads tracks sorted = record { contexts = d ∷ []; goes = (ss, d, ap (λ xs. xs ∷ []) e, refl, leads); placed = (record { tracks = tracks; sorted = sorted }, tt) }
 
 -- flatten

@@ -32,6 +32,9 @@ pub get_last : {A : Type 0} (xs ys : List A) (y : A) → slice_get (xs ++ y ∷ 
 get_last [] ys y = refl
 get_last (x ∷ xs) ys y = get_last xs ys y
 
+pub get_next : {A : Type 0} (xs : List A) (y : A) (n : ℕ) → n ≡ length xs → slice_get (xs ++ y ∷ []) n ≡ Some y
+get_next xs y n e = rw e (get_last xs [] y)
+
 -- more facts
 abbrev pub with_facts : Context → List Tree → Context
 with_facts c ts = record { vars = c.vars; facts = c.facts ++ ts }

@@ -1,9 +1,11 @@
 -- The search: a step applies the first rule that can be applied, on the top branch; the verdict, and the proof made of the steps' nodes.
-use Rattle.std.specs.Prelude.{ℕ, zero, suc, ◌+◌, ◌-◌, nat_lt, true, false, Option, Some, None, List, [], ◌∷◌, ◌++◌, length, drop, slice_get}
+use Rattle.std.specs.Prelude.{◌≡◌, ℕ, zero, suc, ◌+◌, ◌-◌, nat_lt, true, false, Option, Some, None, List, [], ◌∷◌, ◌++◌, length, drop, slice_get}
 use Rattle.logic_core.specs.Def.{Def, Obligation}
 use Rattle.proof_core.specs.Proof.{Step, Proof, proof, by_close, by_cases}
 use Rattle.proof_core.specs.View.{proofs_of}
 use Rattle.proof_core.specs.Context.{Context, start}
+use Rattle.proof_core.specs.Accepted.{IsAccepted}
+use Rattle.proof_core.specs.Soundness.{IsWellSorted}
 use Rattle.tableau.specs.Branch.{Branch, Attempt, none, leaves, gives, numbered}
 use Rattle.tableau.specs.Move.{Ending, goes_on, closes, forks, Move, cost, branches_of, Played, played}
 use Rattle.tableau.specs.Closing.{close, flatten}
@@ -101,3 +103,7 @@ answer o n = elim (start o) [
   | None ↦ record { verdict = wide; found = None }
   | Some c ↦ answer_of (run o.defs n n (first_branch c ∷ []))
 ]
+
+-- the proof that is found for a well-sorted obligation is accepted
+abbrev pub FindsAccepted : Type 0
+FindsAccepted = (o : Obligation) (n : ℕ) (p : Proof) → IsWellSorted o → (answer o n).found ≡ Some p → IsAccepted o p

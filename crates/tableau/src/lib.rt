@@ -5,6 +5,7 @@ pub mod assembly;
 pub mod branch;
 pub mod change;
 pub mod fact;
+pub mod laws;
 pub mod oldest;
 pub mod oriented;
 pub mod outside;
