@@ -1,24 +1,10 @@
 -- Lists made item by item in a loop: what is made so far, and then what the rest gives, is what the whole list gives.
-use Rattle.std.proofs.Common.{◌≡◌, ◌∙◌, refl, sym, ap, ℕ, ◌+◌, ◌<◌, ◌≤◌, ℤ, Vec, Option, Some, None, option_map, List, [], ◌∷◌, ◌++◌, length, get_or, drop}
+use Rattle.std.proofs.Common.{◌≡◌, ◌∙◌, refl, sym, ap, ℕ, ◌+◌, ◌<◌, ◌≤◌, ℤ, Vec, List, [], ◌∷◌, ◌++◌, length, get_or, drop}
 use Rattle.std.proofs.lemmas.List.{at_drop_more, at_drop_all}
 use Rattle.std.specs.declared.alloc.Global.{Global}
-use Rattle.logic_core.specs.Tree.{Tree, Trees, no_trees, tree, Parts, no_parts, part, Patterns, no_patterns, pattern}
+use Rattle.logic_core.specs.Tree.{Tree, no_trees, tree, no_parts, part, no_patterns, pattern}
 use Rattle.logic_core.specs.View.{trees_of, parts_of, patterns_of, each_items}
-use Rattle.logic_core.specs.Wide.{◌>>=◌}
-
--- the items of the list in front of a value
-abbrev pub before : {B R : Type 0} → (B → R → R) → List B → R → R
-before cons [] r = r
-before cons (b ∷ bs) r = cons b (before cons bs r)
-
-abbrev pub tree_before : Tree → Trees → Trees
-tree_before t us = tree t us
-
-abbrev pub part_before : ℤ × Tree → Parts → Parts
-part_before p qs = part p.0 p.1 qs
-
-abbrev pub pattern_before : Vec Tree Global → Patterns → Patterns
-pattern_before p qs = pattern (trees_of p.items) qs
+use Rattle.logic_core.specs.Before.{before, tree_before, part_before, pattern_before}
 
 -- in front of nothing
 pub trees_before_none : (ts : List Tree) → before tree_before ts no_trees ≡ trees_of ts
