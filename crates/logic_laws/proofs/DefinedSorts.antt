@@ -1,19 +1,18 @@
 -- Calls of well-sorted definitions have values of their sorts.
-use Rattle.std.proofs.Common.{◌≡◌, ◌∙◌, refl, sym, ap, subst, ℕ, zero, suc, ◌+◌, pos, nat_eq, eqb-true, eq-eqb, Bool, true, false, ◌&&◌, Option, Some, None, IsTrue, List, [], ◌∷◌, ◌++◌, reverse, slice_get, length, length-append, ◌⊎◌, inl, inr, ⊎_elim, arith, append_assoc, append-nil}
+use Rattle.std.proofs.Common.{◌≡◌, refl, sym, ap, subst, ℕ, zero, suc, ◌+◌, pos, nat_eq, eqb-true, eq-eqb, Bool, true, false, Some, IsTrue, List, [], ◌∷◌, ◌++◌, reverse, slice_get, length, length-append, ◌⊎◌, inl, inr, ⊎_elim, arith, append_assoc, append-nil}
 use Rattle.std.proofs.lemmas.Option.{slice_get_within}
 use Rattle.logic_core.specs.Tree.{Kind, Tree}
 use Rattle.logic_core.specs.Def.{Def}
 use Rattle.logic_core.specs.Value.{Value, whole, is_of, are_of}
-use Rattle.logic_core.specs.Meaning.{Said, If, With}
+use Rattle.logic_core.specs.Meaning.{If, With}
 use Rattle.logic_core.specs.Valid.{Calls, with_def, calls_from, calls_of}
 use Rattle.logic_core.specs.Sorts.{is, sort_of, bodies_sorted}
 use Rattle.logic_core.proofs.Values.{HasOne, one, chosen, has_value}
-use Rattle.logic_core.proofs.Kept.{Stable, Keeps, true_stable, keeps_if, keeps}
-use Rattle.logic_core.proofs.Defined.{has_defined, keeps_defined}
+use Rattle.logic_core.proofs.Kept.{Keeps, true_stable, keeps_if, keeps}
 use Rattle.logic_laws.proofs.Options.{both_true}
 use Rattle.logic_laws.proofs.SortTests.{is_sort}
 use Rattle.logic_laws.proofs.Tables.{are_of_reverse}
-use Rattle.logic_laws.proofs.Gives.{Gives, said, gives}
+use Rattle.logic_laws.proofs.Gives.{said, gives}
 use Rattle.logic_laws.proofs.ValueSorts.{CallsHaveSorts, gives_sort}
 
 -- an element of a list with one more at its end
@@ -45,8 +44,8 @@ module _ (vars : List Kind) (frees : List Value) (fits : are_of vars frees ≡ t
   one_more_sorts : (below : List Def) (n : ℕ) (d : Def) (calls : Calls) → ((f : ℕ) (vs : List Value) → HasOne (calls f vs)) → ((f : ℕ) (vs : List Value) → Keeps (calls f vs)) → n ≡ length below → is d.sort (sort_of vars below (reverse d.params) d.body) ≡ true → CallsHaveSorts below calls → CallsHaveSorts (below ++ d ∷ []) (with_def frees n d calls)
   one_more_sorts below n d calls has keep e s h f d' vs g a = ⊎_elim
       (λ p. if_true (nat_eq f n) (With frees calls d.body (reverse vs) (λ v. IsTrue (is_of d'.sort v))) (calls f vs (λ v. IsTrue (is_of d'.sort v))) (eq-eqb f n (let q = p.0 in omega arith))
-        (subst (λ c. With frees calls d.body (reverse vs) (λ v. IsTrue (is_of c.sort v))) p.1 (value_sort below calls has keep h d.body (reverse d.params) (reverse vs) d.sort
-          (is_sort d.sort (sort_of vars below (reverse d.params) d.body) s) (are_of_reverse d.params vs (subst (λ c. are_of c.params vs ≡ true) (sym p.1) a)))))
+      (subst (λ c. With frees calls d.body (reverse vs) (λ v. IsTrue (is_of c.sort v))) p.1 (value_sort below calls has keep h d.body (reverse d.params) (reverse vs) d.sort
+      (is_sort d.sort (sort_of vars below (reverse d.params) d.body) s) (are_of_reverse d.params vs (subst (λ c. are_of c.params vs ≡ true) (sym p.1) a)))))
       (λ p. if_false (nat_eq f n) (With frees calls d.body (reverse vs) (λ v. IsTrue (is_of d'.sort v))) (calls f vs (λ v. IsTrue (is_of d'.sort v))) (other_number (nat_eq f n) f n refl (λ q. let l = slice_get_within below f d' p in absurd (omega arith))) (h f d' vs p a))
       (last_or_before below d d' f g)
 
@@ -55,7 +54,7 @@ module _ (vars : List Kind) (frees : List Value) (fits : are_of vars frees ≡ t
   sorts_from (d ∷ ds) below n calls has keep e s h = let p = both_true (is d.sort (sort_of vars below (reverse d.params) d.body)) (bodies_sorted vars (below ++ d ∷ []) ds) s in
       subst (λ xs. CallsHaveSorts xs (calls_from frees n (d ∷ ds) calls)) (append_assoc below (d ∷ []) ds)
       (sorts_from ds (below ++ d ∷ []) (n + 1) (with_def frees n d calls) (λ f vs. chosen (nat_eq f n) (With frees calls d.body (reverse vs)) (calls f vs) (has_value frees calls has d.body (reverse vs)) (has f vs))
-        (λ f vs. keeps_if (nat_eq f n) (With frees calls d.body (reverse vs)) (calls f vs) (keeps frees calls keep d.body (reverse vs)) (keep f vs)) (let q = length-append below (d ∷ []) in omega (arith, q)) p.1 (one_more_sorts below n d calls has keep e p.0 h))
+      (λ f vs. keeps_if (nat_eq f n) (With frees calls d.body (reverse vs)) (calls f vs) (keeps frees calls keep d.body (reverse vs)) (keep f vs)) (let q = length-append below (d ∷ []) in omega (arith, q)) p.1 (one_more_sorts below n d calls has keep e p.0 h))
 
   pub defined_sorts : (defs : List Def) → bodies_sorted vars [] defs ≡ true → CallsHaveSorts defs (calls_of frees defs)
   defined_sorts defs s = sorts_from defs [] 0 (λ f args P. P (whole (pos 0))) (λ f vs. one (whole (pos 0))) (λ f vs P st. st (whole (pos 0))) refl s (λ f d vs e a. absurd (cc))

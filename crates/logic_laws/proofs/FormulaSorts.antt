@@ -1,6 +1,6 @@
 -- Junctions, negations and equations of well-sorted terms are formulas.
-use Rattle.std.proofs.Common.{◌≡◌, refl, sym, ap, subst, ℤ, pos, negsuc, Bool, true, false, ◌&&◌, not, cond, if◌then◌else◌, Option, Some, None, option_map, List, ◌++◌, reverse, int_eq}
-use Rattle.logic_core.specs.Tree.{Kind, int, boolean, map, Tree, num, truth, free, bound, linear, mul, read, write, choose, call, negation, all, some, equal, at_most, for_all, exists, Trees, no_trees, tree, Parts, no_parts, part, Patterns, no_patterns, pattern}
+use Rattle.std.proofs.Common.{◌≡◌, refl, sym, subst, pos, negsuc, Bool, true, false, ◌&&◌, not, if◌then◌else◌, Some, option_map, List, ◌++◌, reverse, int_eq}
+use Rattle.logic_core.specs.Tree.{Kind, int, boolean, map, Tree, num, truth, choose, negation, all, some, equal, at_most, for_all, exists, Trees, no_trees, tree, Patterns}
 use Rattle.logic_core.specs.Def.{Def}
 use Rattle.logic_core.specs.Wide.{◌>>=◌, when}
 use Rattle.logic_core.specs.Same.{same_term}

@@ -1,7 +1,7 @@
 -- The normal form of junctions, negations, equations and choices keeps their values.
-use Rattle.std.proofs.Common.{◌≡◌, ◌∙◌, refl, sym, ap, subst, ℕ, ℤ, pos, negsuc, ◌+ℤ◌, ◌*ℤ◌, int_le, int_eq, Bool, true, false, ◌&&◌, ◌||◌, not, cond, if◌then◌else◌, Option, Some, None, option_map, IsTrue, List, ◌++◌, reverse, ◌⊎◌, inl, inr, ⊎_elim}
+use Rattle.std.proofs.Common.{◌≡◌, ◌∙◌, refl, sym, ap, subst, ℕ, ℤ, pos, negsuc, ◌+ℤ◌, ◌*ℤ◌, int_le, int_eq, Bool, true, false, ◌&&◌, ◌||◌, not, cond, if◌then◌else◌, Some, option_map, IsTrue, List, ◌++◌, reverse, inl, inr}
 use Rattle.std.proofs.lemmas.Bool.Decides.{Decides-int_eq}
-use Rattle.logic_core.specs.Tree.{Kind, int, boolean, map, Tree, num, truth, free, bound, linear, mul, read, write, choose, call, negation, all, some, equal, at_most, for_all, exists, Trees, no_trees, tree, Parts, no_parts, part, Patterns, no_patterns, pattern}
+use Rattle.logic_core.specs.Tree.{Kind, int, boolean, map, Tree, num, truth, choose, negation, all, some, equal, at_most, for_all, exists, Trees, no_trees, tree, Patterns}
 use Rattle.logic_core.specs.Def.{Def}
 use Rattle.logic_core.specs.Value.{Value, whole, flag, int_of, holds, same, are_of}
 use Rattle.logic_core.specs.Meaning.{If, Holds}
@@ -17,7 +17,7 @@ use Rattle.logic_core.proofs.Kept.{Keeps, keeps, true_stable}
 use Rattle.logic_core.proofs.SameTerm.{same_is_equal}
 use Rattle.logic_laws.proofs.Integers as Z
 use Rattle.logic_laws.proofs.Booleans as B
-use Rattle.logic_laws.proofs.Options.{both_true, some_has, bind_some, map_some, when_some, cond_has, cond_some}
+use Rattle.logic_laws.proofs.Options.{some_has, bind_some, map_some, cond_has, cond_some}
 use Rattle.logic_laws.proofs.SumSorts.{in_order_has, difference_sort}
 use Rattle.logic_laws.proofs.FormulaSorts.{first_formula, parts_of_all, conjuncts_formulas, disjuncts_formulas, negated_formulas, part_of_negation, parts_of_at_most, parts_of_quantifier}
 use Rattle.logic_laws.proofs.SameValue.{equal_same, same_swap}
@@ -34,7 +34,7 @@ truth_found false (truth false) h = refl
 truth_found true t h = absurd (cc)
 truth_found false t h = absurd (cc)
 
-zero_found : (z : Tree) → is_zero z ≡ true → z ≡ num (pos 0)
+pub zero_found : (z : Tree) → is_zero z ≡ true → z ≡ num (pos 0)
 zero_found (num n) h = ap num ((Decides-int_eq n (pos 0)).0 h)
 zero_found z h = absurd (cc)
 
@@ -155,10 +155,14 @@ module _ (vars : List Kind) (defs : List Def) (frees : List Value) (calls : Call
   not_at_most_gives : (z d u : Tree) (bs : List Kind) (b : List Value) (r : Value) → sort_of vars defs bs (at_most z d) ≡ Some boolean → are_of bs b ≡ true → negated (at_most z d) ≡ Some u → Gives frees calls (at_most z d) b r → Gives frees calls u b (flag (not (holds r)))
   not_at_most_gives z d u bs b r s f e g = cond_some (λ x. Gives frees calls x b (flag (not (holds r)))) (is_zero z) (option_map (λ e. at_most z e) (affine (negsuc 0) d (negsuc 0))) (Some (negation (at_most z d))) u e
       (λ i q. let p = map_some (λ e. at_most z e) (affine (negsuc 0) d (negsuc 0)) u q in
-        let w : g.0 ≡ whole (pos 0) = subst (λ x. Gives frees calls x b g.0) (zero_found z i) g.2 in
-        subst (λ x. Gives frees calls x b (flag (not (holds r)))) p.2
-        (g.0, whole ((negsuc 0 *ℤ int_of g.1) +ℤ negsuc 0), g.2, affine_gives vars defs frees calls has_call keeps_call fits call_sorts (negsuc 0) d (negsuc 0) p.0 bs b g.1 (parts_of_at_most vars defs z d bs boolean s).1 f g.3 p.1,
-          ap (λ x. flag (not (holds x))) g.4 ∙ ap (λ x. flag (not (int_le (int_of x) (int_of g.1)))) w ∙ ap flag (sym (Z.not_at_least_zero (int_of g.1))) ∙ ap (λ x. flag (int_le (int_of x) ((negsuc 0 *ℤ int_of g.1) +ℤ negsuc 0))) (sym w)))
+      let w : g.0 ≡ whole (pos 0) = subst (λ x. Gives frees calls x b g.0) (zero_found z i) g.2 in
+      subst (λ x. Gives frees calls x b (flag (not (holds r)))) p.2 (
+        g.0,
+        whole ((negsuc 0 *ℤ int_of g.1) +ℤ negsuc 0),
+        g.2,
+        affine_gives vars defs frees calls has_call keeps_call fits call_sorts (negsuc 0) d (negsuc 0) p.0 bs b g.1 (parts_of_at_most vars defs z d bs boolean s).1 f g.3 p.1,
+        ap (λ x. flag (not (holds x))) g.4 ∙ ap (λ x. flag (not (int_le (int_of x) (int_of g.1)))) w ∙ ap flag (sym (Z.not_at_least_zero (int_of g.1))) ∙ ap (λ x. flag (int_le (int_of x) ((negsuc 0 *ℤ int_of g.1) +ℤ negsuc 0))) (sym w),
+      ))
       (λ _ q. some_has (λ x. Gives frees calls x b (flag (not (holds r)))) (negation (at_most z d)) u q (r, g, refl))
 
   mutual
@@ -200,9 +204,14 @@ module _ (vars : List Kind) (defs : List Def) (frees : List Value) (calls : Call
       let p = map_some (λ e. equal e (num (pos 0))) (if has_negative_lead d then affine (negsuc 0) d (pos 0) else Some d) u e in
       subst (λ x. Gives frees calls x b (flag (int_eq m (pos 0)))) p.2
       (cond_some (λ x. Gives frees calls (equal x (num (pos 0))) b (flag (int_eq m (pos 0)))) (has_negative_lead d) (affine (negsuc 0) d (pos 0)) (Some d) p.0 p.1
-        (λ _ q. (whole ((negsuc 0 *ℤ m) +ℤ pos 0), whole (pos 0), affine_gives vars defs frees calls has_call keeps_call fits call_sorts (negsuc 0) d (pos 0) p.0 bs b (whole m) s f g q, refl,
-          ap flag (sym (Z.negative_zero m)) ∙ ap (λ x. flag (int_eq x (pos 0))) (sym (Z.plus_zero (negsuc 0 *ℤ m)))))
-        (λ _ q. some_has (λ x. Gives frees calls (equal x (num (pos 0))) b (flag (int_eq m (pos 0)))) d p.0 q (whole m, whole (pos 0), g, refl, refl)))
+      (λ _ q. (
+        whole ((negsuc 0 *ℤ m) +ℤ pos 0),
+        whole (pos 0),
+        affine_gives vars defs frees calls has_call keeps_call fits call_sorts (negsuc 0) d (pos 0) p.0 bs b (whole m) s f g q,
+        refl,
+        ap flag (sym (Z.negative_zero m)) ∙ ap (λ x. flag (int_eq x (pos 0))) (sym (Z.plus_zero (negsuc 0 *ℤ m))),
+      ))
+      (λ _ q. some_has (λ x. Gives frees calls (equal x (num (pos 0))) b (flag (int_eq m (pos 0)))) d p.0 q (whole m, whole (pos 0), g, refl, refl)))
 
   equals_zero_gives : (d u : Tree) (bs : List Kind) (b : List Value) (m : ℤ) → sort_of vars defs bs d ≡ Some int → are_of bs b ≡ true → Gives frees calls d b (whole m) → equals_zero d ≡ Some u → Gives frees calls u b (flag (int_eq m (pos 0)))
   equals_zero_gives (num n) u bs b m s f g e = some_has (λ x. Gives frees calls x b (flag (int_eq m (pos 0)))) (truth (int_eq n (pos 0))) u e (ap (λ x. flag (int_eq (int_of x) (pos 0))) g)

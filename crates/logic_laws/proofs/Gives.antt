@@ -2,7 +2,7 @@
 use Rattle.std.proofs.Common.{◌≡◌, refl, sym, subst, ℕ, ℤ, pos, ◌+ℤ◌, ◌*ℤ◌, int_le, Bool, true, false, ◌&&◌, ◌||◌, not, IsTrue, List, [], ◌∷◌, ◌++◌, reverse, ◌⊎◌, inl, inr}
 use Rattle.logic_core.specs.Tree.{Kind, Tree, num, truth, free, bound, linear, mul, read, write, choose, call, negation, all, some, equal, at_most, for_all, exists, Trees, no_trees, tree, Parts, no_parts, part}
 use Rattle.logic_core.specs.Value.{Value, whole, flag, int_of, holds, same, look, put, are_of, at}
-use Rattle.logic_core.specs.Meaning.{Said, Either, If, With, WithEach, WithEvery, WithAny, WithSum, Holds}
+use Rattle.logic_core.specs.Meaning.{Either, If, With, WithEach, WithEvery, WithAny, WithSum, Holds}
 use Rattle.logic_core.specs.Valid.{Calls}
 use Rattle.logic_core.proofs.Values.{HasOne}
 use Rattle.logic_core.proofs.Kept.{Stable, Keeps, keeps_if, keeps, keeps_each, keeps_every, keeps_any, keeps_sum}
@@ -198,7 +198,7 @@ module _ (frees : List Value) (calls : Calls) (has_call : (f : ℕ) (vs : List V
 
 -- both terms say the same where a value of the one is one of the other
 module _ (frees : List Value) (calls : Calls) (has_call : (f : ℕ) (vs : List Value) → HasOne (calls f vs)) (keeps_call : (f : ℕ) (vs : List Value) → Keeps (calls f vs))
-         (frees' : List Value) (calls' : Calls) (has_call' : (f : ℕ) (vs : List Value) → HasOne (calls' f vs)) (keeps_call' : (f : ℕ) (vs : List Value) → Keeps (calls' f vs)) where
+    (frees' : List Value) (calls' : Calls) (has_call' : (f : ℕ) (vs : List Value) → HasOne (calls' f vs)) (keeps_call' : (f : ℕ) (vs : List Value) → Keeps (calls' f vs)) where
   pub same_values : (t u : Tree) (b b' : List Value) → ((r : Value) → Gives frees calls t b r → Gives frees' calls' u b' r) → Same (With frees calls t b) (With frees' calls' u b')
   same_values t u b b' f P s = (
     (λ h. keeps frees' calls' keeps_call' u b' P s (λ no. gives frees calls has_call keeps_call t b (λ r g. no ((said frees' calls' has_call' keeps_call' u b' r (f r g) P s).1 ((said frees calls has_call keeps_call t b r g P s).0 h))))),

@@ -1,8 +1,8 @@
 -- Laws of the integers.
-use Rattle.std.proofs.Common.{◌≡◌, ◌∙◌, sym, ap, refl, ℕ, zero, suc, ◌+◌, ◌*◌, ℤ, pos, negsuc, ◌+ℤ◌, ◌-ℤ◌, ◌*ℤ◌, neg_ℤ, arith, Bool, true, false, not, int_le, int_eq, Decides}
+use Rattle.std.proofs.Common.{◌≡◌, ◌∙◌, sym, ap, refl, ℕ, zero, suc, ℤ, pos, negsuc, ◌+ℤ◌, ◌*ℤ◌, neg_ℤ, arith, Bool, true, false, not, int_le, int_eq}
 use lib.IntN.{suc_ℤ-*ℤ, pred_ℤ-*ℤ, zero-*ℤ, +ℤ_invr}
 use Rattle.std.proofs.lemmas.Int.{ints}
-use Rattle.std.proofs.lemmas.Bool.Decides.{Decides-int_eq, same_from_decides}
+use Rattle.std.proofs.lemmas.Bool.Decides.{Decides-int_eq}
 
 pos_times_plus : (n : ℕ) (a b : ℤ) → pos n *ℤ (a +ℤ b) ≡ (pos n *ℤ a) +ℤ (pos n *ℤ b)
 pos_times_plus zero a b = omega (arith, ints)
@@ -29,7 +29,7 @@ pos_times_times (suc n) a b = omega (arith, ints, ap (λ x. x *ℤ b) (suc_ℤ-*
 minus_is : (a : ℤ) → negsuc 0 *ℤ a ≡ neg_ℤ a
 minus_is a = omega (arith, ints)
 
-minus_times : (a b : ℤ) → neg_ℤ a *ℤ b ≡ neg_ℤ (a *ℤ b)
+pub minus_times : (a b : ℤ) → neg_ℤ a *ℤ b ≡ neg_ℤ (a *ℤ b)
 minus_times a b = omega (arith, ints, plus_times a (neg_ℤ a) b, ap (λ x. x *ℤ b) (+ℤ_invr a), zero-*ℤ b)
 
 neg_times_times : (n : ℕ) (a b : ℤ) → (negsuc n *ℤ a) *ℤ b ≡ negsuc n *ℤ (a *ℤ b)
@@ -40,7 +40,8 @@ pub times_times : (k a b : ℤ) → (k *ℤ a) *ℤ b ≡ k *ℤ (a *ℤ b)
 times_times (pos n) a b = pos_times_times n a b
 times_times (negsuc n) a b = neg_times_times n a b
 
-same_test : (p q : Bool) → (p ≡ true → q ≡ true) → (q ≡ true → p ≡ true) → p ≡ q
+-- tests that pass alike are equal
+pub same_test : (p q : Bool) → (p ≡ true → q ≡ true) → (q ≡ true → p ≡ true) → p ≡ q
 same_test true true f g = refl
 same_test true false f g = sym (f refl)
 same_test false true f g = g refl
@@ -107,3 +108,13 @@ zero_plus x = omega (arith, ints)
 
 pub part_last : (a n m : ℤ) → (a +ℤ n) +ℤ m ≡ n +ℤ (a +ℤ m)
 part_last a n m = omega (arith, ints)
+
+pub times_minus : (a b : ℤ) → a *ℤ neg_ℤ b ≡ neg_ℤ (a *ℤ b)
+times_minus a b = omega (arith, ints, minus_times b a, times_swap a (neg_ℤ b), times_swap a b)
+
+pub times_nothing : (k : ℤ) → k *ℤ pos 0 ≡ pos 0
+times_nothing k = omega (arith, ints)
+
+-- a part of a sum that is divided by g
+pub divided_part : (k g q x n m : ℤ) → k ≡ g *ℤ q → n ≡ g *ℤ m → (k *ℤ x) +ℤ n ≡ g *ℤ ((q *ℤ x) +ℤ m)
+divided_part k g q x n m e f = omega (arith, ints, ap (λ i. i *ℤ x) e, times_times g q x, times_plus g (q *ℤ x) m, f)

@@ -18,9 +18,13 @@ pub mod SortFrame
 pub mod ReplacedSorts
 pub mod SubstitutedSorts
 pub mod ValueFrame
+pub mod MentionedVariables
 pub mod Unfolding
 pub mod Paired
 pub mod SubstitutedValues
 pub mod ReplacedValues
 pub mod Bodies
+pub mod WrittenTables
+pub mod Divided
+pub mod Tightened
 pub mod Assigned

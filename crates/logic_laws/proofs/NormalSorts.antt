@@ -1,5 +1,5 @@
 -- A normal form has the sort of its term.
-use Rattle.std.proofs.Common.{◌≡◌, ℕ, refl, sym, ap, subst, ℤ, pos, negsuc, Bool, true, false, ◌&&◌, not, cond, if◌then◌else◌, Option, Some, None, option_map, List, [], ◌∷◌, ◌++◌, reverse, slice_get}
+use Rattle.std.proofs.Common.{◌≡◌, ℕ, refl, sym, subst, Bool, true, ◌&&◌, Option, Some, None, option_map, List, [], ◌∷◌, ◌++◌, reverse, slice_get}
 use Rattle.logic_core.specs.Tree.{Kind, int, boolean, map, Tree, num, truth, free, bound, linear, mul, read, write, choose, call, negation, all, some, equal, at_most, for_all, exists, Trees, no_trees, tree, Parts, no_parts, part, Patterns, no_patterns, pattern}
 use Rattle.logic_core.specs.Def.{Def}
 use Rattle.logic_core.specs.Wide.{◌>>=◌, when}
@@ -11,7 +11,7 @@ use Rattle.logic_core.specs.Normal.{choice, equation, inequality, quantified, no
 use Rattle.logic_laws.proofs.Options.{both_true, all_true, some_has, bind_some, map_some, when_some, when_true}
 use Rattle.logic_laws.proofs.SortTests.{is_sort, sort_is}
 use Rattle.logic_laws.proofs.SumSorts.{first_int, sum_sort, term_ints, product_sort}
-use Rattle.logic_laws.proofs.FormulaSorts.{first_formula, one_more_formula, parts_of_all, conjunction_sort, disjunction_sort, part_of_negation, negated_sort, parts_of_at_most, inequality_sort, parts_of_equal, equation_sort, choice_sort, parts_of_quantifier, quantifier_sort, quantified_sort}
+use Rattle.logic_laws.proofs.FormulaSorts.{first_formula, one_more_formula, conjunction_sort, disjunction_sort, part_of_negation, negated_sort, parts_of_at_most, inequality_sort, parts_of_equal, equation_sort, choice_sort, parts_of_quantifier, quantifier_sort, quantified_sort}
 
 module _ (vars : List Kind) (defs : List Def) where
   pub parts_of_mul : (x y : Tree) (b : List Kind) (k : Kind) → sort_of vars defs b (mul x y) ≡ Some k → (sort_of vars defs b x ≡ Some int) × (sort_of vars defs b y ≡ Some int) × (int ≡ k)

@@ -1,9 +1,9 @@
 -- A normal form has the value of its term.
-use Rattle.std.proofs.Common.{◌≡◌, ◌∙◌, refl, sym, ap, subst, ℕ, ℤ, pos, ◌+ℤ◌, ◌*ℤ◌, Bool, true, false, ◌&&◌, ◌||◌, not, Option, Some, None, option_map, IsTrue, List, [], ◌∷◌, ◌++◌, reverse, inl, inr}
-use Rattle.logic_core.specs.Tree.{Kind, int, boolean, map, Tree, num, truth, free, bound, linear, mul, read, write, choose, call, negation, all, some, equal, at_most, for_all, exists, Trees, no_trees, tree, Parts, no_parts, part, Patterns, no_patterns, pattern}
+use Rattle.std.proofs.Common.{◌≡◌, ◌∙◌, refl, sym, ap, subst, ℕ, ℤ, ◌+ℤ◌, ◌*ℤ◌, Bool, true, Some, option_map, IsTrue, List, [], ◌∷◌, ◌++◌, reverse}
+use Rattle.logic_core.specs.Tree.{Kind, int, boolean, map, Tree, num, truth, free, bound, linear, mul, read, write, choose, call, negation, all, some, equal, at_most, for_all, exists, Trees, no_trees, tree, Parts, no_parts, part}
 use Rattle.logic_core.specs.Def.{Def}
-use Rattle.logic_core.specs.Value.{Value, whole, flag, int_of, holds, are_of}
-use Rattle.logic_core.specs.Meaning.{If, With, Holds}
+use Rattle.logic_core.specs.Value.{Value, int_of, holds, are_of}
+use Rattle.logic_core.specs.Meaning.{Holds}
 use Rattle.logic_core.specs.Valid.{Calls}
 use Rattle.logic_core.specs.Wide.{◌>>=◌}
 use Rattle.logic_core.specs.Sorts.{sort_of, are, are_formulas, are_ints}
@@ -12,11 +12,10 @@ use Rattle.logic_core.specs.Junction.{conjunction, disjunction, negated}
 use Rattle.logic_core.specs.Normal.{choice, equation, inequality, quantified, normal, normal_each, normal_sum, normal_patterns}
 use Rattle.logic_core.proofs.Values.{HasOne}
 use Rattle.logic_core.proofs.Kept.{Keeps, true_stable}
-use Rattle.logic_core.proofs.Replaced.{Same}
 use Rattle.logic_laws.proofs.Integers as Z
 use Rattle.logic_laws.proofs.Options.{some_has, bind_some, map_some, when_some}
-use Rattle.logic_laws.proofs.SumSorts.{first_int, term_ints}
-use Rattle.logic_laws.proofs.FormulaSorts.{first_formula, parts_of_all, part_of_negation, parts_of_at_most, parts_of_equal, parts_of_quantifier}
+use Rattle.logic_laws.proofs.SumSorts.{first_int}
+use Rattle.logic_laws.proofs.FormulaSorts.{first_formula, part_of_negation, parts_of_at_most, parts_of_equal, parts_of_quantifier}
 use Rattle.logic_laws.proofs.NormalSorts.{parts_of_mul, parts_of_read, parts_of_write, parts_of_choose, parts_of_call, first_of_sort, normal_sort, normal_formulas, normal_ints}
 use Rattle.logic_laws.proofs.Tables.{are_of_bound}
 use Rattle.logic_laws.proofs.Gives.{decided_every, decided_some, if_map, Gives, GivesEach, GivesEvery, GivesAny, GivesSum, same_values}
@@ -43,13 +42,13 @@ module _ (vars : List Kind) (defs : List Def) (frees : List Value) (calls : Call
         let i = (when_some (are_ints vars defs bs ps) int k s).0 in
         subst (λ x. Gives frees calls x b r) p.2 (subst (Gives frees calls (term_of p.0) b) (sym g.2)
         (linear_gives vars defs frees calls has_call keeps_call fits call_sorts p.0 bs b (g.0 +ℤ c) (normal_ints vars defs ps (constant c) p.0 bs p.1 i refl) f
-          (normal_sum_gives ps (constant c) p.0 bs b g.0 c p.1 i f g.1 (constant_gives vars defs frees calls has_call keeps_call fits call_sorts c b))))
+        (normal_sum_gives ps (constant c) p.0 bs b g.0 c p.1 i f g.1 (constant_gives vars defs frees calls has_call keeps_call fits call_sorts c b))))
     normal_gives (mul x y) u bs b k r e s f g =
         let p = bind_some (normal vars defs bs x) (λ u. normal vars defs bs y >>= λ v. product u v) u e in
         let q = bind_some (normal vars defs bs y) (λ v. product p.0 v) u p.2 in
         let i = parts_of_mul vars defs x y bs k s in
         subst (Gives frees calls u b) (sym g.4) (product_gives vars defs frees calls has_call keeps_call fits call_sorts p.0 q.0 u bs b g.0 g.1 (normal_sort vars defs x p.0 bs int p.1 i.0) (normal_sort vars defs y q.0 bs int q.1 i.1) f
-          (normal_gives x p.0 bs b int g.0 p.1 i.0 f g.2) (normal_gives y q.0 bs b int g.1 q.1 i.1 f g.3) q.2)
+        (normal_gives x p.0 bs b int g.0 p.1 i.0 f g.2) (normal_gives y q.0 bs b int g.1 q.1 i.1 f g.3) q.2)
     normal_gives (read m j) u bs b k r e s f g =
         let p = bind_some (normal vars defs bs m) (λ u. normal vars defs bs j >>= λ v. Some (read u v)) u e in
         let q = bind_some (normal vars defs bs j) (λ v. Some (read p.0 v)) u p.2 in
@@ -68,7 +67,7 @@ module _ (vars : List Kind) (defs : List Def) (frees : List Value) (calls : Call
         let i = parts_of_choose vars defs c x y bs k s in
         some_has (λ x. Gives frees calls x b r) (choice p.0 q.0 o.0) u o.2
         (choice_gives vars defs frees calls has_call keeps_call fits call_sorts p.0 q.0 o.0 b g.0 r (normal_gives c p.0 bs b boolean g.0 p.1 i.0 f g.1)
-          (if_map (holds g.0) (Gives frees calls x b r) (Gives frees calls y b r) (Gives frees calls q.0 b r) (Gives frees calls o.0 b r) (normal_gives x q.0 bs b k r q.1 i.1 f) (normal_gives y o.0 bs b k r o.1 i.2 f) g.2))
+        (if_map (holds g.0) (Gives frees calls x b r) (Gives frees calls y b r) (Gives frees calls q.0 b r) (Gives frees calls o.0 b r) (normal_gives x q.0 bs b k r q.1 i.1 f) (normal_gives y o.0 bs b k r o.1 i.2 f) g.2))
     normal_gives (call n ts) u bs b k r e s f g =
         let p = map_some (λ us. call n us) (normal_each vars defs bs ts) u e in
         let i = parts_of_call vars defs n ts bs k s in
@@ -92,13 +91,13 @@ module _ (vars : List Kind) (defs : List Def) (frees : List Value) (calls : Call
         let q = bind_some (normal vars defs bs y) (λ v. equation (sort_of vars defs bs x) p.0 v) u p.2 in
         let i = parts_of_equal vars defs x y bs k s in
         subst (Gives frees calls u b) (sym g.4) (equation_gives vars defs frees calls has_call keeps_call fits call_sorts i.0 p.0 q.0 u bs b g.0 g.1
-          (normal_sort vars defs x p.0 bs i.0 p.1 i.1) (normal_sort vars defs y q.0 bs i.0 q.1 i.2) f (normal_gives x p.0 bs b i.0 g.0 p.1 i.1 f g.2) (normal_gives y q.0 bs b i.0 g.1 q.1 i.2 f g.3) (subst (λ j. equation j p.0 q.0 ≡ Some u) i.1 q.2))
+        (normal_sort vars defs x p.0 bs i.0 p.1 i.1) (normal_sort vars defs y q.0 bs i.0 q.1 i.2) f (normal_gives x p.0 bs b i.0 g.0 p.1 i.1 f g.2) (normal_gives y q.0 bs b i.0 g.1 q.1 i.2 f g.3) (subst (λ j. equation j p.0 q.0 ≡ Some u) i.1 q.2))
     normal_gives (at_most x y) u bs b k r e s f g =
         let p = bind_some (normal vars defs bs x) (λ u. normal vars defs bs y >>= λ v. inequality u v) u e in
         let q = bind_some (normal vars defs bs y) (λ v. inequality p.0 v) u p.2 in
         let i = parts_of_at_most vars defs x y bs k s in
         subst (Gives frees calls u b) (sym g.4) (inequality_gives vars defs frees calls has_call keeps_call fits call_sorts p.0 q.0 u bs b g.0 g.1
-          (normal_sort vars defs x p.0 bs int p.1 i.0) (normal_sort vars defs y q.0 bs int q.1 i.1) f (normal_gives x p.0 bs b int g.0 p.1 i.0 f g.2) (normal_gives y q.0 bs b int g.1 q.1 i.1 f g.3) q.2)
+        (normal_sort vars defs x p.0 bs int p.1 i.0) (normal_sort vars defs y q.0 bs int q.1 i.1) f (normal_gives x p.0 bs b int g.0 p.1 i.0 f g.2) (normal_gives y q.0 bs b int g.1 q.1 i.1 f g.3) q.2)
     normal_gives (for_all ss ps t) u bs b k r e s f g =
         let p = bind_some (normal_patterns vars defs (reverse ss ++ bs) ps) (λ qs. option_map (λ u. quantified (λ v. for_all ss qs v) u) (normal vars defs (reverse ss ++ bs) t)) u e in
         let q = map_some (λ u. quantified (λ v. for_all ss p.0 v) u) (normal vars defs (reverse ss ++ bs) t) u p.2 in
@@ -147,7 +146,3 @@ module _ (vars : List Kind) (defs : List Def) (frees : List Value) (calls : Call
         let a = term_gives vars defs frees calls has_call keeps_call fits call_sorts p.0 k s o.0 b g.0 m (normal_gives t p.0 bs b int g.0 p.1 j.0 f g.2) h o.1 in
         let c = normal_sum_gives ps o.0 q bs b g.1 ((k *ℤ int_of g.0) +ℤ m) o.2 j.1 f g.3 a in
         (c.0, c.1, ap (λ x. x +ℤ m) g.4 ∙ Z.part_last (k *ℤ int_of g.0) g.1 m ∙ c.2)
-
-  -- a term and its normal form say the same
-  pub normal_same : (t u : Tree) (bs : List Kind) (b : List Value) (k : Kind) → normal vars defs bs t ≡ Some u → sort_of vars defs bs t ≡ Some k → are_of bs b ≡ true → Same (With frees calls t b) (With frees calls u b)
-  normal_same t u bs b k e s f = same_values frees calls has_call keeps_call frees calls has_call keeps_call t u b b (λ r g. normal_gives t u bs b k r e s f g)

@@ -1,5 +1,5 @@
 -- What tests and computations that may give nothing say of their parts.
-use Rattle.std.proofs.Common.{◌≡◌, refl, ap, subst, Bool, true, false, ◌&&◌, not, cond, Option, Some, None, option_map}
+use Rattle.std.proofs.Common.{◌≡◌, refl, subst, Bool, true, false, ◌&&◌, cond, Option, Some, None, option_map}
 use Rattle.logic_core.specs.Wide.{◌>>=◌, when}
 
 pub both_true : (a b : Bool) → (a && b) ≡ true → (a ≡ true) × (b ≡ true)

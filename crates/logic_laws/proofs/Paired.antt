@@ -1,5 +1,5 @@
 -- Two lists whose elements are paired by a relation.
-use Rattle.std.proofs.Common.{◌≡◌, refl, sym, ap, subst, ℕ, zero, suc, Option, Some, List, [], ◌∷◌, ◌++◌, reverse, slice_get, length}
+use Rattle.std.proofs.Common.{◌≡◌, refl, sym, ap, subst, ℕ, zero, suc, Some, List, [], ◌∷◌, ◌++◌, reverse, slice_get, length}
 use mathlib.Core.List.{reverse-cons}
 
 module _ {A B : Type 0} (R : A → B → Type 0) where

@@ -1,6 +1,6 @@
 -- Replacing closed terms by closed terms of their sort keeps sorts.
-use Rattle.std.proofs.Common.{◌≡◌, ◌∙◌, refl, sym, ap, subst, ℤ, Bool, true, false, cond, Option, Some, None, List, [], ◌++◌, reverse}
-use Rattle.logic_core.specs.Tree.{Kind, int, boolean, map, Tree, num, truth, free, bound, linear, mul, read, write, choose, call, negation, all, some, equal, at_most, for_all, exists, Trees, no_trees, tree, Parts, no_parts, part, Patterns, no_patterns, pattern}
+use Rattle.std.proofs.Common.{◌≡◌, ◌∙◌, sym, subst, Bool, true, cond, Some, List, [], ◌++◌, reverse}
+use Rattle.logic_core.specs.Tree.{Kind, Tree, num, truth, free, bound, linear, mul, read, write, choose, call, negation, all, some, equal, at_most, for_all, exists, Trees, no_trees, tree, Parts, no_parts, part, Patterns, no_patterns, pattern}
 use Rattle.logic_core.specs.Def.{Def}
 use Rattle.logic_core.specs.Same.{same_term}
 use Rattle.logic_core.specs.Sorts.{sort_of}
@@ -69,5 +69,5 @@ module _ (vars : List Kind) (defs : List Def) where
   pub replaced_sort : (old new t : Tree) (b : List Kind) (j k : Kind) → sort_of vars defs [] old ≡ Some j → sort_of vars defs [] new ≡ Some j → sort_of vars defs b t ≡ Some k → sort_of vars defs b (replaced old new t) ≡ Some k
   replaced_sort old new t b j k so sn s = replace_sort (same_term old) new
       (λ u c p i e. let q : old ≡ u = same_is_equal old u p in
-        let f : sort_of vars defs c u ≡ Some j = subst (λ x. sort_of vars defs c x ≡ Some j) q (closed_sort old c j so) in
-        closed_sort new c j sn ∙ sym f ∙ e) t b k s
+      let f : sort_of vars defs c u ≡ Some j = subst (λ x. sort_of vars defs c x ≡ Some j) q (closed_sort old c j so) in
+      closed_sort new c j sn ∙ sym f ∙ e) t b k s

@@ -1,8 +1,8 @@
 -- Replacing closed terms by closed terms of their value keeps values, under quantifiers too.
-use Rattle.std.proofs.Common.{◌≡◌, ◌∙◌, refl, sym, ap, subst, ℕ, ℤ, Bool, true, false, cond, Option, Some, None, IsTrue, List, [], ◌++◌, reverse}
+use Rattle.std.proofs.Common.{◌≡◌, refl, subst, ℕ, ℤ, Bool, true, cond, Some, IsTrue, List, [], ◌++◌, reverse}
 use Rattle.logic_core.specs.Tree.{Kind, Tree, num, truth, free, bound, linear, mul, read, write, choose, call, negation, all, some, equal, at_most, for_all, exists, Trees, no_trees, tree, Parts, no_parts, part}
 use Rattle.logic_core.specs.Def.{Def}
-use Rattle.logic_core.specs.Value.{Value, holds, are_of}
+use Rattle.logic_core.specs.Value.{Value, holds}
 use Rattle.logic_core.specs.Meaning.{With, Holds}
 use Rattle.logic_core.specs.Valid.{Calls}
 use Rattle.logic_core.specs.Same.{same_term}
@@ -73,16 +73,17 @@ module _ (frees : List Value) (calls : Calls) (has_call : (f : ℕ) (vs : List V
     replaced_gives : (old new : Tree) (j : Kind) (v : Value) → sort_of vars defs [] old ≡ Some j → sort_of vars defs [] new ≡ Some j → Gives frees calls old [] v → Gives frees calls new [] v → (t : Tree) (b : List Value) (r : Value) → Gives frees calls t b r → Gives frees calls (replaced old new t) b r
     replaced_gives old new j v so sn go gn t b r g = replace_gives (same_term old) new
         (λ u c x p h. let q : v ≡ x = gives_one frees calls has_call keeps_call u c v x (subst (λ z. Gives frees calls z c v) (same_is_equal old u p) (closed_gives old [] c j v so go)) h in
-          subst (Gives frees calls new c) q (closed_gives new [] c j v sn gn)) t b r g
+        subst (Gives frees calls new c) q (closed_gives new [] c j v sn gn)) t b r g
 
     -- where two closed terms of one sort say the same, a term says the same with the one replaced by the other
     pub same_replaced : (old new t : Tree) (b : List Value) (j : Kind) → sort_of vars defs [] old ≡ Some j → sort_of vars defs [] new ≡ Some j → Same (With frees calls old []) (With frees calls new []) → Same (With frees calls t b) (With frees calls (replaced old new t) b)
     same_replaced old new t b j so sn e P s =
         let f : (v : Value) → Gives frees calls old [] v → Gives frees calls new [] v → (With frees calls t b P → With frees calls (replaced old new t) b P) × (With frees calls (replaced old new t) b P → With frees calls t b P)
-            = λ v go gn. same_values frees calls has_call keeps_call frees calls has_call keeps_call t (replaced old new t) b b (λ r g. replaced_gives old new j v so sn go gn t b r g) P s in
+        = λ v go gn. same_values frees calls has_call keeps_call frees calls has_call keeps_call t (replaced old new t) b b (λ r g. replaced_gives old new j v so sn go gn t b r g) P s in
         let both : ((v : Value) → Gives frees calls old [] v → Gives frees calls new [] v → ⊥) → ⊥
-            = λ k. gives frees calls has_call keeps_call old [] (λ v go. gives frees calls has_call keeps_call new [] (λ w gn.
-                let q : w ≡ v = (said frees calls has_call keeps_call new [] w gn (λ x. x ≡ v) (λ x. value_stable x v)).0 ((e (λ x. x ≡ v) (λ x. value_stable x v)).0 ((said frees calls has_call keeps_call old [] v go (λ x. x ≡ v) (λ x. value_stable x v)).1 refl)) in
-                k v go (subst (Gives frees calls new []) q gn))) in
-        ((λ h. keeps frees calls keeps_call (replaced old new t) b P s (λ n. both (λ v go gn. n ((f v go gn).0 h)))),
-         (λ h. keeps frees calls keeps_call t b P s (λ n. both (λ v go gn. n ((f v go gn).1 h)))))
+        = λ k. gives frees calls has_call keeps_call old [] (λ v go. gives frees calls has_call keeps_call new [] (λ w gn.
+        let q : w ≡ v = (said frees calls has_call keeps_call new [] w gn (λ x. x ≡ v) (λ x. value_stable x v)).0 ((e (λ x. x ≡ v) (λ x. value_stable x v)).0 ((said frees calls has_call keeps_call old [] v go (λ x. x ≡ v) (λ x. value_stable x v)).1 refl)) in
+        k v go (subst (Gives frees calls new []) q gn))) in (
+          (λ h. keeps frees calls keeps_call (replaced old new t) b P s (λ n. both (λ v go gn. n ((f v go gn).0 h)))),
+          (λ h. keeps frees calls keeps_call t b P s (λ n. both (λ v go gn. n ((f v go gn).1 h)))),
+        )

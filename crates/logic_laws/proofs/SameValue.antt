@@ -1,9 +1,10 @@
 -- The test of values is equality, and equations of values can be shown by contradiction.
-use Rattle.std.proofs.Common.{◌≡◌, refl, sym, ap, subst, ℤ, Bool, true, false, ◌&&◌, int_eq, ◌∙◌}
+use Rattle.std.proofs.Common.{◌≡◌, refl, sym, ap, subst, Bool, true, false, ◌&&◌, int_eq}
 use Rattle.std.proofs.lemmas.Bool.Decides.{Decides-int_eq}
 use Rattle.logic_core.specs.Value.{Value, whole, flag, table, Entries, no_entries, entry, bool_eq, same, same_entries}
 use Rattle.logic_core.proofs.Kept.{Stable}
 use Rattle.logic_laws.proofs.Options.{both_true, all_true}
+use Rattle.logic_laws.proofs.Integers.{same_test}
 
 bool_equal : (b c : Bool) → bool_eq b c ≡ true → b ≡ c
 bool_equal true true h = refl
@@ -43,12 +44,6 @@ mutual
 pub equal_same : (v w : Value) → v ≡ w → same v w ≡ true
 equal_same v w e = subst (λ x. same v x ≡ true) e (same_itself v)
 
-same_test : (p q : Bool) → (p ≡ true → q ≡ true) → (q ≡ true → p ≡ true) → p ≡ q
-same_test true true f g = refl
-same_test true false f g = sym (f refl)
-same_test false true f g = g refl
-same_test false false f g = refl
-
 -- whichever stands first
 pub same_swap : (v w : Value) → same v w ≡ same w v
 same_swap v w = same_test (same v w) (same w v) (λ h. equal_same w v (sym (same_equal v w h))) (λ h. equal_same v w (sym (same_equal w v h)))
@@ -59,7 +54,3 @@ stable_by v w false e n = absurd (n (λ p. let f = equal_same v w p in (cc)))
 
 pub value_stable : (v w : Value) → Stable (v ≡ w)
 value_stable v w = stable_by v w (same v w) refl
-
--- beside true or false the other truth value or its opposite
-pub same_true : (b : Bool) → same (flag true) (flag b) ≡ b
-same_true b = refl

@@ -1,6 +1,6 @@
 -- A term keeps its sort over more variables, definitions and binders.
-use Rattle.std.proofs.Common.{◌≡◌, refl, sym, ap, subst, ℕ, zero, suc, ℤ, Bool, true, Option, Some, None, List, [], ◌∷◌, ◌++◌, reverse, slice_get}
-use Rattle.logic_core.specs.Tree.{Kind, int, boolean, map, Tree, num, truth, free, bound, linear, mul, read, write, choose, call, negation, all, some, equal, at_most, for_all, exists, Trees, no_trees, tree, Parts, no_parts, part, Patterns, no_patterns, pattern}
+use Rattle.std.proofs.Common.{◌≡◌, refl, ℕ, zero, suc, Some, List, [], ◌∷◌, ◌++◌, reverse, slice_get}
+use Rattle.logic_core.specs.Tree.{Kind, Tree, num, truth, free, bound, linear, mul, read, write, choose, call, negation, all, some, equal, at_most, for_all, exists, Trees, no_trees, tree, Parts, no_parts, part, Patterns, no_patterns, pattern}
 use Rattle.logic_core.specs.Def.{Def}
 use Rattle.logic_laws.proofs.CarriedSorts.{Carries, CarriesEach, CarriesFormulas, CarriesInts, CarriesSorts, CarriesPatterns, carries_linear, carries_mul, carries_read, carries_write, carries_choose, carries_call, carries_negation, carries_all, carries_some, carries_equal, carries_at_most, carries_quantifier, carries_first, carries_none, carries_formula, carries_int, carries_sort, carries_pattern}
 

@@ -1,5 +1,5 @@
 -- The tests of sorts are right.
-use Rattle.std.proofs.Common.{◌≡◌, refl, ap, subst, Bool, true, false, ◌&&◌, Option, Some, None}
+use Rattle.std.proofs.Common.{◌≡◌, refl, ap, subst, true, Option, Some, None}
 use Rattle.logic_core.specs.Tree.{Kind, int, boolean, map}
 use Rattle.logic_core.specs.Same.{same_kind}
 use Rattle.logic_core.specs.Sorts.{is}

@@ -1,7 +1,7 @@
 -- A body whose binder is taken away keeps its sort, where the closed terms have the sorts of the binder's variables.
-use Rattle.std.proofs.Common.{◌≡◌, ◌∙◌, refl, sym, ap, subst, ℕ, zero, suc, ◌+◌, ◌-◌, ◌<◌, ◌≤◌, ℤ, Bool, true, false, cond, nat_lt, unwrap_or, Option, Some, None, List, [], ◌∷◌, ◌++◌, reverse, slice_get, length, length-append, append_assoc, arith, ltb-true, ltb-false, ◌⊎◌, inl, inr, ⊎_elim}
+use Rattle.std.proofs.Common.{◌≡◌, sym, subst, ℕ, zero, suc, ◌+◌, ◌-◌, ◌<◌, ◌≤◌, nat_lt, unwrap_or, Some, List, [], ◌∷◌, ◌++◌, reverse, slice_get, length, length-append, append_assoc, arith, ltb-true, ltb-false}
 use Rattle.std.proofs.lemmas.List.{length-reverse}
-use Rattle.logic_core.specs.Tree.{Kind, int, boolean, map, Tree, num, truth, free, bound, linear, mul, read, write, choose, call, negation, all, some, equal, at_most, for_all, exists, Trees, no_trees, tree, Parts, no_parts, part, Patterns, no_patterns, pattern}
+use Rattle.logic_core.specs.Tree.{Kind, Tree, num, truth, free, bound, linear, mul, read, write, choose, call, negation, all, some, equal, at_most, for_all, exists, Trees, no_trees, tree, Parts, no_parts, part, Patterns, no_patterns, pattern}
 use Rattle.logic_core.specs.Def.{Def}
 use Rattle.logic_core.specs.Sorts.{sort_of}
 use Rattle.logic_core.specs.Substitute.{bound_within, put_within, put_each, put_parts, put_patterns}
@@ -37,8 +37,8 @@ module _ (vars : List Kind) (defs : List Def) (terms : List Tree) (ks : List Kin
     bound_sort v d cs e k s = cond_has (λ x. sort_of vars defs cs x ≡ Some k) (nat_lt v d) (bound v) (unwrap_or (slice_get terms (v - d)) (bound (v - length terms)))
         (λ p. within_first cs ks v k s (let l = ltb-true v d p in omega arith))
         (λ p. let f = fit (v - length cs) k (within_second cs ks v k s (let l = ltb-false v d p in omega arith)) in
-          subst (λ i. sort_of vars defs cs (unwrap_or (slice_get terms (v - i)) (bound (v - length terms))) ≡ Some k) (sym e)
-          (subst (λ o. sort_of vars defs cs (unwrap_or o (bound (v - length terms))) ≡ Some k) (sym f.1) (closed_sort vars defs f.0 cs k f.2)))
+        subst (λ i. sort_of vars defs cs (unwrap_or (slice_get terms (v - i)) (bound (v - length terms))) ≡ Some k) (sym e)
+        (subst (λ o. sort_of vars defs cs (unwrap_or o (bound (v - length terms))) ≡ Some k) (sym f.1) (closed_sort vars defs f.0 cs k f.2)))
 
     mutual
       pub put_within_sort : (t : Tree) (d : ℕ) (cs : List Kind) → d ≡ length cs → Carries vars defs vars defs (cs ++ ks) cs t (put_within terms d t)

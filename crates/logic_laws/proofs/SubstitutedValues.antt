@@ -1,21 +1,21 @@
 -- A body whose binder is taken away has the value that it has with the values of the terms for the binder's variables.
-use Rattle.std.proofs.Common.{◌≡◌, ◌∙◌, refl, sym, ap, subst, ℕ, zero, suc, ◌+◌, ◌-◌, ◌<◌, ◌≤◌, ℤ, Bool, true, false, ◌&&◌, nat_lt, unwrap_or, Option, Some, None, IsTrue, List, [], ◌∷◌, ◌++◌, reverse, slice_get, length, append_assoc, append-nil, arith, ltb-true, ltb-false}
+use Rattle.std.proofs.Common.{◌≡◌, ◌∙◌, refl, sym, ap, subst, ℕ, zero, suc, ◌+◌, ◌-◌, ◌≤◌, ℤ, Bool, true, nat_lt, unwrap_or, Some, IsTrue, List, [], ◌∷◌, ◌++◌, reverse, slice_get, length, append_assoc, arith, ltb-true, ltb-false}
 use Rattle.logic_core.specs.Tree.{Kind, int, boolean, map, Tree, num, truth, free, bound, linear, mul, read, write, choose, call, negation, all, some, equal, at_most, for_all, exists, Trees, no_trees, tree, Parts, no_parts, part}
 use Rattle.logic_core.specs.Def.{Def}
-use Rattle.logic_core.specs.Value.{Value, holds, is_of, are_of, at}
+use Rattle.logic_core.specs.Value.{Value, holds, are_of, at}
 use Rattle.logic_core.specs.Meaning.{With, Holds}
 use Rattle.logic_core.specs.Valid.{Calls}
-use Rattle.logic_core.specs.Sorts.{is, sort_of, are, are_formulas, are_ints}
+use Rattle.logic_core.specs.Sorts.{sort_of, are, are_formulas, are_ints}
 use Rattle.logic_core.specs.Substitute.{bound_within, put_within, put_each, put_parts, substitute}
 use Rattle.logic_core.specs.Subterm.{listed}
 use Rattle.logic_core.proofs.Values.{HasOne}
 use Rattle.logic_core.proofs.Kept.{Keeps, true_stable}
 use Rattle.logic_core.proofs.Replaced.{Same}
-use Rattle.logic_laws.proofs.Options.{both_true, when_some, cond_has}
+use Rattle.logic_laws.proofs.Options.{when_some, cond_has}
 use Rattle.logic_laws.proofs.SumSorts.{first_int}
 use Rattle.logic_laws.proofs.FormulaSorts.{first_formula, part_of_negation, parts_of_at_most, parts_of_equal, parts_of_quantifier}
 use Rattle.logic_laws.proofs.NormalSorts.{parts_of_mul, parts_of_read, parts_of_write, parts_of_choose, parts_of_call, first_of_sort}
-use Rattle.logic_laws.proofs.SubstitutedSorts.{within_first, within_second, deeper, TermsFit, put_within_sort}
+use Rattle.logic_laws.proofs.SubstitutedSorts.{within_second, deeper, TermsFit, put_within_sort}
 use Rattle.logic_laws.proofs.Tables.{at_next, are_of_reverse, are_of_append, are_of_length}
 use Rattle.logic_laws.proofs.Gives.{decided_every, decided_some, if_map, Gives, GivesEach, GivesEvery, GivesAny, GivesSum, same_values}
 use Rattle.logic_laws.proofs.ValueFrame.{agree_itself, agree_none, at_first, at_second, gives_over}
@@ -53,13 +53,13 @@ module _ (vars : List Kind) (defs : List Def) (frees : List Value) (calls : Call
         cond_has (λ x. Gives frees calls x c r) (nat_lt v d) (bound v) (unwrap_or (slice_get terms (v - d)) (bound (v - length terms)))
         (λ p. let m = ltb-true v d p in g ∙ at_first c ws v (omega arith))
         (λ p. let m = ltb-false v d p in
-          let q = fit (v - length cs) k (within_second cs ks v k s (omega arith)) in
-          let z : v - length c ≡ v - length cs = omega arith in
-          let w : length c ≤ v = omega arith in
-          subst (λ i. Gives frees calls (unwrap_or (slice_get terms (v - i)) (bound (v - length terms))) c r) (sym e)
-          (subst (λ o. Gives frees calls (unwrap_or o (bound (v - length terms))) c r) (sym q.1)
-          (subst (Gives frees calls q.0 c) (ap (at ws) (sym z) ∙ sym (at_second c ws v w) ∙ sym g)
-            (gives_over vars defs frees calls has_call keeps_call frees calls has_call keeps_call (agree_itself vars frees) (λ f d vs r e h. h) q.0 [] [] c k (at ws (v - length cs)) (agree_none [] c) q.2 (terms_give (v - length cs) q.0 q.1)))))
+        let q = fit (v - length cs) k (within_second cs ks v k s (omega arith)) in
+        let z : v - length c ≡ v - length cs = omega arith in
+        let w : length c ≤ v = omega arith in
+        subst (λ i. Gives frees calls (unwrap_or (slice_get terms (v - i)) (bound (v - length terms))) c r) (sym e)
+        (subst (λ o. Gives frees calls (unwrap_or o (bound (v - length terms))) c r) (sym q.1)
+        (subst (Gives frees calls q.0 c) (ap (at ws) (sym z) ∙ sym (at_second c ws v w) ∙ sym g)
+        (gives_over vars defs frees calls has_call keeps_call frees calls has_call keeps_call (agree_itself vars frees) (λ f d vs r e h. h) q.0 [] [] c k (at ws (v - length cs)) (agree_none [] c) q.2 (terms_give (v - length cs) q.0 q.1)))))
 
     -- under one binder more
     Deeper : Tree → Tree → List Kind → List Kind → List Value → Type 0
@@ -72,6 +72,7 @@ module _ (vars : List Kind) (defs : List Def) (frees : List Value) (calls : Call
 
     mutual
       unfolding Deeper
+
       pub put_within_gives : (t : Tree) (d : ℕ) (cs : List Kind) (c : List Value) (k : Kind) (r : Value) → d ≡ length cs → are_of cs c ≡ true → sort_of vars defs (cs ++ ks) t ≡ Some k → Gives frees calls t (c ++ ws) r → Gives frees calls (put_within terms d t) c r
       put_within_gives (num n) d cs c k r e f s g = g
       put_within_gives (truth x) d cs c k r e f s g = g
@@ -92,11 +93,11 @@ module _ (vars : List Kind) (defs : List Def) (frees : List Value) (calls : Call
       put_within_gives (for_all ss ps t) d cs c k r e f s g = let p = parts_of_quantifier vars defs ss ps t (cs ++ ks) k s in
           decided_every ss (λ vs. Holds frees calls t (reverse vs ++ (c ++ ws))) (λ vs. Holds frees calls (put_within terms (d + length ss) t) (reverse vs ++ c)) r
           (holds_deeper t (put_within terms (d + length ss) t) ss cs c (λ vs v h. put_within_gives t (d + length ss) (reverse ss ++ cs) (reverse vs ++ c) boolean v (deeper d ss cs e) (are_of_append (reverse ss) cs (reverse vs) c (are_of_reverse ss vs h) f)
-            (subst (λ bs. sort_of vars defs bs t ≡ Some boolean) (sym (append_assoc (reverse ss) cs ks)) p.1))) g
+          (subst (λ bs. sort_of vars defs bs t ≡ Some boolean) (sym (append_assoc (reverse ss) cs ks)) p.1))) g
       put_within_gives (exists ss ps t) d cs c k r e f s g = let p = parts_of_quantifier vars defs ss ps t (cs ++ ks) k s in
           decided_some ss (λ vs. Holds frees calls t (reverse vs ++ (c ++ ws))) (λ vs. Holds frees calls (put_within terms (d + length ss) t) (reverse vs ++ c)) r
           (holds_deeper t (put_within terms (d + length ss) t) ss cs c (λ vs v h. put_within_gives t (d + length ss) (reverse ss ++ cs) (reverse vs ++ c) boolean v (deeper d ss cs e) (are_of_append (reverse ss) cs (reverse vs) c (are_of_reverse ss vs h) f)
-            (subst (λ bs. sort_of vars defs bs t ≡ Some boolean) (sym (append_assoc (reverse ss) cs ks)) p.1))) g
+          (subst (λ bs. sort_of vars defs bs t ≡ Some boolean) (sym (append_assoc (reverse ss) cs ks)) p.1))) g
 
       put_each_gives : (ts : Trees) (d : ℕ) (cs : List Kind) (c : List Value) (js : List Kind) (vs : List Value) → d ≡ length cs → are_of cs c ≡ true → are vars defs (cs ++ ks) js ts ≡ true → GivesEach frees calls ts (c ++ ws) vs → GivesEach frees calls (put_each terms d ts) c vs
       put_each_gives no_trees d cs c js vs e f s g = g
@@ -119,5 +120,5 @@ module _ (vars : List Kind) (defs : List Def) (frees : List Value) (calls : Call
   pub same_substituted : (ks : List Kind) (ts : Trees) (vs : List Value) (body : Tree) (k : Kind) → are vars defs [] ks ts ≡ true → sort_of vars defs (reverse ks) body ≡ Some k → GivesEach frees calls ts [] vs → Same (With frees calls body (reverse vs)) (With frees calls (substitute body (listed ts)) [])
   same_substituted ks ts vs body k s h g = same_values frees calls has_call keeps_call frees calls has_call keeps_call body (substitute body (listed ts)) (reverse vs) []
       (λ r i. put_within_gives (reverse (listed ts)) (reverse ks) (reverse vs) (terms_fit vars defs ks ts s)
-        (λ n u e. value_at (reverse (listed ts)) (reverse vs) n u (paired_reverse (λ u v. Gives frees calls u [] v) (listed ts) vs (values_paired ts vs g)) e)
-        body 0 [] [] k r refl refl h i)
+      (λ n u e. value_at (reverse (listed ts)) (reverse vs) n u (paired_reverse (λ u v. Gives frees calls u [] v) (listed ts) vs (values_paired ts vs g)) e)
+      body 0 [] [] k r refl refl h i)

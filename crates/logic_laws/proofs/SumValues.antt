@@ -1,7 +1,7 @@
 -- The normal form of sums and products keeps their values.
-use Rattle.std.proofs.Common.{◌≡◌, ◌∙◌, refl, sym, ap, subst, ℕ, ℤ, pos, negsuc, ◌+ℤ◌, ◌*ℤ◌, Bool, true, false, ◌&&◌, cond, Option, Some, None, option_map, List, int_eq, Ordering, Less, Equal, Greater}
+use Rattle.std.proofs.Common.{◌≡◌, ◌∙◌, refl, sym, ap, subst, ℕ, ℤ, pos, negsuc, ◌+ℤ◌, ◌*ℤ◌, true, ◌&&◌, Some, option_map, List, int_eq, Ordering, Less, Equal, Greater}
 use Rattle.std.proofs.lemmas.Bool.Decides.{Decides-int_eq}
-use Rattle.logic_core.specs.Tree.{Kind, int, boolean, map, Tree, num, truth, free, bound, linear, mul, read, write, choose, call, negation, all, some, equal, at_most, for_all, exists, Trees, no_trees, tree, Parts, no_parts, part, Patterns, no_patterns, pattern}
+use Rattle.logic_core.specs.Tree.{Kind, int, Tree, num, linear, mul, Parts, no_parts, part}
 use Rattle.logic_core.specs.Def.{Def}
 use Rattle.logic_core.specs.Order.{order}
 use Rattle.logic_core.specs.Value.{Value, whole, int_of, are_of}
@@ -52,7 +52,7 @@ module _ (vars : List Kind) (defs : List Def) (frees : List Value) (calls : Call
       let q = bind_some (add_atom p.0 t s.parts) (λ qs. add_parts k ps (record { parts = qs; rest = s.rest })) r p.2 in
       let a = atom_gives s.parts p.0 t q.0 b h.0 g.0 h.2 g.1 q.1 in
       let i : GivesLinear r b ((k *ℤ h.1) +ℤ ((p.0 *ℤ int_of h.0) +ℤ m)) = parts_gives ps k (record { parts = q.0; rest = s.rest }) r b h.1 ((p.0 *ℤ int_of h.0) +ℤ m) h.3
-          ((p.0 *ℤ int_of h.0) +ℤ g.0, a, ap (λ x. (p.0 *ℤ int_of h.0) +ℤ x) g.2 ∙ Z.plus_plus (p.0 *ℤ int_of h.0) g.0 s.rest) q.2 in
+      ((p.0 *ℤ int_of h.0) +ℤ g.0, a, ap (λ x. (p.0 *ℤ int_of h.0) +ℤ x) g.2 ∙ Z.plus_plus (p.0 *ℤ int_of h.0) g.0 s.rest) q.2 in
       (i.0, i.1, ap (λ x. (k *ℤ x) +ℤ m) h.4 ∙ Z.scaled_part k j p.0 (int_of h.0) h.1 m (checked_is (k *ℤ j) p.0 p.1) ∙ i.2)
 
   number_gives : (k n : ℤ) (s r : Linear) (b : List Value) (m : ℤ) → GivesLinear s b m → add_number k n s ≡ Some r → GivesLinear r b ((k *ℤ n) +ℤ m)
@@ -80,7 +80,7 @@ module _ (vars : List Kind) (defs : List Def) (frees : List Value) (calls : Call
       let q : x +ℤ c ≡ int_of h.0 = ap (λ y. y +ℤ c) h.4 ∙ Z.one_part k (int_of h.0) h.1 c ((Decides-int_eq k (pos 1)).0 p.0) ((Decides-int_eq c (pos 0)).0 p.1) h.3 in
       subst (Gives frees calls t b) (w.1 ∙ ap whole (sym (ap int_of w.1)) ∙ ap whole (sym q)) h.2
 
-  sum_gives : (ps : Parts) (c : ℤ) (bs : List Kind) (b : List Value) (x : ℤ) → are_ints vars defs bs ps ≡ true → are_of bs b ≡ true → GivesSum frees calls ps b x → Gives frees calls (sum_term ps c) b (whole (x +ℤ c))
+  pub sum_gives : (ps : Parts) (c : ℤ) (bs : List Kind) (b : List Value) (x : ℤ) → are_ints vars defs bs ps ≡ true → are_of bs b ≡ true → GivesSum frees calls ps b x → Gives frees calls (sum_term ps c) b (whole (x +ℤ c))
   sum_gives no_parts c bs b x i f h = ap (λ y. whole (y +ℤ c)) h ∙ ap whole (Z.zero_plus c)
   sum_gives (part k t no_parts) c bs b x i f h = cond_has (λ u. Gives frees calls u b (whole (x +ℤ c))) (int_eq k (pos 1) && int_eq c (pos 0)) t (linear (part k t no_parts) c) (lone_part_gives k t c bs b x (first_int vars defs k t no_parts bs i).0 f h) (λ _. (x, h, refl))
   sum_gives (part k t (part j u ps)) c bs b x i f h = (x, h, refl)
@@ -104,7 +104,7 @@ module _ (vars : List Kind) (defs : List Def) (frees : List Value) (calls : Call
       let c = term_gives y (negsuc 0) p.0 q.0 b w ((pos 1 *ℤ int_of v) +ℤ pos 0) h a q.1 in
       subst (λ z. Gives frees calls z b (whole (int_of v +ℤ (negsuc 0 *ℤ int_of w)))) q.2
       (subst (Gives frees calls (term_of q.0) b) (ap whole (Z.minus_plus (int_of v) (int_of w)))
-        (linear_gives q.0 bs b ((negsuc 0 *ℤ int_of w) +ℤ ((pos 1 *ℤ int_of v) +ℤ pos 0)) (term_ints vars defs y (negsuc 0) p.0 q.0 bs j (term_ints vars defs x (pos 1) (constant (pos 0)) p.0 bs i refl p.1) q.1) f c))
+      (linear_gives q.0 bs b ((negsuc 0 *ℤ int_of w) +ℤ ((pos 1 *ℤ int_of v) +ℤ pos 0)) (term_ints vars defs y (negsuc 0) p.0 q.0 bs j (term_ints vars defs x (pos 1) (constant (pos 0)) p.0 bs i refl p.1) q.1) f c))
 
   ordered_product_gives : (x y u : Tree) (b : List Value) (v w : Value) → Gives frees calls x b v → Gives frees calls y b w → Some (mul (in_order x y).0 (in_order x y).1) ≡ Some u → Gives frees calls u b (whole (int_of v *ℤ int_of w))
   ordered_product_gives x y u b v w g h e = some_has (λ t. Gives frees calls t b (whole (int_of v *ℤ int_of w))) (mul (in_order x y).0 (in_order x y).1) u e

@@ -1,5 +1,5 @@
 -- Values keep their sorts: looked up, put into tables, and in lists.
-use Rattle.std.proofs.Common.{◌≡◌, ◌∙◌, refl, sym, ap, subst, ℕ, zero, suc, ℤ, pos, negsuc, int_lt, int_eq, Bool, true, false, ◌&&◌, not, cond, Option, Some, None, List, [], ◌∷◌, ◌++◌, reverse, slice_get, length, ◌+◌, ◌-◌, arith, nat_eq, eqb-true, is_eq, Less, Equal, Greater}
+use Rattle.std.proofs.Common.{◌≡◌, refl, sym, ap, subst, ℕ, zero, suc, ℤ, pos, int_lt, int_eq, Bool, true, false, ◌&&◌, not, cond, Some, List, [], ◌∷◌, ◌++◌, reverse, slice_get, length, ◌-◌, arith, nat_eq, eqb-true, is_eq, Less, Equal, Greater}
 use mathlib.Core.List.{reverse-cons}
 use Rattle.std.proofs.lemmas.Bool.Decides.{Decides-int_eq}
 use Rattle.std.proofs.lemmas.Int.{ints}
@@ -73,7 +73,7 @@ of_boolean (flag b) h = (b, refl)
 of_boolean (table d es) h = absurd (cc)
 
 -- of an entry: its value, that it isn't the default, that the later ones stand above it, and these
-parts_of_entry : (k : Kind) (d : Value) (i : ℤ) (v : Value) (es : Entries) → are_entries k d (entry i v es) ≡ true → (is_of k v ≡ true) × (not (same v d) ≡ true) × (above i es ≡ true) × (are_entries k d es ≡ true)
+pub parts_of_entry : (k : Kind) (d : Value) (i : ℤ) (v : Value) (es : Entries) → are_entries k d (entry i v es) ≡ true → (is_of k v ≡ true) × (not (same v d) ≡ true) × (above i es ≡ true) × (are_entries k d es ≡ true)
 parts_of_entry k d i v es h =
     let p = both_true (is_of k v) (not (same v d) && (above i es && are_entries k d es)) h in
     let q = both_true (not (same v d)) (above i es && are_entries k d es) p.1 in
@@ -107,13 +107,13 @@ other_test false true e f = refl
 other_test false false e f = absurd (cc)
 
 -- where i is neither j nor below it, it is above
-above_other : (i j : ℤ) → int_eq i j ≡ false → int_lt i j ≡ false → int_lt j i ≡ true
+pub above_other : (i j : ℤ) → int_eq i j ≡ false → int_lt i j ≡ false → int_lt j i ≡ true
 above_other i j e f = other_test (int_lt i j) (int_lt j i) e f
 
-less_less : (i j l : ℤ) → int_lt i j ≡ true → int_lt j l ≡ true → int_lt i l ≡ true
+pub less_less : (i j l : ℤ) → int_lt i j ≡ true → int_lt j l ≡ true → int_lt i l ≡ true
 less_less i j l h a = grind (arith, ints)
 
-above_less : (i j : ℤ) (es : Entries) → int_lt i j ≡ true → above j es ≡ true → above i es ≡ true
+pub above_less : (i j : ℤ) (es : Entries) → int_lt i j ≡ true → above j es ≡ true → above i es ≡ true
 above_less i j no_entries h a = refl
 above_less i j (entry l v es) h a = less_less i j l h a
 
@@ -130,8 +130,8 @@ put_in_sort k d (entry j w es) i v h g = let p = parts_of_entry k d j w es g in
     cond_has (λ x. are_entries k d x ≡ true) (int_eq i j) (kept d i v es) (cond (int_lt i j) (kept d i v (entry j w es)) (entry j w (put_in d es i v)))
     (λ e. kept_sort k d i v es h (subst (λ l. above l es ≡ true) (sym ((Decides-int_eq i j).0 e)) p.2) p.3)
     (λ e. cond_has (λ x. are_entries k d x ≡ true) (int_lt i j) (kept d i v (entry j w es)) (entry j w (put_in d es i v))
-      (λ f. kept_sort k d i v (entry j w es) h f g)
-      (λ f. entry_sort k d j w (put_in d es i v) p.0 p.1 (put_in_above k j d es i v (above_other i j e f) p.2 p.3) (put_in_sort k d es i v h p.3)))
+    (λ f. kept_sort k d i v (entry j w es) h f g)
+    (λ f. entry_sort k d j w (put_in d es i v) p.0 p.1 (put_in_above k j d es i v (above_other i j e f) p.2 p.3) (put_in_sort k d es i v h p.3)))
 
 pub put_sort : (k : Kind) (v : Value) (i : ℤ) (w : Value) → is_of (map k) v ≡ true → is_of k w ≡ true → is_of (map k) (put v i w) ≡ true
 put_sort k (whole n) i w h g = absurd (cc)

@@ -1,5 +1,5 @@
 -- What a term doesn't mention doesn't matter: variables, binders and definitions beyond those over which it is well sorted.
-use Rattle.std.proofs.Common.{◌≡◌, ◌∙◌, refl, sym, ap, subst, ℕ, zero, suc, ◌-◌, ◌<◌, ◌≤◌, ℤ, ◌+ℤ◌, ◌*ℤ◌, Bool, true, false, ◌&&◌, Option, Some, None, IsTrue, List, [], ◌∷◌, ◌++◌, reverse, slice_get, length, arith}
+use Rattle.std.proofs.Common.{◌≡◌, ◌∙◌, refl, sym, ap, ℕ, zero, suc, ◌-◌, ◌<◌, ◌≤◌, ℤ, Bool, true, Some, IsTrue, List, [], ◌∷◌, ◌++◌, reverse, slice_get, length, arith}
 use Rattle.logic_core.specs.Tree.{Kind, int, boolean, map, Tree, num, truth, free, bound, linear, mul, read, write, choose, call, negation, all, some, equal, at_most, for_all, exists, Trees, no_trees, tree, Parts, no_parts, part}
 use Rattle.logic_core.specs.Def.{Def}
 use Rattle.logic_core.specs.Value.{Value, holds, is_of, are_of, at}
@@ -56,8 +56,8 @@ abbrev pub SameCalls : List Def → Calls → Calls → Type 0
 SameCalls below calls calls' = (f : ℕ) (d : Def) (vs : List Value) (r : Value) → slice_get below f ≡ Some d → calls f vs (λ v. v ≡ r) → calls' f vs (λ v. v ≡ r)
 
 module _ (vars : List Kind) (below : List Def) (frees : List Value) (calls : Calls) (has_call : (f : ℕ) (vs : List Value) → HasOne (calls f vs)) (keeps_call : (f : ℕ) (vs : List Value) → Keeps (calls f vs))
-         (frees' : List Value) (calls' : Calls) (has_call' : (f : ℕ) (vs : List Value) → HasOne (calls' f vs)) (keeps_call' : (f : ℕ) (vs : List Value) → Keeps (calls' f vs))
-         (same_frees : Agree vars frees frees') (same_calls : SameCalls below calls calls') where
+    (frees' : List Value) (calls' : Calls) (has_call' : (f : ℕ) (vs : List Value) → HasOne (calls' f vs)) (keeps_call' : (f : ℕ) (vs : List Value) → Keeps (calls' f vs))
+    (same_frees : Agree vars frees frees') (same_calls : SameCalls below calls calls') where
   holds_over : (t : Tree) (b b' : List Value) → ((r : Value) → Gives frees calls t b r → Gives frees' calls' t b' r) → (Holds frees calls t b → Holds frees' calls' t b') × (Holds frees' calls' t b' → Holds frees calls t b)
   holds_over t b b' f = same_values frees calls has_call keeps_call frees' calls' has_call' keeps_call' t t b b' f (λ v. IsTrue (holds v)) (λ v. true_stable (holds v))
 

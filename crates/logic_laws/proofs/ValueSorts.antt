@@ -1,14 +1,14 @@
 -- A term's value is of its sort.
-use Rattle.std.proofs.Common.{◌≡◌, refl, sym, ap, subst, ℕ, ℤ, pos, ◌+ℤ◌, ◌*ℤ◌, int_le, Bool, true, false, ◌&&◌, not, Option, Some, None, IsTrue, List, [], ◌∷◌, ◌++◌, reverse, slice_get, inl, inr}
-use Rattle.logic_core.specs.Tree.{Kind, int, boolean, map, Tree, num, truth, free, bound, linear, mul, read, write, choose, call, negation, all, some, equal, at_most, for_all, exists, Trees, no_trees, tree, Parts, no_parts, part}
+use Rattle.std.proofs.Common.{◌≡◌, refl, sym, subst, ℕ, ◌+ℤ◌, ◌*ℤ◌, int_le, Bool, true, false, ◌&&◌, not, Some, IsTrue, List, [], ◌∷◌, ◌++◌, reverse, slice_get, inl, inr}
+use Rattle.logic_core.specs.Tree.{Kind, int, boolean, map, Tree, num, truth, free, bound, linear, mul, read, write, choose, call, negation, all, some, equal, at_most, for_all, exists, Trees, no_trees, tree}
 use Rattle.logic_core.specs.Def.{Def}
 use Rattle.logic_core.specs.Value.{Value, whole, flag, int_of, holds, same, look, put, is_of, are_of, at}
 use Rattle.logic_core.specs.Meaning.{If}
 use Rattle.logic_core.specs.Valid.{Calls}
 use Rattle.logic_core.specs.Sorts.{is, sort_of, are, are_formulas, are_ints, have_sorts_in}
 use Rattle.logic_core.proofs.Values.{HasOne}
-use Rattle.logic_core.proofs.Kept.{Stable, Keeps, true_stable}
-use Rattle.logic_laws.proofs.Options.{both_true, all_true, when_some}
+use Rattle.logic_core.proofs.Kept.{true_stable}
+use Rattle.logic_laws.proofs.Options.{all_true, when_some}
 use Rattle.logic_laws.proofs.FormulaSorts.{parts_of_equal}
 use Rattle.logic_laws.proofs.NormalSorts.{parts_of_mul, parts_of_read, parts_of_write, parts_of_choose, parts_of_call, first_of_sort}
 use Rattle.logic_laws.proofs.Tables.{at_sort, look_sort, put_sort}

@@ -22,5 +22,5 @@ module _ (frees : List Value) (defs : List Def) where
   abbrev pub HoldsThere : Tree → List Value → Type 0
   HoldsThere t b = Holds frees (calls_of frees defs) t b
 
-  abbrev pub HaveOneValue : Tree → Tree → List Value → Type 0
-  HaveOneValue t u b = (w : Value) → ValueIs t b w ↔ ValueIs u b w
+  abbrev pub HaveSameValue : Tree → Tree → List Value → Type 0
+  HaveSameValue t u b = (w : Value) → ValueIs t b w ↔ ValueIs u b w

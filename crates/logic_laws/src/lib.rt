@@ -2,9 +2,10 @@
 // each one's contract is a law over the definitions of sorts, values and normal forms.
 #![tactic(auto)]
 
-pub mod sorts;
-pub mod values;
+pub mod binders;
 pub mod normal;
 pub mod replace;
-pub mod binders;
+pub mod sorts;
+pub mod values;
 pub mod variables;
+pub mod writes;

@@ -1,7 +1,7 @@
 // The normal form keeps what a term means.
-ghost use Rattle.logic_laws.specs.NormalLaws.{NormalKeepsValues, NormalKeepsTruth, NegatedIsNot};
+ghost use Rattle.logic_laws.specs.NormalLaws.{NormalKeepsValues, NormalKeepsTruth, NegatedIsNot, TighteningKeepsSorts, TighteningKeepsValues};
 
-/// A well-sorted term and its normal form have one value.
+/// A well-sorted term and its normal form have the same value.
 pub fn normal_keeps_values()
     ensures { NormalKeepsValues }
 {}
@@ -14,4 +14,14 @@ pub fn normal_keeps_truth()
 /// The normal `Not` of a formula has the value of its `Not`.
 pub fn negated_is_not()
     ensures { NegatedIsNot }
+{}
+
+/// A tightened formula is a formula.
+pub fn tightening_keeps_sorts()
+    ensures { TighteningKeepsSorts }
+{}
+
+/// A formula and its tightened form have the same value.
+pub fn tightening_keeps_values()
+    ensures { TighteningKeepsValues }
 {}

@@ -1,5 +1,15 @@
-// Values have the sorts of their terms.
-ghost use Rattle.logic_laws.specs.ValueLaws.{ValuesHaveSorts, SameIsEquality};
+// Terms have values, of their sorts.
+ghost use Rattle.logic_laws.specs.ValueLaws.{ValuesExist, ValuesAreUnique, ValuesHaveSorts, SameIsEquality};
+
+/// No term is without a value.
+pub fn values_exist()
+    ensures { ValuesExist }
+{}
+
+/// A term has no two values.
+pub fn values_are_unique()
+    ensures { ValuesAreUnique }
+{}
 
 /// In an assignment the value of a well-sorted term is of its sort.
 pub fn values_have_sorts()

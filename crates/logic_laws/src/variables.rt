@@ -1,5 +1,5 @@
-// A term means the same over more variables.
-ghost use Rattle.logic_laws.specs.VariableLaws.{MoreVariablesKeepSorts, MoreVariablesKeepAssignments, MoreVariablesKeepValues};
+// A term means the same over more variables, and whatever the values of those that it doesn't mention.
+ghost use Rattle.logic_laws.specs.VariableLaws.{MoreVariablesKeepSorts, MoreVariablesKeepAssignments, MoreVariablesKeepValues, OtherVariablesDontMatter};
 
 /// Over more variables a term keeps its sort.
 pub fn more_variables_keep_sorts()
@@ -14,4 +14,9 @@ pub fn more_variables_keep_assignments()
 /// With values for more variables a term keeps its value.
 pub fn more_variables_keep_values()
     ensures { MoreVariablesKeepValues }
+{}
+
+/// Two assignments that agree on the variables that a term and the definitions mention give the term the same value.
+pub fn other_variables_dont_matter()
+    ensures { OtherVariablesDontMatter }
 {}

@@ -8,3 +8,4 @@ pub mod Rules
 pub mod Sound
 pub mod Building
 pub mod Without
+mod Examples
