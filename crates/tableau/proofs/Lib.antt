@@ -1,2 +1,11 @@
 mod SearchExamples
 pub mod Turns
+pub mod Reversed
+pub mod Moves
+pub mod Found
+pub mod Tracked
+pub mod OutsideSorts
+pub mod Outcomes
+pub mod RulesGo
+pub mod RewritesGo
+pub mod Refuting

@@ -21,10 +21,10 @@ on_one m = record { ending = goes_on; made = m ∷ [] }
 -- the sizes of all facts that are added or changed, over all branches
 abbrev pub nodes_made : List Made → ℕ
 nodes_made [] = 0
-nodes_made (m ∷ ms) = capped (m.size + nodes_made ms)
+nodes_made (m ∷ ms) = m.size + nodes_made ms
 
 abbrev pub cost : Move → ℕ
-cost m = 1 + nodes_made m.made / 64
+cost m = 1 + capped (nodes_made m.made) / 64
 
 abbrev pub branches_of : List Made → List Branch
 branches_of [] = []

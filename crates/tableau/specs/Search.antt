@@ -1,8 +1,11 @@
 -- The search: a step applies the first rule that can be applied, on the top branch; the verdict, and the proof made of the steps' nodes.
-use Rattle.std.specs.Prelude.{ℕ, zero, suc, ◌+◌, ◌-◌, nat_lt, true, false, Option, Some, None, List, [], ◌∷◌, ◌++◌, length, drop, slice_get}
+use Rattle.std.specs.Prelude.{◌≡◌, ℕ, zero, suc, ◌+◌, ◌-◌, nat_lt, true, false, Option, Some, None, List, [], ◌∷◌, ◌++◌, length, drop, slice_get}
 use Rattle.logic_core.specs.Def.{Def, Obligation}
-use Rattle.proof_core.specs.Proof.{Step, Proof, proof, Proofs, no_proofs, one_proof, by_close, by_cases}
+use Rattle.proof_core.specs.Proof.{Step, Proof, proof, by_close, by_cases}
+use Rattle.proof_core.specs.View.{proofs_of}
 use Rattle.proof_core.specs.Context.{Context, start}
+use Rattle.proof_core.specs.Accepted.{IsAccepted}
+use Rattle.proof_core.specs.Soundness.{IsWellSorted}
 use Rattle.tableau.specs.Branch.{Branch, Attempt, none, leaves, gives, numbered}
 use Rattle.tableau.specs.Move.{Ending, goes_on, closes, forks, Move, cost, branches_of, Played, played}
 use Rattle.tableau.specs.Closing.{close, flatten}
@@ -55,25 +58,30 @@ module _ (defs : List Def) where
 abbrev pub begin_with : List Step → Proof → Proof
 begin_with ss (proof ts e) = proof (ss ++ ts) e
 
-abbrev pub all_begin_with : List (List Step) → List Proof → Proofs
-all_begin_with [] ps = no_proofs
-all_begin_with (ss ∷ rest) [] = no_proofs
-all_begin_with (ss ∷ rest) (p ∷ ps) = one_proof (begin_with ss p) (all_begin_with rest ps)
+-- the proofs of the branches of a move, the first of these: each begins with the nodes of its branch
+abbrev pub begin_each : List (List Step) → List Proof → List Proof
+begin_each [] ps = []
+begin_each (ss ∷ rest) [] = []
+begin_each (ss ∷ rest) (p ∷ ps) = begin_with ss p ∷ begin_each rest ps
 
-abbrev pub only : Proofs → Proof
-only no_proofs = proof [] (by_close 0 0)
-only (one_proof p ps) = p
+abbrev pub only : List Proof → Proof
+only [] = proof [] (by_close 0 0)
+only (p ∷ ps) = p
 
 -- the proof of a branch on which a move was made, from those of the branches that it made
-abbrev pub proof_of : Ending → Proofs → Proof
+abbrev pub proof_of : Ending → List Proof → Proof
 proof_of goes_on ps = only ps
 proof_of (closes f g) ps = proof [] (by_close f g)
-proof_of (forks f) ps = proof [] (by_cases f ps)
+proof_of (forks f) ps = proof [] (by_cases f (proofs_of ps))
 
--- the proofs of the branches on the stack, from the moves that emptied it
-abbrev pub proofs_of : List Played → List Proof
-proofs_of [] = []
-proofs_of (m ∷ ms) = let ps = proofs_of ms in proof_of m.ending (all_begin_with m.steps ps) ∷ drop (length m.steps) ps
+-- the proofs of the branches on the stack before a move, from those of the stack after it
+abbrev pub joined : Played → List Proof → List Proof
+joined m ps = proof_of m.ending (begin_each m.steps ps) ∷ drop (length m.steps) ps
+
+-- the proofs of the branches on the stack before these moves, from those of the stack after them
+abbrev pub proofs_before : List Played → List Proof → List Proof
+proofs_before [] ps = ps
+proofs_before (m ∷ ms) ps = joined m (proofs_before ms ps)
 
 -- the first facts as they stand at a proof's start: true and equal ones among them stay
 abbrev pub first_branch : Context → Branch
@@ -84,7 +92,7 @@ pub record Answer : Type 0 where
   pub found : Option Proof
 
 abbrev pub found_by : Verdict → List Played → Option Proof
-found_by proved ms = slice_get (proofs_of ms) 0
+found_by proved ms = slice_get (proofs_before ms []) 0
 found_by v ms = None
 
 abbrev pub answer_of : Run → Answer
@@ -95,3 +103,7 @@ answer o n = elim (start o) [
   | None ↦ record { verdict = wide; found = None }
   | Some c ↦ answer_of (run o.defs n n (first_branch c ∷ []))
 ]
+
+-- the proof that is found for a well-sorted obligation is accepted
+abbrev pub FindsAccepted : Type 0
+FindsAccepted = (o : Obligation) (n : ℕ) (p : Proof) → IsWellSorted o → (answer o n).found ≡ Some p → IsAccepted o p

@@ -1,0 +1,287 @@
+// The sort of a term, where it is well sorted.
+ghost use Rattle.std.specs.Prelude.{◌≡◌, ◌++◌, ◌&&◌, reverse, IfOk, slice_get, Some};
+ghost use Rattle.logic_core.specs.Tree.{int, boolean};
+ghost use Rattle.logic_core.specs.View.{trees_of, parts_of, patterns_of, each_items};
+ghost use Rattle.logic_core.specs.Wide.{when};
+ghost use Rattle.logic_core.specs.Sorts.{is, range, sort_of, are, are_formulas, are_ints, have_sorts, have_sorts_in};
+
+use crate::copy::copy_sorts;
+use crate::def::Signature;
+use crate::sort::{Sort, SortKind};
+use crate::term::{Node, Term};
+use std::alloc::{AllocError, Global};
+
+impl Sort {
+    /// The sort of integers.
+    pub fn int() -> Sort
+        ensures { result ≡ int }
+    {
+        Sort {
+            kind: SortKind::Int,
+        }
+    }
+
+    /// The sort of truth values.
+    pub fn boolean() -> Sort
+        ensures { result ≡ boolean }
+    {
+        Sort {
+            kind: SortKind::Bool,
+        }
+    }
+
+    /// What a map of this sort holds; None where it is no map.
+    pub fn range(&self, alloc: Global) -> Result<Option<Sort>, AllocError>
+        ensures { IfOk result (λ r. r ≡ range self.now) }
+    {
+        match &self.kind {
+            SortKind::Int | SortKind::Bool => Ok(None),
+            SortKind::Map(range) => Ok(Some(range.copy(alloc)?)),
+        }
+    }
+}
+
+/// The sort with that number, where there is one.
+fn sort_at(alloc: Global, sorts: &[Sort], number: u64) -> Result<Option<Sort>, AllocError>
+    ensures { IfOk result (λ s. s ≡ slice_get sorts.now number) }
+{
+    match sorts.get(number as usize) {
+        Some(sort) => Ok(Some(sort.copy(alloc)?)),
+        None => Ok(None),
+    }
+}
+
+/// The sorts of the bound variables in reach of a binder's body: the binder's last variable first.
+fn within_binder(alloc: Global, sorts: &[Sort], bound: &[Sort]) -> Result<Vec<Sort>, AllocError>
+    ensures { IfOk result (λ v. v.items ≡ reverse sorts.now ++ bound.now) }
+{
+    let mut reach = copy_sorts(alloc, sorts)?;
+    reach.reverse();
+    for sort in bound {
+        reach.push(sort.copy(alloc)?)?;
+    }
+    Ok(reach)
+}
+
+impl Term {
+    /// The sort of the term, None exactly where it isn't well sorted. `bound` are the sorts of the
+    /// bound variables in reach, that of `Bound(0)` first.
+    #[cycle(sorts)]
+    pub fn sort_of(
+        &self,
+        alloc: Global,
+        sig: &Signature,
+        bound: &[Sort],
+    ) -> Result<Option<Sort>, AllocError>
+        ensures { IfOk result (λ s. s ≡ sort_of sig.now.vars sig.now.defs bound.now self.now) }
+    {
+        match &self.node {
+            Node::Num(_) => Ok(Some(Sort::int())),
+            Node::Truth(_) => Ok(Some(Sort::boolean())),
+            Node::Free(v) => sort_at(alloc, sig.vars(), *v),
+            Node::Bound(v) => sort_at(alloc, bound, *v),
+            Node::Sum(parts, _) => Ok(when(are_ints(alloc, sig, bound, parts)?, Sort::int())),
+            Node::Mul(a, b) => Ok(when(
+                a.has_sort(alloc, sig, bound, &Sort::int())?
+                    && b.has_sort(alloc, sig, bound, &Sort::int())?,
+                Sort::int(),
+            )),
+            Node::Read(map, index) => {
+                let Some(sort) = map.sort_of(alloc, sig, bound)? else {
+                    return Ok(None);
+                };
+                let Some(held) = sort.range(alloc)? else {
+                    return Ok(None);
+                };
+                Ok(when(index.has_sort(alloc, sig, bound, &Sort::int())?, held))
+            }
+            Node::Write(map, index, value) => {
+                let Some(sort) = map.sort_of(alloc, sig, bound)? else {
+                    return Ok(None);
+                };
+                let Some(held) = sort.range(alloc)? else {
+                    return Ok(None);
+                };
+                Ok(when(
+                    index.has_sort(alloc, sig, bound, &Sort::int())?
+                        && value.has_sort(alloc, sig, bound, &held)?,
+                    sort,
+                ))
+            }
+            Node::If(condition, a, b) => {
+                let Some(sort) = a.sort_of(alloc, sig, bound)? else {
+                    return Ok(None);
+                };
+                Ok(when(
+                    condition.has_sort(alloc, sig, bound, &Sort::boolean())?
+                        && b.has_sort(alloc, sig, bound, &sort)?,
+                    sort,
+                ))
+            }
+            Node::Call(f, terms) => {
+                let Some(def) = sig.defs().get(*f as usize) else {
+                    return Ok(None);
+                };
+                Ok(when(
+                    are(alloc, sig, bound, def.params.as_slice(), terms)?,
+                    def.sort.copy(alloc)?,
+                ))
+            }
+            Node::Not(a) => Ok(when(
+                a.has_sort(alloc, sig, bound, &Sort::boolean())?,
+                Sort::boolean(),
+            )),
+            Node::And(terms) | Node::Or(terms) => {
+                Ok(when(are_formulas(alloc, sig, bound, terms)?, Sort::boolean()))
+            }
+            Node::Eq(a, b) => {
+                let Some(sort) = a.sort_of(alloc, sig, bound)? else {
+                    return Ok(None);
+                };
+                Ok(when(b.has_sort(alloc, sig, bound, &sort)?, Sort::boolean()))
+            }
+            Node::Le(a, b) => Ok(when(
+                a.has_sort(alloc, sig, bound, &Sort::int())?
+                    && b.has_sort(alloc, sig, bound, &Sort::int())?,
+                Sort::boolean(),
+            )),
+            Node::ForAll(sorts, patterns, body) | Node::Exists(sorts, patterns, body) => {
+                let reach = within_binder(alloc, sorts, bound)?;
+                Ok(when(
+                    is_quantified(alloc, sig, reach.as_slice(), patterns, body)?,
+                    Sort::boolean(),
+                ))
+            }
+        }
+    }
+
+    /// Whether the term is well sorted and has this sort.
+    #[cycle(sorts)]
+    pub fn has_sort(
+        &self,
+        alloc: Global,
+        sig: &Signature,
+        bound: &[Sort],
+        sort: &Sort,
+    ) -> Result<bool, AllocError>
+        ensures { IfOk result (λ h. h ≡ is sort.now (sort_of sig.now.vars sig.now.defs bound.now self.now)) }
+    {
+        match self.sort_of(alloc, sig, bound)? {
+            Some(found) => Ok(found.equals(sort)),
+            None => Ok(false),
+        }
+    }
+}
+
+/// Whether the triggers of a quantifier are well sorted, and its body is a formula.
+#[cycle(sorts)]
+fn is_quantified(
+    alloc: Global,
+    sig: &Signature,
+    reach: &[Sort],
+    patterns: &[Vec<Term>],
+    body: &Term,
+) -> Result<bool, AllocError>
+    ensures { IfOk result (λ h. h ≡ have_sorts_in sig.now.vars sig.now.defs reach.now (patterns_of (each_items patterns.now)) && is boolean (sort_of sig.now.vars sig.now.defs reach.now body.now)) }
+{
+    Ok(
+        have_sorts_in(alloc, sig, reach, patterns)?
+            && body.has_sort(alloc, sig, reach, &Sort::boolean())?,
+    )
+}
+
+/// The sort, where the test holds.
+fn when(holds: bool, sort: Sort) -> Option<Sort>
+    ensures { result ≡ when holds (Some sort) }
+{
+    if holds { Some(sort) } else { None }
+}
+
+/// Whether the terms have these sorts, and are as many.
+#[cycle(sorts)]
+fn are(
+    alloc: Global,
+    sig: &Signature,
+    bound: &[Sort],
+    sorts: &[Sort],
+    terms: &[Term],
+) -> Result<bool, AllocError>
+    ensures { IfOk result (λ h. h ≡ are sig.now.vars sig.now.defs bound.now sorts.now (trees_of terms.now)) }
+{
+    let shared = sorts.len().min(terms.len());
+    for i in 0..shared {
+        if !terms[i].has_sort(alloc, sig, bound, &sorts[i])? {
+            return Ok(false);
+        }
+    }
+    Ok(sorts.len() == terms.len())
+}
+
+#[cycle(sorts)]
+fn are_formulas(
+    alloc: Global,
+    sig: &Signature,
+    bound: &[Sort],
+    terms: &[Term],
+) -> Result<bool, AllocError>
+    ensures { IfOk result (λ h. h ≡ are_formulas sig.now.vars sig.now.defs bound.now (trees_of terms.now)) }
+{
+    for term in terms {
+        if !term.has_sort(alloc, sig, bound, &Sort::boolean())? {
+            return Ok(false);
+        }
+    }
+    Ok(true)
+}
+
+#[cycle(sorts)]
+fn are_ints(
+    alloc: Global,
+    sig: &Signature,
+    bound: &[Sort],
+    parts: &[(i128, Term)],
+) -> Result<bool, AllocError>
+    ensures { IfOk result (λ h. h ≡ are_ints sig.now.vars sig.now.defs bound.now (parts_of parts.now)) }
+{
+    for part in parts {
+        if !part.1.has_sort(alloc, sig, bound, &Sort::int())? {
+            return Ok(false);
+        }
+    }
+    Ok(true)
+}
+
+/// Whether the terms are well sorted, of any sorts.
+#[cycle(sorts)]
+fn have_sorts(
+    alloc: Global,
+    sig: &Signature,
+    bound: &[Sort],
+    terms: &[Term],
+) -> Result<bool, AllocError>
+    ensures { IfOk result (λ h. h ≡ have_sorts sig.now.vars sig.now.defs bound.now (trees_of terms.now)) }
+{
+    for term in terms {
+        if term.sort_of(alloc, sig, bound)?.is_none() {
+            return Ok(false);
+        }
+    }
+    Ok(true)
+}
+
+#[cycle(sorts)]
+fn have_sorts_in(
+    alloc: Global,
+    sig: &Signature,
+    bound: &[Sort],
+    patterns: &[Vec<Term>],
+) -> Result<bool, AllocError>
+    ensures { IfOk result (λ h. h ≡ have_sorts_in sig.now.vars sig.now.defs bound.now (patterns_of (each_items patterns.now))) }
+{
+    for pattern in patterns {
+        if !have_sorts(alloc, sig, bound, pattern)? {
+            return Ok(false);
+        }
+    }
+    Ok(true)
+}

@@ -1,0 +1,92 @@
+// The proof that the moves of a search make.
+ghost use Rattle.std.specs.Prelude.{◌≡◌, List, [], ◌∷◌, IfOk, OnOk, map, drop, length, slice_get};
+ghost use Rattle.tableau.specs.Search.{begin_each, only, proof_of, joined, proofs_before};
+ghost use Rattle.tableau.specs.View.{each_steps, ending_of, played_of, partial_of, partials_of};
+
+use crate::partial::PartialProof;
+use crate::played::{Ending, Played};
+use proof_core::proof::{End, Proof, Step};
+use std::alloc::{AllocError, Global};
+
+
+/// Takes as many proofs from the stack as there are lists of steps: each begins with its steps.
+fn begin_each(
+    alloc: Global,
+    mut steps: Vec<Vec<Step>>,
+    stack: &mut Vec<PartialProof>,
+) -> Result<Vec<PartialProof>, AllocError>
+    ensures begun { IfOk result (λ v. map partial_of v.items ≡ begin_each (each_steps steps.items) (partials_of stack.old.items)) }
+    ensures left { OnOk result (partials_of stack.new.items ≡ drop (length steps.items) (partials_of stack.old.items)) }
+{
+    let mut begun = Vec::new(alloc);
+    steps.reverse();
+    while let Some(first) = steps.pop() {
+        match stack.pop() {
+            Some(partial) => begun.push(partial.begin_with(first)?)?,
+            None => return Ok(begun),
+        }
+    }
+    Ok(begun)
+}
+
+/// The first proof, which is the only one.
+fn only(alloc: Global, mut begun: Vec<PartialProof>) -> PartialProof
+    ensures { partial_of result ≡ only (map partial_of begun.items) }
+{
+    begun.reverse();
+    match begun.pop() {
+        Some(partial) => partial,
+        None => PartialProof {
+            steps: Vec::new(alloc),
+            end: End::Close(0, 0),
+        },
+    }
+}
+
+/// The finished proofs.
+fn finish_each(alloc: Global, begun: Vec<PartialProof>) -> Result<Vec<Proof>, AllocError>
+    ensures { IfOk result (λ v. v.items ≡ map partial_of begun.items) }
+{
+    begun.into_iter().map(|partial| partial.finish()).collect(alloc)
+}
+
+/// The proof of a branch on which a move was made, from those of the branches that it made.
+fn proof_of(alloc: Global, ending: Ending, begun: Vec<PartialProof>) -> Result<PartialProof, AllocError>
+    ensures { IfOk result (λ p. partial_of p ≡ proof_of (ending_of ending) (map partial_of begun.items)) }
+{
+    match ending {
+        Ending::GoesOn => Ok(only(alloc, begun)),
+        Ending::Closes(f, g) => Ok(PartialProof {
+            steps: Vec::new(alloc),
+            end: End::Close(f, g),
+        }),
+        Ending::Forks(f) => Ok(PartialProof {
+            steps: Vec::new(alloc),
+            end: End::Cases(f, finish_each(alloc, begun)?),
+        }),
+    }
+}
+
+/// Puts the proofs of the branches before a move in place of those after it.
+fn join(alloc: Global, stack: &mut Vec<PartialProof>, played: Played) -> Result<(), AllocError>
+    ensures { OnOk result (partials_of stack.new.items ≡ joined (played_of played) (partials_of stack.old.items)) }
+{
+    let Played { ending, steps } = played;
+    let begun = begin_each(alloc, steps, stack)?;
+    stack.push(proof_of(alloc, ending, begun)?)?;
+    Ok(())
+}
+
+/// The proof of the first branch, from the moves that emptied the stack.
+pub fn assemble(alloc: Global, mut moves: Vec<Played>) -> Result<Option<Proof>, AllocError>
+    ensures { IfOk result (λ p. p ≡ slice_get (proofs_before (map played_of moves.items) []) 0) }
+{
+    let mut stack = Vec::new(alloc);
+    while let Some(played) = moves.pop() {
+        join(alloc, &mut stack, played)?;
+    }
+    match stack.pop() {
+        Some(partial) => Ok(Some(partial.finish())),
+        None => Ok(None),
+    }
+}
