@@ -4,3 +4,4 @@
 pub mod cursor;
 pub mod faults;
 pub mod first_form;
+pub mod productions;

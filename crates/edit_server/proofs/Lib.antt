@@ -1,0 +1,4 @@
+pub mod Found
+pub mod Tokens
+pub mod Sound
+pub mod SoundProcedure
