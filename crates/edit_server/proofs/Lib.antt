@@ -2,3 +2,5 @@ pub mod Found
 pub mod Tokens
 pub mod Sound
 pub mod SoundProcedure
+pub mod Complete
+pub mod CompleteProcedure
