@@ -11,7 +11,7 @@ use Rattle.edit_server.specs.Spelling.{operand_spelling, local_spelling, part_sp
 use Rattle.edit_server.specs.Reading.{Found, followed, found_as, if_found, many, read_literal, read_named, read_mark, sign_named, relation_named, read_local, read_operand, begins_part, read_part, read_sum, read_comparison, read_conjunct, read_conjunction, read_condition, read_assignment, read_statement, begins_statement, read_statements, begins_with, read_body}
 use Rattle.edit_server.proofs.Found.{IsSound, Shrinks, many_stops, many_goes}
 use Rattle.edit_server.proofs.Tokens.{mark_sound}
-use Rattle.edit_server.proofs.Sound.{sound_shrinks, part_sound, conjunct_sound, statement_sound}
+use Rattle.edit_server.proofs.Sound.{part_shrinks, conjunct_shrinks, statement_shrinks}
 
 abbrev pub IsComplete : {A : Type 0} → (List Lexeme → Found A) → (A → List Lexeme) → (A → Type 0) → (List Lexeme → Type 0) → Type 0
 IsComplete {A} item spell Good Ends = (a : A) (rest : List Lexeme) → Good a → Ends rest → item (spell a ++ rest) ≡ Some (a, rest)
@@ -87,7 +87,7 @@ module _ (locals : List (List ℕ)) (distinct : IsDistinct bytes_eq locals) wher
   parts_repeat : Repeats (begins_part locals) (read_part locals) (part_spelling locals) (λ p. OperandFits (length locals) p.1) Anything
   parts_repeat = record {
     complete = part_complete;
-    shrinks = sound_shrinks (begins_part locals) (read_part locals) (part_spelling locals) (λ p. OperandFits (length locals) p.1) (part_sound locals) (λ p. omega arith);
+    shrinks = part_shrinks locals;
     starts = λ p rest. rw (sign_complete p.0 (operand_spelling locals p.1 ∷ rest)) refl;
     goes_on = λ ls e. tt;
   }
@@ -127,7 +127,7 @@ module _ (locals : List (List ℕ)) (distinct : IsDistinct bytes_eq locals) wher
   conjuncts_repeat : Repeats (begins_with (codes "&&")) (read_conjunct locals) (conjunct_spelling locals) (ComparisonFits (length locals)) (λ rest. begins_part locals rest ≡ false)
   conjuncts_repeat = record {
     complete = conjunct_complete;
-    shrinks = sound_shrinks (begins_with (codes "&&")) (read_conjunct locals) (conjunct_spelling locals) (ComparisonFits (length locals)) (conjunct_sound locals) (λ c. omega arith);
+    shrinks = conjunct_shrinks locals;
     starts = λ c rest. refl;
     goes_on = λ ls e. and_ends true ls e;
   }
@@ -166,15 +166,10 @@ module _ (locals : List (List ℕ)) (distinct : IsDistinct bytes_eq locals) wher
   starts_statement (assume cs) rest = refl
   starts_statement (assert place cs) rest = refl
 
-  long_statement : (s : Statement) → 0 < length (statement_spelling locals s)
-  long_statement (assign i e) = omega arith
-  long_statement (assume cs) = omega arith
-  long_statement (assert place cs) = omega arith
-
   statements_repeat : Repeats (begins_statement locals) (read_statement locals) (statement_spelling locals) (StatementFits (length locals)) Anything
   statements_repeat = record {
     complete = statement_complete;
-    shrinks = sound_shrinks (begins_statement locals) (read_statement locals) (statement_spelling locals) (StatementFits (length locals)) (statement_sound locals) long_statement;
+    shrinks = statement_shrinks locals;
     starts = starts_statement;
     goes_on = λ ls e. tt;
   }

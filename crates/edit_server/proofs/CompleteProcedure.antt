@@ -5,17 +5,15 @@ use Rattle.std.proofs.Common.{refl, ap, ◌∙◌, sym, arith, append_assoc, app
 use Rattle.edit_server.specs.FirstForm.{Procedure}
 use Rattle.edit_server.specs.Lexeme.{Lexeme, identifier, mark}
 use Rattle.edit_server.specs.Spelling.{statement_spelling, further_name_spelling, names_spelling, group_spelling, locals_of, spelling, IsWellFormed}
-use Rattle.edit_server.specs.Reading.{Found, found_as, many, read_mark, begins_with, read_further_name, read_names, read_group, read_groups, are_distinct, read_heading, read_body, read_procedure}
-use Rattle.edit_server.proofs.Found.{Shrinks}
-use Rattle.edit_server.proofs.Sound.{sound_shrinks}
-use Rattle.edit_server.proofs.SoundProcedure.{further_name_sound, group_sound}
+use Rattle.edit_server.specs.Reading.{Found, found_as, many, read_mark, begins_with, read_further_name, read_names, read_declared, read_group, read_groups, are_distinct, read_heading, read_body, read_procedure}
+use Rattle.edit_server.proofs.SoundProcedure.{further_name_shrinks, group_shrinks}
 use Rattle.edit_server.proofs.Complete.{IsComplete, Anything, Repeats, many_complete, body_complete, body_declares_nothing}
 
 further_names_repeat : Repeats (begins_with (codes ",")) read_further_name further_name_spelling (λ x. Unit {0}) Anything
 unfolding read_further_name
 further_names_repeat = record {
   complete = λ x rest good u. refl;
-  shrinks = sound_shrinks (begins_with (codes ",")) read_further_name further_name_spelling (λ x. Unit {0}) further_name_sound (λ x. omega arith);
+  shrinks = further_name_shrinks;
   starts = λ x rest. refl;
   goes_on = λ ls e. tt;
 }
@@ -30,7 +28,7 @@ names_complete [] rest some e = absurd (omega arith)
 names_complete (x ∷ xs) rest some e = ap (found_as (λ ys. x ∷ ys)) (many_complete (begins_with (codes ",")) read_further_name further_name_spelling (λ x. Unit {0}) Anything further_names_repeat xs rest (all_good xs) e tt)
 
 group_complete : IsComplete read_group group_spelling (λ names. 0 < length names) Anything
-unfolding read_group
+unfolding read_group read_declared
 group_complete names rest some u =
     rw (append_assoc (names_spelling names) (mark (codes ":") ∷ mark (codes "int") ∷ mark (codes ";") ∷ []) rest)
     (rw (names_complete names (mark (codes ":") ∷ mark (codes "int") ∷ mark (codes ";") ∷ rest) some refl) refl)
@@ -38,7 +36,7 @@ group_complete names rest some u =
 groups_repeat : Repeats (begins_with (codes "var")) read_group group_spelling (λ names. 0 < length names) Anything
 groups_repeat = record {
   complete = group_complete;
-  shrinks = sound_shrinks (begins_with (codes "var")) read_group group_spelling (λ names. 0 < length names) group_sound (λ names. omega arith);
+  shrinks = group_shrinks;
   starts = λ names rest. refl;
   goes_on = λ ls e. tt;
 }

@@ -1,4 +1,5 @@
 pub mod Found
+pub mod Loops
 pub mod Tokens
 pub mod Sound
 pub mod SoundProcedure

@@ -157,3 +157,17 @@ module _ (locals : List (List ℕ)) where
       let d = found_as_some _ (read_mark (codes "}") a.0.1) (body, rest) a.2 in
       let first = statements_sound ls a.0.0 a.0.1 a.1 in
       rw (← d.2) (first.0 ∙ (ap (λ us. flat_map (statement_spelling locals) a.0.0 ++ us) (mark_sound (codes "}") a.0.1 d.0 rest d.1) ∙ sym (append_assoc (flat_map (statement_spelling locals) a.0.0) (mark (codes "}") ∷ []) rest)), first.1)
+
+  pub part_shrinks : Shrinks (read_part locals)
+  part_shrinks = sound_shrinks (begins_part locals) (read_part locals) (part_spelling locals) (λ p. OperandFits (length locals) p.1) part_sound (λ p. omega arith)
+
+  pub conjunct_shrinks : Shrinks (read_conjunct locals)
+  conjunct_shrinks = sound_shrinks (begins_with (codes "&&")) (read_conjunct locals) (conjunct_spelling locals) (ComparisonFits (length locals)) conjunct_sound (λ c. omega arith)
+
+  long_statement : (s : Statement) → 0 < length (statement_spelling locals s)
+  long_statement (assign i e) = omega arith
+  long_statement (assume cs) = omega arith
+  long_statement (assert place cs) = omega arith
+
+  pub statement_shrinks : Shrinks (read_statement locals)
+  statement_shrinks = sound_shrinks (begins_statement locals) (read_statement locals) (statement_spelling locals) (StatementFits (length locals)) statement_sound long_statement

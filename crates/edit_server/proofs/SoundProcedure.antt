@@ -5,16 +5,19 @@ use Rattle.std.proofs.Common.{refl, ap, ◌∙◌, sym, arith, append_assoc}
 use Rattle.edit_server.specs.FirstForm.{Procedure}
 use Rattle.edit_server.specs.Lexeme.{Lexeme, identifier, mark}
 use Rattle.edit_server.specs.Spelling.{statement_spelling, further_name_spelling, names_spelling, group_spelling, locals_of, spelling, IsWellFormed}
-use Rattle.edit_server.specs.Reading.{Found, followed, found_as, many, read_identifier, read_mark, begins_with, read_further_name, read_names, read_group, read_groups, are_distinct, read_heading, read_body, read_procedure}
-use Rattle.edit_server.proofs.Found.{followed_some, found_as_some, IsSound}
+use Rattle.edit_server.specs.Reading.{Found, followed, found_as, many, read_identifier, read_mark, begins_with, read_further_name, read_names, read_declared, read_group, read_groups, are_distinct, read_heading, read_body, read_procedure}
+use Rattle.edit_server.proofs.Found.{followed_some, found_as_some, IsSound, Shrinks}
 use Rattle.edit_server.proofs.Tokens.{identifier_sound, mark_sound}
-use Rattle.edit_server.proofs.Sound.{many_sound, body_sound}
+use Rattle.edit_server.proofs.Sound.{many_sound, sound_shrinks, body_sound}
 
 pub further_name_sound : IsSound read_further_name further_name_spelling (λ x. Unit {0})
 unfolding read_further_name
 further_name_sound ls x rest h =
     let a = followed_some (read_mark (codes ",") ls) _ (x, rest) h in
     (mark_sound (codes ",") ls a.0.0 a.0.1 a.1 ∙ ap (λ us. mark (codes ",") ∷ us) (identifier_sound a.0.1 x rest a.2), tt)
+
+pub further_name_shrinks : Shrinks read_further_name
+further_name_shrinks = sound_shrinks (begins_with (codes ",")) read_further_name further_name_spelling (λ x. Unit {0}) further_name_sound (λ x. omega arith)
 
 pub names_sound : IsSound read_names names_spelling (λ names. 0 < length names)
 unfolding read_names
@@ -25,7 +28,7 @@ names_sound ls xs rest h =
     rw (← d.2) (identifier_sound ls a.0.0 a.0.1 a.1 ∙ ap (λ us. identifier a.0.0 ∷ us) more.0, omega arith)
 
 pub group_sound : IsSound read_group group_spelling (λ names. 0 < length names)
-unfolding read_group
+unfolding read_group read_declared
 group_sound ls xs rest h =
     let a = followed_some (read_mark (codes "var") ls) _ (xs, rest) h in
     let b = followed_some (read_names a.0.1) _ (xs, rest) a.2 in
@@ -38,6 +41,9 @@ group_sound ls xs rest h =
         ∙ ap (λ us. mark (codes ":") ∷ us) (mark_sound (codes "int") e.0.1 f.0.0 f.0.1 f.1 ∙ ap (λ us. mark (codes "int") ∷ us) (mark_sound (codes ";") f.0.1 d.0 rest d.1)) in
     rw (← d.2) (mark_sound (codes "var") ls a.0.0 a.0.1 a.1
         ∙ ap (λ us. mark (codes "var") ∷ us) (names.0 ∙ (ap (λ us. names_spelling b.0.0 ++ us) ended ∙ sym (append_assoc (names_spelling b.0.0) (mark (codes ":") ∷ mark (codes "int") ∷ mark (codes ";") ∷ []) rest))), names.1)
+
+pub group_shrinks : Shrinks read_group
+group_shrinks = sound_shrinks (begins_with (codes "var")) read_group group_spelling (λ names. 0 < length names) group_sound (λ names. omega arith)
 
 pub groups_sound : IsSound read_groups (flat_map group_spelling) (AllByRecursion (λ names. 0 < length names))
 unfolding read_groups

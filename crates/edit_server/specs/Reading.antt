@@ -158,12 +158,17 @@ read_further_name ls = followed (read_mark (codes ",") ls) (λ u rest. read_iden
 unfoldable pub read_names : List Lexeme → Found (List (List ℕ))
 read_names ls = followed (read_identifier ls) (λ x rest. found_as (λ xs. x ∷ xs) (many (begins_with (codes ",")) read_further_name rest))
 
+-- what follows the `var`
+unfoldable pub read_declared : List Lexeme → Found (List (List ℕ))
+read_declared ls =
+    followed (read_names ls) (λ names rest. followed (read_mark (codes ":") rest) (λ u typed.
+    followed (read_mark (codes "int") typed) (λ u ended. found_as (λ u. names) (read_mark (codes ";") ended))))
+
 -- Group = "var" Names ":" "int" ";"
 unfoldable pub read_group : List Lexeme → Found (List (List ℕ))
-read_group ls =
-    followed (read_mark (codes "var") ls) (λ u named. followed (read_names named) (λ names rest.
-    followed (read_mark (codes ":") rest) (λ u typed. followed (read_mark (codes "int") typed) (λ u ended. found_as (λ u. names) (read_mark (codes ";") ended)))))
+read_group ls = followed (read_mark (codes "var") ls) (λ u rest. read_declared rest)
 
+-- {Group}
 unfoldable pub read_groups : List Lexeme → Found (List (List (List ℕ)))
 read_groups ls = many (begins_with (codes "var")) read_group ls
 

@@ -1,6 +1,6 @@
 // The tokens of a text that are left to be read, taken from the front.
 ghost use Rattle.std.specs.Prelude.{◌≡◌, ◌<◌, ◌≤◌, ◌-◌, ◌^◌, [], ◌∷◌, List, length, drop, MatchOption, option_map, option_copied, ◌==◌, cond, nat_lt};
-ghost use Rattle.edit_server.specs.Reading.{read_mark, read_identifier, read_literal, read_assertion, read_named, sign_named, relation_named};
+ghost use Rattle.edit_server.specs.Reading.{begins_with, read_mark, read_identifier, read_literal, read_assertion, read_named, sign_named, relation_named};
 
 use crate::faults::ReadFault;
 use crate::first_form::{Literal, Relation, Sign};
@@ -213,13 +213,21 @@ impl<'a> Cursor<'a> {
         None
     }
 
+    /// Whether the next token is this word or sign.
+    pub fn sees(&self, wanted: &[u8]) -> bool
+        ensures { result ≡ begins_with wanted.now self.now }
+    {
+        if let Some(Lexeme::Mark(mark)) = self.peek() {
+            return mark == wanted;
+        }
+        false
+    }
+
     /// Takes the next token where it is this word or sign, and says whether it is.
     pub fn takes(&mut self, wanted: &[u8]) -> bool
         ensures { TakesMark (read_mark wanted.now self.old) result self.old self.new }
     {
-        if let Some(Lexeme::Mark(mark)) = self.peek()
-            && mark == wanted
-        {
+        if self.sees(wanted) {
             self.skip();
             return true;
         }
