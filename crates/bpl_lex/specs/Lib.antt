@@ -2,4 +2,5 @@ pub mod Token
 pub mod TokenView
 pub mod Shape
 pub mod Lexing
+pub mod Front
 pub mod Fault

@@ -5,6 +5,8 @@ ghost use Rattle.bpl_lex.specs.Fault.{IsFault};
 
 use crate::faults::LexFault;
 use crate::kinds::Token;
+use crate::pieces::{Piece, front};
+use bv_base::place::Span;
 use std::alloc::Global;
 
 /// The tokens of the text, in order. At each place the longest blank, comment or token that begins
@@ -15,5 +17,21 @@ pub fn tokens(alloc: Global, text: &[u8]) -> Result<Vec<Token>, LexFault>
     ensures ok { IfOk result (λ found. tokens_of text.now ≡ Ok found.items) }
     ensures err { IfErr result (λ fault. IsFault fault (tokens_of text.now)) }
 {
-    Err(LexFault::Memory)
+    let mut found = Vec::new(alloc);
+    let mut at = 0;
+    while at < text.len() {
+        let start = at as u32;
+        let Some(front) = front(&text[at..]) else {
+            return Err(LexFault::Lex { at: start });
+        };
+        at += front.length;
+        if let Piece::Token(kind) = front.piece {
+            let end = at as u32;
+            found.push(Token {
+                kind,
+                span: Span { start, end },
+            })?;
+        }
+    }
+    Ok(found)
 }

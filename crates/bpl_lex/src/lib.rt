@@ -2,9 +2,13 @@
 // longest that begins at its place, and else the first byte at which none of them begins.
 #![tactic(auto)]
 
+pub mod bytes;
 pub mod faults;
 pub mod kinds;
 pub mod lexing;
+pub mod pieces;
+pub mod signs;
+pub mod words;
 
 pub use faults::LexFault;
 pub use kinds::{Token, TokenKind};
