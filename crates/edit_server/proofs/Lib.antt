@@ -5,3 +5,4 @@ pub mod Sound
 pub mod SoundProcedure
 pub mod Complete
 pub mod CompleteProcedure
+pub mod Program

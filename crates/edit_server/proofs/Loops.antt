@@ -17,6 +17,13 @@ refused part whole (Err Memory) e left rest h g further = tt
 refused part whole (Err Unbuilt) Memory left rest h g further = absurd (cc)
 refused part whole (Err Unbuilt) Unbuilt left rest h g further = further g
 
+-- a part that is refused as unbuilt isn't there
+pub not_there : {A B : Type 0} (part : Found A) (r : Result B ReadFault) (e : ReadFault) (left : List Lexeme) → IsErrAnd r (λ x. x ≡ e) → Gives {A = A} part (Err e) left → r ≡ Err Unbuilt → part ≡ None
+not_there part (Ok b) e left h g u = absurd h
+not_there part (Err Memory) e left h g u = absurd (cc)
+not_there part (Err Unbuilt) Memory left h g u = absurd (cc)
+not_there part (Err Unbuilt) Unbuilt left h g u = g
+
 -- items that begin with a mark
 module _ {A B : Type 0} (m : List ℕ) (item piece : List Lexeme → Found A) (is : (ls : List Lexeme) → item ls ≡ followed (read_mark m ls) (λ u rest. piece rest)) (f : List A → B) (xs : List A) (whole : Found B) where
   after_mark : (ls mid : List Lexeme) → read_mark m ls ≡ Some (tt, mid) → item ls ≡ piece mid

@@ -43,11 +43,10 @@ impl<'a> Model for Cursor<'a> {
 }
 
 ghost use Rattle.edit_server.specs.FirstFormView.{sign_of, relation_of};
-ghost use Rattle.edit_server.specs.Lexeme.{lexeme_of, value_of};
+ghost use Rattle.edit_server.specs.Lexeme.{lexeme_of, lexemes_of, value_of};
 ghost use Rattle.edit_server.specs.LexemeView.{lexeme_seen};
-ghost use Rattle.edit_server.specs.TokensInText.{LiesIn, LieIn};
+ghost use Rattle.edit_server.specs.TokensInText.{LiesIn, AreInOrder};
 ghost use Rattle.edit_server.specs.Answers.{Takes, TakesMark, Gives};
-ghost use Rattle.std.specs.Prelude.{map};
 
 /// What the token is, where places count from a byte.
 fn lexeme_at<'a>(text: &'a [u8], from: u32, token: &Token) -> Lexeme<'a>
@@ -120,13 +119,24 @@ fn relation_for(mark: &[u8]) -> Option<Relation>
 }
 
 impl<'a> Cursor<'a> {
-    /// All the tokens of a text; places count from the byte `from`.
-    pub fn new(text: &'a [u8], from: u32, tokens: &'a [Token]) -> Cursor<'a>
+    /// All the tokens of a text; places count from the first.
+    pub fn new(text: &'a [u8], tokens: &'a [Token]) -> Cursor<'a>
         requires short { length text.now < 2 ^ 32 - 1 }
-        requires lie { LieIn from (length text.now) tokens.now }
-        ensures { result ≡ map (lexeme_of text.now from) tokens.now }
+        requires in_order { AreInOrder 0 (length text.now) tokens.now }
+        ensures { result ≡ lexemes_of text.now tokens.now }
     {
-        Cursor { text, from, tokens }
+        let Some(first) = tokens.first() else {
+            return Cursor {
+                text,
+                from: 0,
+                tokens,
+            };
+        };
+        Cursor {
+            text,
+            from: first.span.start,
+            tokens,
+        }
     }
 
     /// The next token.

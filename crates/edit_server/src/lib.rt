@@ -5,3 +5,4 @@ pub mod cursor;
 pub mod faults;
 pub mod first_form;
 pub mod productions;
+pub mod read;
