@@ -222,5 +222,5 @@ block_found bytes o h e = block_begins bytes h ∙ ap (option_map (λ n. (commen
 
 pub block_fits : (bytes : List ℕ) (n : ℕ) → opens_comment bytes ≡ true → Some n ≡ comment_end (take (length bytes - 2) (drop 2 bytes)) → 2 + n ≤ length bytes
 block_fits [] n h e = absurd (cc)
-block_fits (b ∷ []) n h e = absurd (cc (two_first 47 42 (b ∷ []) h))
+block_fits (b ∷ []) n h e = absurd (cc)
 block_fits (b ∷ c ∷ bytes) n h e = omega (arith, comment_end-le bytes n (sym (e ∙ ap comment_end (rest_is 2 (b ∷ c ∷ bytes)))))

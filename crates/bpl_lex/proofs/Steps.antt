@@ -1,6 +1,7 @@
 -- The tokens of a text, step by step from one piece to the next.
 use Rattle.std.specs.Prelude.{◌≡◌, ℕ, zero, suc, pred, ◌+◌, ◌-◌, ◌<◌, ◌≤◌, List, [], ◌∷◌, ◌++◌, take, drop, length, Option, Some, None, Result, Ok, Err}
-use Rattle.std.proofs.Common.{refl, ap, sym, ◌∙◌, arith, append_assoc}
+use Rattle.std.proofs.Common.{refl, ap, sym, ◌∙◌, arith, append_assoc, append-nil}
+use Rattle.std.proofs.Math.ListN.{drop_of_length-le}
 use Rattle.std.proofs.lemmas.List.{length-drop, drop-drop}
 use Rattle.bpl_lex.specs.Token.{Token}
 use Rattle.bpl_lex.specs.Shape.{Piece}
@@ -76,6 +77,12 @@ pub over_piece : (text : List ℕ) (at n : ℕ) (p : Piece) (ts us : List Token)
     → after ts (tokens_from at 0 (drop at text)) ≡ tokens text → after us (tokens_from (at + n) 0 (drop (at + n) text)) ≡ tokens text
 over_piece text at n p ts us h same before =
     after-onto ts us (joined p at n) (tokens_from (at + n) 0 (drop (at + n) text)) same ∙ sym (ap (after ts) (piece_at text at n p h)) ∙ before
+
+-- at the end of the text, the tokens so far are all
+pub at_end : (text : List ℕ) (at : ℕ) (ts : List Token) → length text ≤ at → after ts (tokens_from at 0 (drop at text)) ≡ tokens text → tokens text ≡ Ok ts
+at_end text at ts over before =
+    let none : drop at text ≡ [] = drop_of_length-le text over in
+    sym before ∙ ap (λ bytes. after ts (tokens_from at 0 bytes)) none ∙ ap Ok (append-nil ts)
 
 -- where nothing begins after the tokens so far
 pub at_fault : (text : List ℕ) (at : ℕ) (ts : List Token) → at < length text → front (drop at text) ≡ None → after ts (tokens_from at 0 (drop at text)) ≡ tokens text → tokens text ≡ Err at

@@ -3,4 +3,5 @@ pub mod TokenView
 pub mod Shape
 pub mod Lexing
 pub mod Front
+pub mod Spelled
 pub mod Fault

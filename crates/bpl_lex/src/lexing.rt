@@ -1,7 +1,8 @@
 // Reading the tokens of a text.
 ghost use Rattle.std.specs.Prelude.{◌≡◌, ◌-◌, ◌^◌, ◌<◌, length, IfOk, IfErr};
 ghost use Rattle.bpl_lex.specs.Lexing.{tokens as tokens_of};
-ghost use Rattle.bpl_lex.specs.Fault.{IsFault};
+ghost use Rattle.bpl_lex.specs.Spelled.{AreInOrder, Spells};
+ghost use Rattle.bpl_lex.specs.Fault.{IsFaultOf, IsInside};
 
 use crate::faults::LexFault;
 use crate::kinds::Token;
@@ -15,7 +16,10 @@ use std::alloc::Global;
 pub fn tokens(alloc: Global, text: &[u8]) -> Result<Vec<Token>, LexFault>
     requires { length text.now < 2 ^ 32 - 1 }
     ensures ok { IfOk result (λ found. tokens_of text.now ≡ Ok found.items) }
-    ensures err { IfErr result (λ fault. IsFault fault (tokens_of text.now)) }
+    ensures in_order { IfOk result (λ found. AreInOrder 0 (length text.now) found.items) }
+    ensures spelled { IfOk result (λ found. Spells text.now 0 found.items) }
+    ensures err { IfErr result (λ fault. IsFaultOf text.now fault) }
+    ensures inside { IfErr result (λ fault. IsInside text.now fault) }
 {
     let mut found = Vec::new(alloc);
     let mut at = 0;

@@ -13,3 +13,6 @@ pub mod words;
 pub use faults::LexFault;
 pub use kinds::{Token, TokenKind};
 pub use lexing::tokens;
+
+#[cfg(test)]
+mod tests;

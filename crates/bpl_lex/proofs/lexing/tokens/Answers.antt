@@ -1,6 +1,7 @@
 use Rattle.std.proofs.Common.{Some, None, drop, arith}
 use Rattle.bpl_lex.specs.Front.{piece_seen, found_seen}
-use Rattle.bpl_lex.proofs.Steps.{front_at, front_some, piece_fits, over_piece, at_fault, no_token, one_token}
+use Rattle.bpl_lex.proofs.Steps.{front_at, front_some, piece_fits, over_piece, at_fault, at_end, no_token, one_token}
+use Rattle.bpl_lex.proofs.Laws.{in_order, spelled}
 use Rattle.bpl_lex.proofs.lexing.tokens.Goals as goal
 
 pub returns-in_default-clause-err : goal.returns-in_default-clause-err
@@ -45,3 +46,11 @@ loop-at-preserved-in-Continue-1 c =
       same = over_piece c.args.text.now c.loop-at.at c.in-Some.front.length (piece_seen c.in-Some.front.piece) c.loop-at.found.items c.push.new.self.items here
           (λ vs. one_token c.in-Some.front.piece c.in-Token.kind c.loop-at.at c.in-Some.front.length c.loop-at.found.items c.push.new.self.items vs pushed c.in-Token.is) c.loop-at.invariant.same;
     }
+
+pub returns-clause-in_order : goal.returns-clause-in_order
+returns-clause-in_order c =
+    in_order c.args.text.now c.loop-at.found.items (at_end c.args.text.now c.loop-at.at c.loop-at.found.items c.loop-at-test.false c.loop-at.invariant.same)
+
+pub returns-clause-spelled : goal.returns-clause-spelled
+returns-clause-spelled c =
+    spelled c.args.text.now c.loop-at.found.items (at_end c.args.text.now c.loop-at.at c.loop-at.found.items c.loop-at-test.false c.loop-at.invariant.same)
