@@ -4,10 +4,11 @@ use Rattle.std.specs.List.{AllByRecursion}
 use Rattle.std.proofs.Common.{refl, ap, subst, ◌∙◌, sym, arith, append-nil}
 use Rattle.bpl_lex.specs.Token.{Token}
 use Rattle.bpl_lex.specs.Lexing.{tokens}
+use Rattle.bpl_lex.specs.Spelled.{AreInOrder}
 use Rattle.edit_server.specs.FirstForm.{Procedure}
 use Rattle.edit_server.specs.Lexeme.{Lexeme, lexeme_of, lexemes_of}
 use Rattle.edit_server.specs.Spelling.{spelling, SpellsProcedure, Spells}
-use Rattle.edit_server.specs.TokensInText.{LiesIn, LieIn, AreInOrder}
+use Rattle.edit_server.specs.TokensInText.{LiesIn, LieIn}
 use Rattle.edit_server.specs.Reading.{Found, read_procedure}
 use Rattle.edit_server.proofs.Found.{same_found}
 use Rattle.edit_server.proofs.SoundProcedure.{procedure_sound}

@@ -1,5 +1,5 @@
 -- Tokens that lie in a text, none before a given byte.
-use Rattle.std.specs.Prelude.{ℕ, ◌≤◌, ◌<◌, List, [], ◌∷◌}
+use Rattle.std.specs.Prelude.{ℕ, ◌≤◌, List}
 use Rattle.std.specs.List.{AllByRecursion}
 use Rattle.bpl_lex.specs.Token.{Token}
 
@@ -10,8 +10,3 @@ pub record LiesIn (from end : ℕ) (t : Token) : Type 0 where
 
 abbrev pub LieIn : ℕ → ℕ → List Token → Type 0
 LieIn from end ts = AllByRecursion (LiesIn from end) ts
-
--- TEMP
-abbrev pub AreInOrder : ℕ → ℕ → List Token → Type 0
-AreInOrder from upto [] = from ≤ upto
-AreInOrder from upto (t ∷ ts) = (from ≤ t.start) × (t.start < t.finish) × AreInOrder t.finish upto ts

@@ -45,7 +45,8 @@ impl<'a> Model for Cursor<'a> {
 ghost use Rattle.edit_server.specs.FirstFormView.{sign_of, relation_of};
 ghost use Rattle.edit_server.specs.Lexeme.{lexeme_of, lexemes_of, value_of};
 ghost use Rattle.edit_server.specs.LexemeView.{lexeme_seen};
-ghost use Rattle.edit_server.specs.TokensInText.{LiesIn, AreInOrder};
+ghost use Rattle.edit_server.specs.TokensInText.{LiesIn};
+ghost use Rattle.bpl_lex.specs.Spelled.{AreInOrder};
 ghost use Rattle.edit_server.specs.Answers.{Takes, TakesMark, Gives};
 
 /// What the token is, where places count from a byte.

@@ -9,9 +9,6 @@ use Rattle.edit_server.proofs.Loops.{not_there}
 use Rattle.edit_server.proofs.Program.{none_spelled, spelled, none_left}
 use Rattle.edit_server.proofs.read.read.Goals as goal
 
-pub new-left-requires-clause-in_order : goal.new-left-requires-clause-in_order
-new-left-requires-clause-in_order c = ?
-
 pub returns-in_err-procedure-clause-unbuilt : goal.returns-in_err-procedure-clause-unbuilt
 returns-in_err-procedure-clause-unbuilt c = λ unbuilt.
     let found = c.as_slice.result.now in
