@@ -3,8 +3,8 @@ use Rattle.std.specs.Prelude.{◌≡◌, ℕ, ◌≤◌, ◌<◌, ◌^◌, List,
 use Rattle.std.specs.List.{AllByRecursion}
 use Rattle.bpl_lex.specs.Token.{Token}
 use Rattle.edit_server.specs.Lexeme.{Lexeme, identifier, literal, assertion, mark, value_of}
-use Rattle.edit_server.specs.declared.cursor.Lexeme.{Lexeme as Lexeme'}
-use Rattle.edit_server.specs.declared.cursor.Lexeme.TheVariants.{Identifier, Literal, Assertion, Mark}
+use Rattle.edit_server.specs.declared.reading.cursor.Lexeme.{Lexeme as Lexeme'}
+use Rattle.edit_server.specs.declared.reading.cursor.Lexeme.TheVariants.{Identifier, Literal, Assertion, Mark}
 
 abbrev pub lexeme_seen : Lexeme' → Lexeme
 lexeme_seen (Identifier x) = identifier x.now

@@ -6,4 +6,4 @@ pub mod Spelling
 pub mod TokensInText
 pub mod Reading
 pub mod LexemeView
-pub mod Answers
+pub mod Outcomes
