@@ -6,3 +6,4 @@ pub mod Complete
 pub mod CompleteProcedure
 pub mod Program
 pub mod Loops
+pub mod Examples
