@@ -18,7 +18,7 @@ use std::alloc::Global;
 /// where the text spells no program of the first form, and `Memory` only for want of memory.
 pub fn read(alloc: Global, text: &[u8]) -> Result<Option<Procedure>, ReadFault>
     requires { length text.now < 2 ^ 32 - 1 }
-    ensures read { IfOk result (λ program. Spells text.now program) }
+    ensures spelled { IfOk result (λ program. Spells text.now program) }
     ensures unbuilt { result ≡ Err Unbuilt → (program : Option Procedure) → Spells text.now program → ⊥ }
 {
     let found = match tokens(alloc, text) {

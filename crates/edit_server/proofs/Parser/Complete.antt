@@ -1,15 +1,15 @@
 -- The spelling of what fits is read as it, where what follows doesn't go on with it.
-use Rattle.std.specs.Prelude.{◌≡◌, ℕ, zero, suc, ◌+◌, ◌^◌, ◌<◌, Bool, true, false, not, ◌&&◌, cond, nat_lt, List, [], ◌∷◌, ◌++◌, length, slice_index_or, codes, bytes_eq, Option, Some, None, is_some}
+use Rattle.std.specs.Prelude.{◌≡◌, ℕ, zero, suc, ◌+◌, ◌^◌, ◌<◌, Bool, true, false, nat_lt, List, [], ◌∷◌, ◌++◌, length, slice_index_or, codes, bytes_eq, Some, None, is_some}
 use Rattle.std.specs.List.{flat_map, AllByRecursion, position_from, IsDistinct}
-use Rattle.std.proofs.Common.{refl, ap, ◌∙◌, sym, arith, append_assoc, length-append}
+use Rattle.std.proofs.Common.{refl, ap, ◌∙◌, sym, arith, append_assoc}
 use Rattle.std.proofs.lemmas.Bool.Decides.{nat_tests}
 use Rattle.std.proofs.lemmas.List.Elements.{All-from_recursion}
 use Rattle.std.proofs.lemmas.Slice.Eq.{bytes_eq-Decides}
-use Rattle.edit_server.specs.FirstForm.{Operand, number, local, Sign, plus, minus, Relation, equals, differs, less, at_most, greater, at_least, Sum, Comparison, Statement, assign, assume, assert}
-use Rattle.edit_server.specs.Lexeme.{Lexeme, identifier, literal, assertion, mark}
+use Rattle.edit_server.specs.FirstForm.{Operand, number, local, Sign, plus, minus, Relation, equals, differs, less, at_most, greater, at_least, Comparison, Statement, assign, assume, assert}
+use Rattle.edit_server.specs.Lexeme.{Lexeme, literal, mark}
 use Rattle.edit_server.specs.Spelling.{operand_spelling, local_spelling, part_spelling, sum_spelling, comparison_spelling, conjunct_spelling, conjunction_spelling, statement_spelling, sign_spelling, relation_spelling, OperandFits, SumFits, ComparisonFits, ConjunctionFits, StatementFits}
-use Rattle.edit_server.specs.Reading.{Found, followed, found_as, if_found, many, read_literal, read_named, read_mark, sign_named, relation_named, read_local, read_operand, begins_part, read_part, read_sum, read_comparison, read_conjunct, read_conjunction, read_condition, read_assignment, read_statement, begins_statement, read_statements, begins_with, read_body}
-use Rattle.edit_server.proofs.Parser.Found.{IsSound, Shrinks, many_stops, many_goes}
+use Rattle.edit_server.specs.Reading.{Found, found_as, many, read_literal, read_named, read_mark, sign_named, relation_named, read_local, read_operand, begins_part, read_part, read_sum, read_comparison, read_conjunct, read_conjunction, read_condition, read_assignment, read_statement, begins_statement, read_statements, begins_with, read_body}
+use Rattle.edit_server.proofs.Parser.Found.{Shrinks, many_stops, many_goes}
 use Rattle.edit_server.proofs.Parser.Tokens.{mark_sound}
 use Rattle.edit_server.proofs.Parser.Sound.{part_shrinks, conjunct_shrinks, statement_shrinks}
 
@@ -95,8 +95,10 @@ module _ (locals : List (List ℕ)) (distinct : IsDistinct bytes_eq locals) wher
   sum_complete : IsComplete (read_sum locals) (sum_spelling locals) (SumFits (length locals)) (λ rest. begins_part locals rest ≡ false)
   unfolding read_sum
   sum_complete e rest fits ends =
-      rw (operand_complete e.first (flat_map (part_spelling locals) e.rest ++ rest) fits.0,
-          many_complete (begins_part locals) (read_part locals) (part_spelling locals) (λ p. OperandFits (length locals) p.1) Anything parts_repeat e.rest rest fits.1 ends tt) refl
+      rw (
+        operand_complete e.first (flat_map (part_spelling locals) e.rest ++ rest) fits.0,
+        many_complete (begins_part locals) (read_part locals) (part_spelling locals) (λ p. OperandFits (length locals) p.1) Anything parts_repeat e.rest rest fits.1 ends tt,
+      ) refl
 
   relation_ends : (r : Relation) (rest : List Lexeme) → begins_part locals (relation_spelling r ∷ rest) ≡ false
   relation_ends equals rest = refl

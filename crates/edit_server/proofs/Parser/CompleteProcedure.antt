@@ -1,11 +1,10 @@
 -- The spelling of declarations, and of a procedure that is well formed, is read as them.
-use Rattle.std.specs.Prelude.{◌≡◌, ℕ, ◌+◌, ◌<◌, Bool, true, false, not, ◌&&◌, cond, List, [], ◌∷◌, ◌++◌, length, codes, bytes_eq, Option, Some, None, is_some}
+use Rattle.std.specs.Prelude.{◌≡◌, ℕ, ◌+◌, ◌<◌, true, false, List, [], ◌∷◌, ◌++◌, length, codes, bytes_eq, Some, None}
 use Rattle.std.specs.List.{flat_map, AllByRecursion, position_from, IsDistinct}
-use Rattle.std.proofs.Common.{refl, ap, ◌∙◌, sym, arith, append_assoc, append-nil}
-use Rattle.edit_server.specs.FirstForm.{Procedure}
-use Rattle.edit_server.specs.Lexeme.{Lexeme, identifier, mark}
+use Rattle.std.proofs.Common.{refl, ap, arith, append_assoc}
+use Rattle.edit_server.specs.Lexeme.{Lexeme, mark}
 use Rattle.edit_server.specs.Spelling.{statement_spelling, further_name_spelling, names_spelling, group_spelling, locals_of, spelling, IsWellFormed}
-use Rattle.edit_server.specs.Reading.{Found, found_as, many, read_mark, begins_with, read_further_name, read_names, read_declared, read_group, read_groups, are_distinct, read_heading, read_body, read_procedure}
+use Rattle.edit_server.specs.Reading.{found_as, begins_with, read_further_name, read_names, read_declared, read_group, read_groups, are_distinct, read_heading, read_procedure}
 use Rattle.edit_server.proofs.Parser.SoundProcedure.{further_name_shrinks, group_shrinks}
 use Rattle.edit_server.proofs.Parser.Complete.{IsComplete, Anything, Repeats, many_complete, body_complete, body_declares_nothing}
 

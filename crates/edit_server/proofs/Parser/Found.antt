@@ -1,6 +1,5 @@
 -- What reads one after another, and as long as an item begins.
 use Rattle.std.specs.Prelude.{◌≡◌, ℕ, zero, suc, ◌<◌, ◌≤◌, Bool, true, false, List, [], ◌∷◌, ◌++◌, length, unwrap_or, Option, Some, None}
-use Rattle.std.specs.List.{flat_map, AllByRecursion}
 use Rattle.std.proofs.Common.{refl, ap, ◌∙◌, sym, arith, append_assoc, append-nil}
 use Rattle.edit_server.specs.Lexeme.{Lexeme}
 use Rattle.edit_server.specs.Reading.{Found, followed, found_as, many_within, many}

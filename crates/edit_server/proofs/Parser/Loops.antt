@@ -1,10 +1,10 @@
 -- The steps of the loops that read items as long as one begins, and the exits of `?`.
-use Rattle.std.specs.Prelude.{◌≡◌, ℕ, ◌<◌, Bool, true, false, List, [], ◌∷◌, ◌++◌, length, codes, Option, Some, None, Result, Ok, Err, is_some}
+use Rattle.std.specs.Prelude.{◌≡◌, ℕ, ◌<◌, true, List, [], ◌∷◌, ◌++◌, length, codes, Some, None, Result, Ok, Err, is_some}
 use Rattle.std.specs.Result.{IsErrAnd}
 use Rattle.std.proofs.Common.{refl, ap, ◌∙◌}
 use Rattle.edit_server.specs.declared.reading.faults.ReadFault.{ReadFault}
 use Rattle.edit_server.specs.declared.reading.faults.ReadFault.TheVariants.{Memory, Unbuilt}
-use Rattle.edit_server.specs.FirstForm.{Operand, Sign}
+use Rattle.edit_server.specs.FirstForm.{Sign}
 use Rattle.edit_server.specs.Lexeme.{Lexeme}
 use Rattle.edit_server.specs.Outcomes.{Gives}
 use Rattle.edit_server.specs.Reading.{Found, followed, found_as, many, read_mark, begins_with, read_named, sign_named, read_operand, begins_part, read_part, read_comparison, read_conjunct, read_identifier, read_further_name, read_declared, read_group}

@@ -1,15 +1,14 @@
 -- What the reading of a text's lexemes says of the programs that the text spells.
-use Rattle.std.specs.Prelude.{◌≡◌, ℕ, ◌+◌, ◌<◌, ◌≤◌, List, [], ◌∷◌, ◌++◌, length, slice_get, Option, Some, None, Result, Ok, Err, unwrap_or}
-use Rattle.std.specs.List.{AllByRecursion}
+use Rattle.std.specs.Prelude.{◌≡◌, ℕ, ◌<◌, ◌≤◌, List, [], ◌∷◌, ◌++◌, length, slice_get, Option, Some, None, Ok, unwrap_or}
 use Rattle.std.proofs.Common.{refl, ap, subst, ◌∙◌, sym, arith, append-nil}
 use Rattle.bpl_lex.specs.Token.{Token}
 use Rattle.bpl_lex.specs.Lexing.{tokens}
 use Rattle.bpl_lex.specs.Spelled.{AreInOrder}
 use Rattle.edit_server.specs.FirstForm.{Procedure}
-use Rattle.edit_server.specs.Lexeme.{Lexeme, lexeme_of, lexemes_of}
+use Rattle.edit_server.specs.Lexeme.{Lexeme, lexemes_of}
 use Rattle.edit_server.specs.Spelling.{spelling, SpellsProcedure, Spells}
-use Rattle.edit_server.specs.TokensInText.{LiesIn, LieIn}
-use Rattle.edit_server.specs.Reading.{Found, read_procedure}
+use Rattle.edit_server.specs.TokensInText.{LieIn}
+use Rattle.edit_server.specs.Reading.{read_procedure}
 use Rattle.edit_server.proofs.Parser.Found.{same_found}
 use Rattle.edit_server.proofs.Parser.SoundProcedure.{procedure_sound}
 use Rattle.edit_server.proofs.Parser.CompleteProcedure.{procedure_complete}
@@ -22,9 +21,10 @@ ends_there from upto (t ∷ ts) h = omega (arith, h.0, h.1, ends_there t.finish 
 -- and they lie in it, from any byte on that is not after the first
 pub lie_in : (low from upto : ℕ) (ts : List Token) → low ≤ from → AreInOrder from upto ts → LieIn low upto ts
 lie_in low from upto [] h o = tt
-lie_in low from upto (t ∷ ts) h o =
-    (record { from_there = omega (arith, o.0); in_order = omega (arith, o.1); to_there = ends_there t.finish upto ts o.2 },
-     lie_in low t.finish upto ts (omega (arith, o.0, o.1)) o.2)
+lie_in low from upto (t ∷ ts) h o = (
+  record { from_there = omega (arith, o.0); in_order = omega (arith, o.1); to_there = ends_there t.finish upto ts o.2 },
+  lie_in low t.finish upto ts (omega (arith, o.0, o.1)) o.2,
+)
 
 -- from the first on
 pub lie_from_first : (upto : ℕ) (t : Token) (ts : List Token) → Some t ≡ slice_get ts 0 → AreInOrder 0 upto ts → LieIn t.start upto ts

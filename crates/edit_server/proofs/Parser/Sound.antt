@@ -1,13 +1,13 @@
 -- What is read is a spelling of what was found, and it fits.
-use Rattle.std.specs.Prelude.{◌≡◌, ℕ, zero, suc, ◌+◌, ◌<◌, Bool, true, false, cond, List, [], ◌∷◌, ◌++◌, length, codes, bytes_eq, Option, Some, None}
+use Rattle.std.specs.Prelude.{◌≡◌, ℕ, zero, suc, ◌<◌, Bool, true, false, List, [], ◌∷◌, ◌++◌, length, codes, bytes_eq, Option, Some, None}
 use Rattle.std.specs.List.{flat_map, AllByRecursion, position_from}
 use Rattle.std.proofs.Common.{refl, ap, ◌∙◌, sym, arith, append_assoc, length-append}
 use Rattle.bv_base.specs.declared.place.Place.{Place}
-use Rattle.edit_server.specs.FirstForm.{Operand, number, local, Sign, Sum, Comparison, Statement, assign, assume, assert, Procedure}
+use Rattle.edit_server.specs.FirstForm.{Operand, number, local, Statement, assign, assume, assert}
 use Rattle.edit_server.specs.Lexeme.{Lexeme, identifier, assertion, mark}
-use Rattle.edit_server.specs.Spelling.{operand_spelling, local_spelling, part_spelling, sum_spelling, comparison_spelling, conjunct_spelling, conjunction_spelling, statement_spelling, sign_spelling, relation_spelling, further_name_spelling, names_spelling, group_spelling, locals_of, OperandFits, SumFits, ComparisonFits, ConjunctionFits, StatementFits}
-use Rattle.edit_server.specs.Reading.{Found, followed, found_as, if_found, many_within, many, read_identifier, read_literal, read_assertion, read_named, read_mark, sign_named, relation_named, read_local, read_operand, begins_part, read_part, read_sum, read_comparison, read_conjunct, read_conjunction, read_condition, read_assignment, read_statement, begins_statement, read_statements, begins_with, read_further_name, read_names, read_group, read_groups, read_heading, read_body}
-use Rattle.edit_server.proofs.Parser.Found.{same_found, followed_some, found_as_some, IsSound, Shrinks, stops_within, stuck_within, turned_within}
+use Rattle.edit_server.specs.Spelling.{operand_spelling, local_spelling, part_spelling, sum_spelling, comparison_spelling, conjunct_spelling, conjunction_spelling, statement_spelling, sign_spelling, relation_spelling, OperandFits, SumFits, ComparisonFits, ConjunctionFits, StatementFits}
+use Rattle.edit_server.specs.Reading.{Found, found_as, if_found, many_within, many, read_identifier, read_literal, read_assertion, read_named, read_mark, sign_named, relation_named, read_local, read_operand, begins_part, read_part, read_sum, read_comparison, read_conjunct, read_conjunction, read_condition, read_assignment, read_statement, begins_statement, read_statements, begins_with, read_body}
+use Rattle.edit_server.proofs.Parser.Found.{same_found, followed_some, found_as_some, IsSound, Shrinks, stops_within, turned_within}
 use Rattle.edit_server.proofs.Parser.Tokens.{identifier_sound, literal_sound, assertion_sound, mark_sound, sign_sound, relation_sound, position_sound}
 
 -- many items
@@ -139,6 +139,7 @@ module _ (locals : List (List ℕ)) where
           let d = found_as_some (assert p.0) (read_condition locals p.1) (s, rest) g in
           let f = condition_sound p.1 d.0 rest d.1 in
           rw (← d.2) (assertion_sound ls p.0 p.1 e ∙ ap (λ us. assertion p.0 ∷ us) f.0, f.1)
+
       by : (o : Found (Unit {0})) → read_mark (codes "assume") ls ≡ o → if_found o (λ u left. found_as assume (read_condition locals left)) (if_found (read_assertion ls) (λ place left. found_as (assert place) (read_condition locals left)) (read_assignment locals ls)) ≡ Some (s, rest) → (ls ≡ statement_spelling locals s ++ rest) × StatementFits (length locals) s
       by None e g = asserted (read_assertion ls) refl g
       by (Some p) e g =

@@ -2,10 +2,9 @@
 use Rattle.std.specs.Prelude.{◌≡◌, ℕ, ◌+◌, ◌<◌, Bool, true, false, not, ◌&&◌, cond, List, [], ◌∷◌, ◌++◌, length, codes, bytes_eq, Option, Some, None, is_some}
 use Rattle.std.specs.List.{flat_map, AllByRecursion, position_from, IsDistinct}
 use Rattle.std.proofs.Common.{refl, ap, ◌∙◌, sym, arith, append_assoc}
-use Rattle.edit_server.specs.FirstForm.{Procedure}
 use Rattle.edit_server.specs.Lexeme.{Lexeme, identifier, mark}
 use Rattle.edit_server.specs.Spelling.{statement_spelling, further_name_spelling, names_spelling, group_spelling, locals_of, spelling, IsWellFormed}
-use Rattle.edit_server.specs.Reading.{Found, followed, found_as, many, read_identifier, read_mark, begins_with, read_further_name, read_names, read_declared, read_group, read_groups, are_distinct, read_heading, read_body, read_procedure}
+use Rattle.edit_server.specs.Reading.{found_as, many, read_identifier, read_mark, begins_with, read_further_name, read_names, read_declared, read_group, read_groups, are_distinct, read_heading, read_body, read_procedure}
 use Rattle.edit_server.proofs.Parser.Found.{followed_some, found_as_some, IsSound, Shrinks}
 use Rattle.edit_server.proofs.Parser.Tokens.{identifier_sound, mark_sound}
 use Rattle.edit_server.proofs.Parser.Sound.{many_sound, sound_shrinks, body_sound}
@@ -37,10 +36,13 @@ group_sound ls xs rest h =
     let d = found_as_some _ (read_mark (codes ";") f.0.1) (xs, rest) f.2 in
     let names = names_sound a.0.1 b.0.0 b.0.1 b.1 in
     let ended : b.0.1 ≡ mark (codes ":") ∷ mark (codes "int") ∷ mark (codes ";") ∷ rest =
-        mark_sound (codes ":") b.0.1 e.0.0 e.0.1 e.1
-        ∙ ap (λ us. mark (codes ":") ∷ us) (mark_sound (codes "int") e.0.1 f.0.0 f.0.1 f.1 ∙ ap (λ us. mark (codes "int") ∷ us) (mark_sound (codes ";") f.0.1 d.0 rest d.1)) in
-    rw (← d.2) (mark_sound (codes "var") ls a.0.0 a.0.1 a.1
-        ∙ ap (λ us. mark (codes "var") ∷ us) (names.0 ∙ (ap (λ us. names_spelling b.0.0 ++ us) ended ∙ sym (append_assoc (names_spelling b.0.0) (mark (codes ":") ∷ mark (codes "int") ∷ mark (codes ";") ∷ []) rest))), names.1)
+    mark_sound (codes ":") b.0.1 e.0.0 e.0.1 e.1
+    ∙ ap (λ us. mark (codes ":") ∷ us) (mark_sound (codes "int") e.0.1 f.0.0 f.0.1 f.1 ∙ ap (λ us. mark (codes "int") ∷ us) (mark_sound (codes ";") f.0.1 d.0 rest d.1)) in
+    rw (← d.2) (
+      mark_sound (codes "var") ls a.0.0 a.0.1 a.1
+          ∙ ap (λ us. mark (codes "var") ∷ us) (names.0 ∙ (ap (λ us. names_spelling b.0.0 ++ us) ended ∙ sym (append_assoc (names_spelling b.0.0) (mark (codes ":") ∷ mark (codes "int") ∷ mark (codes ";") ∷ []) rest))),
+      names.1,
+    )
 
 pub group_shrinks : Shrinks read_group
 group_shrinks = sound_shrinks (begins_with (codes "var")) read_group group_spelling (λ names. 0 < length names) group_sound (λ names. omega arith)
@@ -58,10 +60,10 @@ heading_sound ls x rest h =
     let f = followed_some (read_mark (codes ")") e.0.1) _ (x, rest) e.2 in
     let d = found_as_some _ (read_mark (codes "{") f.0.1) (x, rest) f.2 in
     rw (← d.2) (mark_sound (codes "procedure") ls a.0.0 a.0.1 a.1
-        ∙ ap (λ us. mark (codes "procedure") ∷ us) (identifier_sound a.0.1 b.0.0 b.0.1 b.1
-        ∙ ap (λ us. identifier b.0.0 ∷ us) (mark_sound (codes "(") b.0.1 e.0.0 e.0.1 e.1
-        ∙ ap (λ us. mark (codes "(") ∷ us) (mark_sound (codes ")") e.0.1 f.0.0 f.0.1 f.1
-        ∙ ap (λ us. mark (codes ")") ∷ us) (mark_sound (codes "{") f.0.1 d.0 rest d.1)))))
+    ∙ ap (λ us. mark (codes "procedure") ∷ us) (identifier_sound a.0.1 b.0.0 b.0.1 b.1
+    ∙ ap (λ us. identifier b.0.0 ∷ us) (mark_sound (codes "(") b.0.1 e.0.0 e.0.1 e.1
+    ∙ ap (λ us. mark (codes "(") ∷ us) (mark_sound (codes ")") e.0.1 f.0.0 f.0.1 f.1
+    ∙ ap (λ us. mark (codes ")") ∷ us) (mark_sound (codes "{") f.0.1 d.0 rest d.1)))))
 
 -- a name that isn't found is apart from all
 absent : (x : List ℕ) (k : ℕ) (ys : List (List ℕ)) → position_from (bytes_eq x) k ys ≡ None → AllByRecursion (λ y. bytes_eq x y ≡ false) ys
@@ -98,5 +100,7 @@ procedure_sound ls p rest h =
         let d = found_as_some _ (read_body (locals_of groups) left) (p, rest) g in
         let body = body_sound (locals_of groups) left d.0 rest d.1 in
         let tail = groups_are.0 ∙ (ap (λ us. flat_map group_spelling groups ++ us) body.0 ∙ sym (append_assoc (flat_map group_spelling groups) (flat_map (statement_spelling (locals_of groups)) d.0 ++ mark (codes "}") ∷ []) rest)) in
-        rw (← d.2) (heading ∙ ap (λ us. mark (codes "procedure") ∷ identifier x ∷ mark (codes "(") ∷ mark (codes ")") ∷ mark (codes "{") ∷ us) tail,
-            record { declaring = groups_are.1; distinct = distinct_sound (locals_of groups) e; fitting = body.1 })
+        rw (← d.2) (
+          heading ∙ ap (λ us. mark (codes "procedure") ∷ identifier x ∷ mark (codes "(") ∷ mark (codes ")") ∷ mark (codes "{") ∷ us) tail,
+          record { declaring = groups_are.1; distinct = distinct_sound (locals_of groups) e; fitting = body.1 },
+        )

@@ -1,15 +1,15 @@
 -- What a token at the front that was read says of the lexemes, and what is read where one stands at the front.
-use Rattle.std.specs.Prelude.{◌≡◌, ℕ, zero, suc, ◌+◌, ◌^◌, ◌<◌, Bool, true, false, cond, nat_lt, List, [], ◌∷◌, length, slice_index_or, codes, bytes_eq, Option, Some, None, unwrap_or}
+use Rattle.std.specs.Prelude.{◌≡◌, ℕ, suc, ◌+◌, ◌^◌, ◌<◌, Bool, true, false, cond, nat_lt, List, [], ◌∷◌, length, slice_index_or, codes, bytes_eq, Option, Some, None, unwrap_or}
 use Rattle.std.specs.List.{position_from}
 use Rattle.std.proofs.Common.{refl, ap, ◌∙◌, sym, arith}
 use Rattle.std.proofs.lemmas.Slice.Eq.{bytes_eq-Decides}
-use Rattle.std.proofs.lemmas.Bool.Decides.{nat_tests, Decides-ltb}
+use Rattle.std.proofs.lemmas.Bool.Decides.{nat_tests}
 use Rattle.bv_base.specs.declared.place.Place.{Place}
 use Rattle.edit_server.specs.FirstForm.{Sign, plus, minus, Relation, equals, differs, less, at_most, greater, at_least}
 use Rattle.edit_server.specs.Lexeme.{Lexeme, identifier, literal, assertion, mark}
 use Rattle.edit_server.specs.Spelling.{sign_spelling, relation_spelling}
 use Rattle.edit_server.proofs.Parser.Found.{same_found}
-use Rattle.edit_server.specs.Reading.{Found, read_token, read_identifier, read_literal, read_assertion, read_named, read_mark, sign_named, relation_named}
+use Rattle.edit_server.specs.Reading.{Found, read_identifier, read_literal, read_assertion, read_named, read_mark, sign_named, relation_named}
 
 pub identifier_sound : (ls : List Lexeme) (x : List ℕ) (rest : List Lexeme) → read_identifier ls ≡ Some (x, rest) → ls ≡ identifier x ∷ rest
 identifier_sound [] x rest h = absurd (cc)

@@ -2,8 +2,8 @@
 ghost use Rattle.std.specs.Prelude.{◌≡◌, ◌<◌, ◌≤◌, ◌-◌, ◌^◌, [], ◌∷◌, List, length, drop, MatchOption, option_map, option_copied, ◌==◌, cond, nat_lt};
 ghost use Rattle.edit_server.specs.Reading.{begins_with, read_mark, read_identifier, read_literal, read_assertion, read_named, sign_named, relation_named};
 
-use crate::reading::faults::ReadFault;
 use crate::first_form::{Literal, Relation, Sign};
+use crate::reading::faults::ReadFault;
 use bpl_lex::{Token, TokenKind};
 use bv_base::place::{Place, place_at};
 use std::marker::Model;
@@ -42,11 +42,11 @@ impl<'a> Model for Cursor<'a> {
     ghost invariant = { λ c. (length c.text.now < 2 ^ 32 - 1) × LieIn c.from (length c.text.now) c.tokens.now };
 }
 
+ghost use Rattle.bpl_lex.specs.Spelled.{AreInOrder};
 ghost use Rattle.edit_server.specs.FirstFormView.{sign_of, relation_of};
 ghost use Rattle.edit_server.specs.Lexeme.{lexeme_of, lexemes_of, value_of};
 ghost use Rattle.edit_server.specs.LexemeView.{lexeme_seen};
 ghost use Rattle.edit_server.specs.TokensInText.{LiesIn};
-ghost use Rattle.bpl_lex.specs.Spelled.{AreInOrder};
 ghost use Rattle.edit_server.specs.Outcomes.{Takes, TakesMark, Gives};
 
 /// What the token is, where places count from a byte.
@@ -60,7 +60,9 @@ fn lexeme_at<'a>(text: &'a [u8], from: u32, token: &Token) -> Lexeme<'a>
     match token.kind {
         TokenKind::Id => Lexeme::Identifier(bytes),
         TokenKind::Number => Lexeme::Literal(bytes),
-        TokenKind::Word if bytes == b"assert".as_slice() => Lexeme::Assertion(place_at(text, from, start)),
+        TokenKind::Word if bytes == b"assert".as_slice() => {
+            Lexeme::Assertion(place_at(text, from, start))
+        }
         TokenKind::Word | TokenKind::Text | TokenKind::Sign => Lexeme::Mark(bytes),
     }
 }

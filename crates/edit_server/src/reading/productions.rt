@@ -1,18 +1,17 @@
 // The first form's grammar, a method for each production. Each reads what stands at the front of
 // the tokens that are left; `Unbuilt` says that it doesn't stand there.
-ghost use Rattle.std.specs.Prelude.{◌≡◌, bytes_eq, [], Option};
-ghost use Rattle.std.specs.List.{position_from, flat_map};
-ghost use Rattle.edit_server.specs.Spelling.{locals_of};
-ghost use Rattle.edit_server.specs.Reading.{Found, read_local, read_operand, read_sum, read_comparison, read_conjunction, read_condition, read_assignment, read_statement, read_statements, read_names, read_declared, read_groups, are_distinct, read_heading, read_body, read_procedure, read_identifier};
+ghost use Rattle.std.specs.Prelude.{◌≡◌, ◌++◌, bytes_eq, IfOk, OnOk};
+ghost use Rattle.std.specs.List.{position_from};
 ghost use Rattle.edit_server.specs.FirstFormView.{operand_of};
+ghost use Rattle.edit_server.specs.Spelling.{locals_of};
+ghost use Rattle.edit_server.specs.Reading.{read_identifier, read_local, read_operand, read_sum, read_comparison, read_conjunction, read_condition, read_assignment, read_statement, read_statements, read_body, read_names, read_declared, read_groups, are_distinct, read_heading, read_procedure};
 ghost use Rattle.edit_server.specs.Outcomes.{Gives, GivesAs};
-ghost use Rattle.std.specs.Prelude.{IfOk, OnOk, ◌++◌};
 
-use crate::reading::cursor::Cursor;
-use crate::reading::faults::ReadFault;
 use crate::first_form::{
     Comparison, Name, Operand, Part, Procedure, Row, Statement, StatementKind, Sum,
 };
+use crate::reading::cursor::Cursor;
+use crate::reading::faults::ReadFault;
 use std::alloc::{AllocError, Global};
 
 /// The position of a name among the locals.

@@ -111,12 +111,7 @@ fn show(alloc: Global, procedure: &Procedure) -> Result<String, AllocError> {
     Ok(out)
 }
 
-fn is_read_as(
-    rt: &impl Abort,
-    alloc: Global,
-    text: &str,
-    expected: &str,
-) -> Result<(), ReadFault> {
+fn is_read_as(rt: &impl Abort, alloc: Global, text: &str, expected: &str) -> Result<(), ReadFault> {
     match program(alloc, text)? {
         None => panic!(rt; "{text:?} is read as no program"),
         Some(procedure) => {

@@ -1,8 +1,6 @@
-use Rattle.std.proofs.Common.{◌≡◌, ℕ, ◌<◌, ◌∙◌, ap, sym, arith, length, List, [], Some, None, Ok}
+use Rattle.std.proofs.Common.{◌≡◌, ◌<◌, ◌∙◌, ap, sym, arith, length, [], Some, Ok}
 use Rattle.std.proofs.lemmas.Bool.Decides.{nat_tests}
-use Rattle.bpl_lex.specs.Token.{Token}
 use Rattle.bpl_lex.specs.Lexing.{tokens}
-use Rattle.edit_server.specs.Lexeme.{lexemes_of}
 use Rattle.edit_server.specs.Reading.{read_procedure}
 use Rattle.edit_server.proofs.Parser.Found.{same_found}
 use Rattle.edit_server.proofs.Parser.Loops.{not_there}
@@ -24,11 +22,11 @@ returns-then-not-is_empty-clause-unbuilt c = λ unbuilt.
     let some : 0 < length c.new-left.result = grind (arith, nat_tests) in
     let left : 0 < length c.procedure.new.self = grind (arith, nat_tests) in
     none_spelled c.args.text.now found e (rw (← c.new-left.ensures) some) (λ p h.
-        let g = same_found c.in_ok-procedure.procedure p c.procedure.new.self [] (sym c.in_ok-procedure.ensures ∙ (ap read_procedure c.new-left.ensures ∙ h)) in
-        omega (arith, left, ap length g.1))
+    let g = same_found c.in_ok-procedure.procedure p c.procedure.new.self [] (sym c.in_ok-procedure.ensures ∙ (ap read_procedure c.new-left.ensures ∙ h)) in
+    omega (arith, left, ap length g.1))
 
-pub returns-clause-read : goal.returns-clause-read
-returns-clause-read c =
+pub returns-clause-spelled : goal.returns-clause-spelled
+returns-clause-spelled c =
     let found = c.as_slice.result.now in
     let e : tokens c.args.text.now ≡ Ok found = c.in-Ok.ensures.ok ∙ ap (λ ts. Ok ts) (sym c.as_slice.ensures.value) in
     let none : length c.procedure.new.self ≡ 0 = grind (arith, nat_tests) in

@@ -1,4 +1,4 @@
-use Rattle.std.proofs.Common.{◌≡◌, ◌++◌, take}
+use Rattle.std.proofs.Common.{◌≡◌, take}
 use Rattle.edit_server.specs.Spelling.{locals_of}
 use Rattle.edit_server.proofs.reading.productions.all_of.Given as goal
 

@@ -1,4 +1,4 @@
-use Rattle.std.proofs.Common.{ℕ, length, subst, sym, ap}
+use Rattle.std.proofs.Common.{length, subst, sym}
 use Rattle.bpl_lex.specs.Token.{Token}
 use Rattle.edit_server.specs.TokensInText.{LieIn}
 use Rattle.edit_server.proofs.Parser.Program.{lie_from_first}

@@ -1,5 +1,5 @@
-use Rattle.std.proofs.Common.{◌≡◌, ◌++◌, length, codes}
-use Rattle.edit_server.specs.Reading.{found_as, many, begins_with, begins_statement, read_statement, read_statements}
+use Rattle.std.proofs.Common.{◌≡◌, ◌++◌, length}
+use Rattle.edit_server.specs.Reading.{found_as, many, begins_statement, read_statement, read_statements}
 use Rattle.edit_server.proofs.reading.cursor.Cursor.statements.Given as goal
 
 -- the statements are those so far and those that are still to be read
