@@ -1,3 +1,4 @@
 mod Programs
 mod ConditionExamples
 mod ExecutionExamples
+pub mod Parser

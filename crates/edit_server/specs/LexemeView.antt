@@ -1,10 +1,7 @@
 -- The lexemes that the code's stand for, and the tokens that lie in a text.
-use Rattle.std.specs.Prelude.{◌≡◌, ℕ, ◌≤◌, ◌<◌, ◌^◌, List, [], ◌∷◌, drop, length, Option, Some, None}
-use Rattle.std.specs.List.{AllByRecursion}
-use Rattle.bpl_lex.specs.Token.{Token}
 use Rattle.edit_server.specs.Lexeme.{Lexeme, identifier, literal, assertion, mark, value_of}
-use Rattle.edit_server.specs.declared.cursor.Lexeme.{Lexeme as Lexeme'}
-use Rattle.edit_server.specs.declared.cursor.Lexeme.TheVariants.{Identifier, Literal, Assertion, Mark}
+use Rattle.edit_server.specs.declared.reading.cursor.Lexeme.{Lexeme as Lexeme'}
+use Rattle.edit_server.specs.declared.reading.cursor.Lexeme.TheVariants.{Identifier, Literal, Assertion, Mark}
 
 abbrev pub lexeme_seen : Lexeme' → Lexeme
 lexeme_seen (Identifier x) = identifier x.now

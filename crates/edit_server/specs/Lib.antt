@@ -13,3 +13,4 @@ pub mod Variables
 pub mod Conditions
 pub mod OnePass
 pub mod Codes
+pub mod Outcomes

@@ -74,11 +74,15 @@ abbrev pub begins_with : List ℕ → List Lexeme → Bool
 begins_with bytes ls = is_some (read_mark bytes ls)
 
 -- items as long as one begins
+abbrev pub turn : {A : Type 0} → Bool → Found A → (List Lexeme → Found (List A)) → List Lexeme → Found (List A)
+turn true item more ls = followed item (λ a rest. found_as (λ xs. a ∷ xs) (more rest))
+turn false item more ls = Some ([], ls)
+
 module _ {A : Type 0} (begins : List Lexeme → Bool) (item : List Lexeme → Found A) where
   -- at most so many
   abbrev pub many_within : ℕ → List Lexeme → Found (List A)
-  many_within zero ls = elim (begins ls) [ true ↦ None | false ↦ Some ([], ls) ]
-  many_within (suc n) ls = elim (begins ls) [ true ↦ followed (item ls) (λ a rest. found_as (λ xs. a ∷ xs) (many_within n rest)) | false ↦ Some ([], ls) ]
+  many_within zero ls = turn (begins ls) None (λ rest. None) ls
+  many_within (suc n) ls = turn (begins ls) (item ls) (λ rest. many_within n rest) ls
 
   unfoldable pub many : List Lexeme → Found (List A)
   many ls = many_within (length ls) ls
@@ -102,8 +106,9 @@ module _ (locals : List (List ℕ)) where
   unfoldable pub read_local : List Lexeme → Found ℕ
   read_local ls = followed (read_identifier ls) (λ x rest. option_map (λ i. (i, rest)) (position_from (bytes_eq x) 0 locals))
 
+  -- Operand = number | Id
   unfoldable pub read_operand : List Lexeme → Found Operand
-  read_operand ls = if_found (read_identifier ls) (λ x rest. found_as local (read_local ls)) (found_as number (read_literal ls))
+  read_operand ls = if_found (read_literal ls) (λ n rest. Some (number n, rest)) (found_as local (read_local ls))
 
   abbrev pub begins_part : List Lexeme → Bool
   begins_part ls = is_some (read_named sign_named ls)
@@ -153,12 +158,17 @@ read_further_name ls = followed (read_mark (codes ",") ls) (λ u rest. read_iden
 unfoldable pub read_names : List Lexeme → Found (List (List ℕ))
 read_names ls = followed (read_identifier ls) (λ x rest. found_as (λ xs. x ∷ xs) (many (begins_with (codes ",")) read_further_name rest))
 
+-- what follows the `var`
+unfoldable pub read_declared : List Lexeme → Found (List (List ℕ))
+read_declared ls =
+    followed (read_names ls) (λ names rest. followed (read_mark (codes ":") rest) (λ u typed.
+    followed (read_mark (codes "int") typed) (λ u ended. found_as (λ u. names) (read_mark (codes ";") ended))))
+
 -- Group = "var" Names ":" "int" ";"
 unfoldable pub read_group : List Lexeme → Found (List (List ℕ))
-read_group ls =
-    followed (read_mark (codes "var") ls) (λ u named. followed (read_names named) (λ names rest.
-    followed (read_mark (codes ":") rest) (λ u typed. followed (read_mark (codes "int") typed) (λ u ended. found_as (λ u. names) (read_mark (codes ";") ended)))))
+read_group ls = followed (read_mark (codes "var") ls) (λ u rest. read_declared rest)
 
+-- {Group}
 unfoldable pub read_groups : List Lexeme → Found (List (List (List ℕ)))
 read_groups ls = many (begins_with (codes "var")) read_group ls
 

@@ -105,3 +105,7 @@ pub record SpellsProcedure (text : List ℕ) (p : Procedure) : Type 0 where
 abbrev pub Spells : List ℕ → Option Procedure → Type 0
 Spells text (Some p) = SpellsProcedure text p
 Spells text None = tokens text ≡ Ok []
+
+-- a text spells one program at most
+abbrev pub SpellsOneProgram : Type 0
+SpellsOneProgram = (text : List ℕ) (p q : Option Procedure) → Spells text p → Spells text q → p ≡ q

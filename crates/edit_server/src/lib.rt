@@ -7,3 +7,5 @@ pub mod conditions;
 pub mod first_form;
 pub mod formula;
 pub mod naming;
+pub mod first_form;
+pub mod reading;

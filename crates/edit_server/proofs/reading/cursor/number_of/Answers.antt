@@ -4,7 +4,7 @@ use Rattle.std.proofs.lemmas.List.{map_more, take_all}
 use Rattle.std.proofs.lemmas.Int.Digits.{number_push}
 use Rattle.std.proofs.lemmas.Bool.Decides.{nat_tests}
 use Rattle.edit_server.specs.Lexeme.{value_of}
-use Rattle.edit_server.proofs.cursor.number_of.Goals as goal
+use Rattle.edit_server.proofs.reading.cursor.number_of.Goals as goal
 
 -- one more digit
 value_more : (bs : List ℕ) (i : ℕ) → i < length bs → value_of (take (i + 1) bs) ≡ value_of (take i bs) * 10 + (get_or bs i 0 - 48)

@@ -1,9 +1,9 @@
 // The tokens of a text that are left to be read, taken from the front.
 ghost use Rattle.std.specs.Prelude.{◌≡◌, ◌<◌, ◌≤◌, ◌-◌, ◌^◌, [], ◌∷◌, List, length, drop, MatchOption, option_map, option_copied, ◌==◌, cond, nat_lt};
-ghost use Rattle.edit_server.specs.Reading.{read_mark, read_identifier, read_literal, read_assertion, read_named, sign_named, relation_named};
+ghost use Rattle.edit_server.specs.Reading.{begins_with, read_mark, read_identifier, read_literal, read_assertion, read_named, sign_named, relation_named};
 
-use crate::faults::ReadFault;
 use crate::first_form::{Literal, Relation, Sign};
+use crate::reading::faults::ReadFault;
 use bpl_lex::{Token, TokenKind};
 use bv_base::place::{Place, place_at};
 use std::marker::Model;
@@ -42,12 +42,12 @@ impl<'a> Model for Cursor<'a> {
     ghost invariant = { λ c. (length c.text.now < 2 ^ 32 - 1) × LieIn c.from (length c.text.now) c.tokens.now };
 }
 
+ghost use Rattle.bpl_lex.specs.Spelled.{AreInOrder};
 ghost use Rattle.edit_server.specs.FirstFormView.{sign_of, relation_of};
-ghost use Rattle.edit_server.specs.Lexeme.{lexeme_of, value_of};
+ghost use Rattle.edit_server.specs.Lexeme.{lexeme_of, lexemes_of, value_of};
 ghost use Rattle.edit_server.specs.LexemeView.{lexeme_seen};
-ghost use Rattle.edit_server.specs.TokensInText.{LiesIn, LieIn};
-ghost use Rattle.edit_server.specs.Answers.{Takes, TakesMark, Gives};
-ghost use Rattle.std.specs.Prelude.{map};
+ghost use Rattle.edit_server.specs.TokensInText.{LiesIn};
+ghost use Rattle.edit_server.specs.Outcomes.{Takes, TakesMark, Gives};
 
 /// What the token is, where places count from a byte.
 fn lexeme_at<'a>(text: &'a [u8], from: u32, token: &Token) -> Lexeme<'a>
@@ -60,7 +60,9 @@ fn lexeme_at<'a>(text: &'a [u8], from: u32, token: &Token) -> Lexeme<'a>
     match token.kind {
         TokenKind::Id => Lexeme::Identifier(bytes),
         TokenKind::Number => Lexeme::Literal(bytes),
-        TokenKind::Word if bytes == b"assert".as_slice() => Lexeme::Assertion(place_at(text, from, start)),
+        TokenKind::Word if bytes == b"assert".as_slice() => {
+            Lexeme::Assertion(place_at(text, from, start))
+        }
         TokenKind::Word | TokenKind::Text | TokenKind::Sign => Lexeme::Mark(bytes),
     }
 }
@@ -120,13 +122,24 @@ fn relation_for(mark: &[u8]) -> Option<Relation>
 }
 
 impl<'a> Cursor<'a> {
-    /// All the tokens of a text; places count from the byte `from`.
-    pub fn new(text: &'a [u8], from: u32, tokens: &'a [Token]) -> Cursor<'a>
+    /// All the tokens of a text; places count from the first.
+    pub fn new(text: &'a [u8], tokens: &'a [Token]) -> Cursor<'a>
         requires short { length text.now < 2 ^ 32 - 1 }
-        requires lie { LieIn from (length text.now) tokens.now }
-        ensures { result ≡ map (lexeme_of text.now from) tokens.now }
+        requires in_order { AreInOrder 0 (length text.now) tokens.now }
+        ensures { result ≡ lexemes_of text.now tokens.now }
     {
-        Cursor { text, from, tokens }
+        let Some(first) = tokens.first() else {
+            return Cursor {
+                text,
+                from: 0,
+                tokens,
+            };
+        };
+        Cursor {
+            text,
+            from: first.span.start,
+            tokens,
+        }
     }
 
     /// The next token.
@@ -213,13 +226,21 @@ impl<'a> Cursor<'a> {
         None
     }
 
+    /// Whether the next token is this word or sign.
+    pub fn sees(&self, wanted: &[u8]) -> bool
+        ensures { result ≡ begins_with wanted.now self.now }
+    {
+        if let Some(Lexeme::Mark(mark)) = self.peek() {
+            return mark == wanted;
+        }
+        false
+    }
+
     /// Takes the next token where it is this word or sign, and says whether it is.
     pub fn takes(&mut self, wanted: &[u8]) -> bool
         ensures { TakesMark (read_mark wanted.now self.old) result self.old self.new }
     {
-        if let Some(Lexeme::Mark(mark)) = self.peek()
-            && mark == wanted
-        {
+        if self.sees(wanted) {
             self.skip();
             return true;
         }

@@ -1,6 +1,6 @@
 use Rattle.std.proofs.Common.{◌≡◌, ◌-◌, ◌^◌, min, take}
 use Rattle.edit_server.specs.Lexeme.{value_of}
-use Rattle.edit_server.proofs.cursor.number_of.Given as goal
+use Rattle.edit_server.proofs.reading.cursor.number_of.Given as goal
 
 -- the value of the digits so far, where it fits
 abbrev pub invariant-loop-digit : goal.invariant-loop-digit
