@@ -1,3 +1,9 @@
 mod Programs
 mod ConditionExamples
 mod ExecutionExamples
+mod FormulaSorts
+mod MadeSorted
+mod FirstOccurrences
+mod Renaming
+mod Following
+mod SameGoals

@@ -7,3 +7,4 @@ pub mod Variables
 pub mod Conditions
 pub mod OnePass
 pub mod Codes
+pub mod WellSorted

@@ -1,6 +1,7 @@
 // The obligations of a procedure: one for each assertion.
 ghost use Rattle.std.specs.Prelude.{◌≡◌, map, length, IfOk, OnOk};
 ghost use Rattle.edit_server.specs.Conditions.{body_of, goals_of};
+ghost use Rattle.edit_server.specs.WellSorted.{HasIntegers, IsFormulaOver, IsSorted};
 ghost use Rattle.edit_server.specs.OnePass.{obligation_in, nothing_made, perform, perform_assign, perform_assume, perform_assert};
 
 use crate::first_form::{Comparison, Procedure, Statement, StatementKind, Sum};
@@ -68,6 +69,8 @@ fn body(alloc: Global, before: &[Term], asserted: &Term) -> Result<Term, AllocEr
 
 /// The obligation that the formula holds where those before it hold, over these variables.
 fn obligation(alloc: Global, names: &Names, before: &[Term], asserted: &Term) -> Result<Obligation, AllocError>
+    requires variables { HasIntegers (length names.now.vars) names.now.vars }
+    requires formula { IsFormulaOver (length names.now.vars) (body_of before.now asserted.now) }
     ensures { IfOk result (λ o. o ≡ obligation_in names.now before.now asserted.now) }
 {
     let mut defs = Sequence::new(alloc);
@@ -125,6 +128,7 @@ impl Made {
 
     /// An assertion has a goal, and joins the formulas.
     fn perform_assert(&mut self, alloc: Global, place: Place, comparisons: &[Comparison]) -> Result<(), AllocError>
+        requires { IsSorted self.old }
         ensures { OnOk result (self.new ≡ perform_assert self.old place comparisons.now) }
     {
         self.names.mention_all(comparisons)?;
@@ -137,6 +141,7 @@ impl Made {
 
     /// The statement.
     fn perform(&mut self, alloc: Global, statement: &Statement) -> Result<(), AllocError>
+        requires { IsSorted self.old }
         ensures { OnOk result (self.new ≡ perform self.old statement.now) }
     {
         match &statement.kind {
