@@ -74,7 +74,7 @@ takes_next : (next : ℕ) (now : List ℕ) (names : Names) (os : List ℕ) (x i 
 takes_next next now names os x i apart there new h = record {
   current = (λ k. slice_set (h.current k) x (Some (count_of next now names os h k))) ∙ spots_with os now x i there (apart.only x i there) new;
   vars = vars_pushed names os i h.vars;
-  below = below_pushed next os i h.below (apart.below x i there)
+  below = below_pushed next os i h.below (apart.below x i there);
 }
 
 module _ (next : ℕ) (now : List ℕ) (apart : AreApart next now) where
@@ -116,7 +116,7 @@ module _ (next : ℕ) (now : List ℕ) (apart : AreApart next now) where
   sum_of_follows names os o (p ∷ ps) h =
       let first = variables (operand_term (incarnation now) o) in
       after_two (fold mention_part (mention_operand names o) (p ∷ ps)) os first (variables_of_parts (parts_of (map (signed_part (incarnation now)) (p ∷ ps))))
-        (parts_follow (mention_operand names o) (first_occurrences os first) (p ∷ ps) (operand_follows names os o h))
+      (parts_follow (mention_operand names o) (first_occurrences os first) (p ∷ ps) (operand_follows names os o h))
 
   pub sum_follows : (names : Names) (os : List ℕ) (e : Sum) → Follows next now names os → Follows next now (mention_sum names e) (first_occurrences os (variables (sum_term (incarnation now) e)))
   sum_follows names os e h = sum_of_follows names os e.first e.rest h
@@ -147,7 +147,7 @@ module _ (next : ℕ) (now : List ℕ) (apart : AreApart next now) where
   comparisons_follow names os (c ∷ cs) h =
       let first = variables (comparison_term (incarnation now) c) in
       after_two (mention_all (mention_comparison names c) cs) os first (variables_of_each (trees_of (map (comparison_term (incarnation now)) cs)))
-        (comparisons_follow (mention_comparison names c) (first_occurrences os first) cs (relation_follows names os c.relation c.left c.right h))
+      (comparisons_follow (mention_comparison names c) (first_occurrences os first) cs (relation_follows names os c.relation c.left c.right h))
 
   pub conjunction_follows : (names : Names) (os : List ℕ) (cs : List Comparison) → Follows next now names os → Follows next now (mention_all names cs) (first_occurrences os (variables (conjunction (incarnation now) cs)))
   conjunction_follows names os [] h = h

@@ -7,3 +7,4 @@ mod FirstOccurrences
 mod Renaming
 mod Following
 mod SameGoals
+mod ReportExamples

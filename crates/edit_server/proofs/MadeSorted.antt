@@ -39,7 +39,7 @@ has_one_more (k ∷ vars) (suc v) h lt = has_one_more vars v (λ u below. h (suc
 one_more_sorted : (names : Names) → AreSorted names → AreSorted (one_more names)
 one_more_sorted names h = record {
   vars = λ v lt. has_one_more names.vars v h.vars lt;
-  current = λ x v e. omega (arith, h.current x v e, length_push names.vars int)
+  current = λ x v e. omega (arith, h.current x v e, length_push names.vars int);
 }
 
 one_more_extends : (names : Names) → Extends names (one_more names)
@@ -68,14 +68,14 @@ set_there (c ∷ cs) (suc x) w e = set_there cs x w e
 renewed_sorted : (names : Names) (x v : ℕ) → v < length names.vars → AreSorted names → AreSorted (renewed names x v)
 renewed_sorted names x v lt h = record {
   vars = h.vars;
-  current = λ y u e. set_from names.current x y u v e (λ w. w < length names.vars) lt (λ e'. h.current y u e')
+  current = λ y u e. set_from names.current x y u v e (λ w. w < length names.vars) lt (λ e'. h.current y u e');
 }
 
 renewed_extends : (names : Names) (x : ℕ) → Extends names (one_more (renewed names x (length names.vars)))
 renewed_extends names x = record {
   sorted = λ h. let g = one_more_sorted names h in renewed_sorted (one_more names) x (length names.vars) (omega (arith, length_push names.vars int)) g;
   more = omega (arith, length_push names.vars int);
-  met = λ y m. set_met names.current x y (length names.vars) m
+  met = λ y m. set_met names.current x y (length names.vars) m;
 }
 
 mention_in_extends : (names : Names) (x : ℕ) (o : Option (Option ℕ)) → Extends names (mention_in names x o)
@@ -221,8 +221,8 @@ perform_assign_sorted made x e h =
     record {
       names = renewed_sorted names x (length made.names.vars) there sorted;
       before = also_sorted made names (equal (free (length made.names.vars)) (sum_term (named names) e)) h sorted (omega (arith, there))
-        (equal_is_formula (length names.vars) (free (length made.names.vars)) (sum_term (named names) e) (λ vars ints. ints (length made.names.vars) there)
-          (sum_is_integer (length names.vars) (named names) e (sum_sorted names sorted e (sum_met one e))))
+          (equal_is_formula (length names.vars) (free (length made.names.vars)) (sum_term (named names) e) (λ vars ints. ints (length made.names.vars) there)
+          (sum_is_integer (length names.vars) (named names) e (sum_sorted names sorted e (sum_met one e))));
     }
 
 conjunction_sorted : (made : Made) (cs : List Comparison) → IsSorted made → AllByRecursion (IsFormulaOver (length (mention_all made.names cs).vars)) (made.before ++ conjunction (named (mention_all made.names cs)) cs ∷ [])
@@ -255,7 +255,7 @@ groups_sorted names (g ∷ groups) h = groups_sorted (with_locals names g) group
 pub nothing_sorted : (p : Procedure) → IsSorted (nothing_made p)
 nothing_sorted p = record {
   names = groups_sorted (record { current = []; vars = [] }) p.groups (record { vars = λ v lt. absurd (omega (arith, lt)); current = λ x v e. absurd (no_variables [] x v e) });
-  before = tt
+  before = tt;
 }
 
 -- of an assertion's obligation: its variables are integers, and its body is a formula

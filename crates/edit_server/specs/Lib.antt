@@ -8,3 +8,5 @@ pub mod Conditions
 pub mod OnePass
 pub mod Codes
 pub mod WellSorted
+pub mod Verdict
+pub mod Report

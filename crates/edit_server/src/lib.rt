@@ -5,3 +5,5 @@ pub mod conditions;
 pub mod first_form;
 pub mod formula;
 pub mod naming;
+pub mod report;
+pub mod verdict;

@@ -10,13 +10,13 @@ use Rattle.edit_server.proofs.conditions.goals.Goals as goal
 pub loop-statement-init : goal.loop-statement-init
 loop-statement-init c = record {
   made = ap (λ m. fold perform m c.args.procedure.now.body) c.in_ok-made.ensures;
-  sorted = subst IsSorted (sym c.in_ok-made.ensures) (nothing_sorted c.args.procedure.now)
+  sorted = subst IsSorted (sym c.in_ok-made.ensures) (nothing_sorted c.args.procedure.now);
 }
 
 pub loop-statement-preserved : goal.loop-statement-preserved
 loop-statement-preserved c = record {
   made = grind (arith, common_steps);
-  sorted = subst IsSorted (sym c.in_ok-perform.ensures) (perform_sorted c.loop-statement.made c.statement-item.result c.loop-statement.invariant.sorted)
+  sorted = subst IsSorted (sym c.in_ok-perform.ensures) (perform_sorted c.loop-statement.made c.statement-item.result c.loop-statement.invariant.sorted);
 }
 
 pub returns : goal.returns

@@ -7,5 +7,5 @@ use Rattle.edit_server.proofs.conditions.goals.Given as goal
 abbrev pub invariant-loop-statement : goal.invariant-loop-statement
 invariant-loop-statement l = record {
   made : fold perform l.made (drop l.statement-index l.procedure.body) ≡ fold perform (nothing_made l.procedure) l.procedure.body;
-  sorted : IsSorted l.made
+  sorted : IsSorted l.made;
 }
