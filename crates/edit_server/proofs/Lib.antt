@@ -8,3 +8,7 @@ mod Renaming
 mod Following
 mod SameGoals
 mod ReportExamples
+mod FormulaMeanings
+mod RenamedMeanings
+mod FailuresRefuted
+mod GoalsSorted

@@ -10,3 +10,4 @@ pub mod Codes
 pub mod WellSorted
 pub mod Verdict
 pub mod Report
+pub mod Sound
