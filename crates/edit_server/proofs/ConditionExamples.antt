@@ -12,7 +12,7 @@ use Rattle.edit_server.proofs.Programs.{at, alone, two, compare, procedure_of, i
 abbrev goal : Place → List Kind → Tree → Goal
 goal place vars body = record {
   place = place;
-  obligation = record { vars = vars; defs = record { params = []; sort = boolean; logical = true; body = body } ∷ []; axioms = []; goal = call 0 no_trees }
+  obligation = record { vars = vars; defs = record { params = []; sort = boolean; logical = true; body = body } ∷ []; axioms = []; goal = call 0 no_trees };
 }
 
 abbrev one_more : Tree → Tree
@@ -41,10 +41,10 @@ twice = procedure_of (assert (at 1 1) (compare (local 1) differs (number 7) ∷ 
 
 twice_goals : goals_of twice ≡ goal (at 1 1) (int ∷ []) (some (tree (negation (equal (free 0) (num (pos 7)))) no_trees))
     ∷ goal (at 2 2) (int ∷ int ∷ []) (some
-      (tree (negation (negation (equal (free 0) (num (pos 7)))))
-      (tree (all
-        (tree (equal (linear (part (pos 1) (free 0) (part (negsuc 0) (num (pos 2)) (part (negsuc 0) (free 1) no_parts))) (pos 0)) (num (pos 3)))
-        (tree (at_most_term (one_more (free 1)) (free 0)) no_trees))) no_trees)))
+    (tree (negation (negation (equal (free 0) (num (pos 7)))))
+    (tree (all
+    (tree (equal (linear (part (pos 1) (free 0) (part (negsuc 0) (num (pos 2)) (part (negsuc 0) (free 1) no_parts))) (pos 0)) (num (pos 3)))
+    (tree (at_most_term (one_more (free 1)) (free 0)) no_trees))) no_trees)))
     ∷ []
 unfolding twice
 twice_goals = refl

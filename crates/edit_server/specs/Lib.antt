@@ -14,3 +14,7 @@ pub mod Conditions
 pub mod OnePass
 pub mod Codes
 pub mod Outcomes
+pub mod WellSorted
+pub mod Verdict
+pub mod Report
+pub mod Sound

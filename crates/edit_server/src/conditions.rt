@@ -1,6 +1,7 @@
 // The obligations of a procedure: one for each assertion.
 ghost use Rattle.std.specs.Prelude.{◌≡◌, map, length, IfOk, OnOk};
 ghost use Rattle.edit_server.specs.Conditions.{body_of, goals_of};
+ghost use Rattle.edit_server.specs.WellSorted.{HasIntegers, IsFormulaOver, IsSorted};
 ghost use Rattle.edit_server.specs.OnePass.{obligation_in, nothing_made, perform, perform_assign, perform_assume, perform_assert};
 
 use crate::first_form::{Comparison, Procedure, Statement, StatementKind, Sum};
@@ -67,7 +68,14 @@ fn body(alloc: Global, before: &[Term], asserted: &Term) -> Result<Term, AllocEr
 }
 
 /// The obligation that the formula holds where those before it hold, over these variables.
-fn obligation(alloc: Global, names: &Names, before: &[Term], asserted: &Term) -> Result<Obligation, AllocError>
+fn obligation(
+    alloc: Global,
+    names: &Names,
+    before: &[Term],
+    asserted: &Term,
+) -> Result<Obligation, AllocError>
+    requires variables { HasIntegers (length names.now.vars) names.now.vars }
+    requires formula { IsFormulaOver (length names.now.vars) (body_of before.now asserted.now) }
     ensures { IfOk result (λ o. o ≡ obligation_in names.now before.now asserted.now) }
 {
     let mut defs = Sequence::new(alloc);
@@ -81,11 +89,7 @@ fn obligation(alloc: Global, names: &Names, before: &[Term], asserted: &Term) ->
     })?;
     let vars = Sequence::of(copy_sorts(alloc, names.vars.as_slice())?);
     let goal = Term::new(Node::Call(0, Vec::new(alloc)));
-    Ok(Obligation::new(
-        Signature::new(vars, defs),
-        Sequence::new(alloc),
-        goal,
-    ))
+    Ok(Obligation::new(Signature::new(vars, defs), Sequence::new(alloc), goal))
 }
 
 impl Made {
@@ -115,16 +119,27 @@ impl Made {
     }
 
     /// An assumption joins the formulas.
-    fn perform_assume(&mut self, alloc: Global, comparisons: &[Comparison]) -> Result<(), AllocError>
+    fn perform_assume(
+        &mut self,
+        alloc: Global,
+        comparisons: &[Comparison],
+    ) -> Result<(), AllocError>
         ensures { OnOk result (self.new ≡ perform_assume self.old comparisons.now) }
     {
         self.names.mention_all(comparisons)?;
-        self.before.push(self.names.conjunction(alloc, comparisons)?)?;
+        self.before
+            .push(self.names.conjunction(alloc, comparisons)?)?;
         Ok(())
     }
 
     /// An assertion has a goal, and joins the formulas.
-    fn perform_assert(&mut self, alloc: Global, place: Place, comparisons: &[Comparison]) -> Result<(), AllocError>
+    fn perform_assert(
+        &mut self,
+        alloc: Global,
+        place: Place,
+        comparisons: &[Comparison],
+    ) -> Result<(), AllocError>
+        requires { IsSorted self.old }
         ensures { OnOk result (self.new ≡ perform_assert self.old place comparisons.now) }
     {
         self.names.mention_all(comparisons)?;
@@ -137,11 +152,15 @@ impl Made {
 
     /// The statement.
     fn perform(&mut self, alloc: Global, statement: &Statement) -> Result<(), AllocError>
+        requires { IsSorted self.old }
         ensures { OnOk result (self.new ≡ perform self.old statement.now) }
     {
         match &statement.kind {
             StatementKind::Assign(target, sum) => self.perform_assign(alloc, *target, sum),
-            StatementKind::Assume(comparisons) => self.perform_assume(alloc, comparisons.as_slice()),
+            StatementKind::Assume(comparisons) => self.perform_assume(
+                alloc,
+                comparisons.as_slice(),
+            ),
             StatementKind::Assert(place, comparisons) => {
                 self.perform_assert(alloc, *place, comparisons.as_slice())
             }

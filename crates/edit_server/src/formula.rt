@@ -21,20 +21,14 @@ pub fn negation_of(alloc: Global, formula: Term) -> Result<Term, AllocError>
 pub fn equal_to(alloc: Global, a: Term, b: Term) -> Result<Term, AllocError>
     ensures { IfOk result (λ t. t ≡ equal a b) }
 {
-    Ok(Term::new(Node::Eq(
-        Box::new(alloc, a)?,
-        Box::new(alloc, b)?,
-    )))
+    Ok(Term::new(Node::Eq(Box::new(alloc, a)?, Box::new(alloc, b)?)))
 }
 
 /// `a <= b`.
 fn at_most_of(alloc: Global, a: Term, b: Term) -> Result<Term, AllocError>
     ensures { IfOk result (λ t. t ≡ at_most a b) }
 {
-    Ok(Term::new(Node::Le(
-        Box::new(alloc, a)?,
-        Box::new(alloc, b)?,
-    )))
+    Ok(Term::new(Node::Le(Box::new(alloc, a)?, Box::new(alloc, b)?)))
 }
 
 /// `a < b`, which is `a + 1 <= b`.
@@ -47,7 +41,12 @@ fn below_of(alloc: Global, a: Term, b: Term) -> Result<Term, AllocError>
 }
 
 /// The two sides related.
-fn relation_of_terms(alloc: Global, relation: Relation, a: Term, b: Term) -> Result<Term, AllocError>
+fn relation_of_terms(
+    alloc: Global,
+    relation: Relation,
+    a: Term,
+    b: Term,
+) -> Result<Term, AllocError>
     ensures { IfOk result (λ t. t ≡ relation_term (relation_of relation) a b) }
 {
     match relation {
