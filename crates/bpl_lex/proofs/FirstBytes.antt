@@ -8,7 +8,7 @@ use Rattle.bpl_lex.specs.Shape.{among, is_blank_byte, is_letter, is_digit}
 not_both : {A : Type 0} (x : Bool) → x ≡ true → x ≡ false → A
 not_both x h i = absurd (cc)
 
-false_from : (x : Bool) → (x ≡ true → ⊥) → x ≡ false
+pub false_from : (x : Bool) → (x ≡ true → ⊥) → x ≡ false
 false_from true h = absurd (h refl)
 false_from false h = refl
 

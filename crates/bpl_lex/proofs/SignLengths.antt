@@ -5,15 +5,12 @@ use Rattle.std.proofs.Common.{refl, ap, sym, arith}
 use Rattle.std.proofs.lemmas.List.{length-take-le}
 use Rattle.std.proofs.lemmas.Bool.Decides.{nat_tests}
 use Rattle.std.specs.Cmp.Lexicographic.{same_text}
+use Rattle.bpl_lex.proofs.FirstBytes.{false_from}
 use Rattle.bpl_lex.specs.Shape.{among, brackets, signs, is_sign}
 
 and_true : (x y : Bool) → (x && y) ≡ true → (x ≡ true) × (y ≡ true)
 and_true true y h = (refl, h)
 and_true false y h = absurd (cc)
-
-false_from : (x : Bool) → (x ≡ true → ⊥) → x ≡ false
-false_from true h = absurd (h refl)
-false_from false h = refl
 
 shorter : (k m n : ℕ) → k < n → nat_le m k ≡ true → m ≡ n → ⊥
 shorter k m n above h e = grind (arith, nat_tests)
