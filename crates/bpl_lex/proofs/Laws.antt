@@ -18,17 +18,21 @@ tokens_in : Result (List Token) ℕ → List Token
 tokens_in (Ok ts) = ts
 tokens_in (Err at) = []
 
+-- where a function of an answer has tokens, the answer has the tokens before it
 joined_onto : (f : List Token → List Token) (r : Result (List Token) ℕ) (ts : List Token) → onto f r ≡ Ok ts → (r ≡ Ok (tokens_in r)) × (f (tokens_in r) ≡ ts)
 unfolding tokens_in
 joined_onto f (Ok us) ts h = (refl, cc)
 joined_onto f (Err at) ts h = absurd (cc)
 
+-- equal answers have equal tokens
 ok_same : (us ts : List Token) → ◌≡◌ {A = Result (List Token) ℕ} (Ok us) (Ok ts) → us ≡ ts
 ok_same us ts h = cc
 
+-- a fault has no tokens
 no_ok : (at : ℕ) (ts : List Token) → ◌≡◌ {A = Result (List Token) ℕ} (Err at) (Ok ts) → ⊥
 no_ok at ts h = cc
 
+-- at most is equal or less
 at_or_before : (m n : ℕ) → m ≤ n → (m ≡ n) ⊎ (m < n)
 at_or_before m n h = grind arith
 
@@ -70,6 +74,7 @@ in_order_from from at upto (t ∷ ts) h o = (above o.0, o.1, o.2)
     above : at ≤ t.start → from ≤ t.start
     above a = omega arith
 
+-- tokens in order after a piece are in order with it
 in_order_before : (at n upto : ℕ) (p : Piece) (ts : List Token) → 0 < n → AreInOrder (at + n) upto ts → AreInOrder at upto (joined p at n ts)
 in_order_before at n upto blank ts some o = in_order_from at (at + n) upto ts (omega arith) o
 in_order_before at n upto comment ts some o = in_order_from at (at + n) upto ts (omega arith) o
@@ -94,6 +99,7 @@ kind_from false true o k h = absurd (cc)
 kind_from false false None k h = absurd (cc)
 kind_from false false (Some j) k h = cc
 
+-- a piece that is a token is of its kind
 pub token_kind : (bytes : List ℕ) (k : Kind) → piece_of bytes ≡ Some (token k) → kind_of bytes ≡ Some k
 token_kind bytes k h = kind_from (is_blank bytes) (is_line_comment bytes || is_block_comment bytes) (kind_of bytes) k h
 
@@ -109,21 +115,25 @@ slice_more text from at n h =
 abbrev SpelledBefore : List ℕ → ℕ → List Token → Type 0
 SpelledBefore text at ts = (from : ℕ) → from ≤ at → IsSpacing (slice text from at) → Spells text from ts
 
+-- at the end only blanks and comments are left
 spelled_end : (text : List ℕ) (at : ℕ) → at ≡ length text → SpelledBefore text at []
 spelled_end text at e = λ from h spacing. subst IsSpacing (ap (λ m. take (m - from) (drop from text)) e ∙ rest_is from text) spacing
 
+-- between a place and itself there is nothing
 empty_slice : (text : List ℕ) (at : ℕ) → IsSpacing (slice text at at)
 empty_slice text at = subst (λ (m : ℕ). IsSpacing (take m (drop at text))) (self at) nothing
   where
     self : (m : ℕ) → 0 ≡ m - m
     self m = omega arith
 
+-- a piece's bytes are the slice from its place on
 own_slice : (text : List ℕ) (at n : ℕ) → take n (drop at text) ≡ slice text at (at + n)
 own_slice text at n = ap (λ m. take m (drop at text)) (only at n)
   where
     only : (k m : ℕ) → m ≡ k + m - k
     only k m = omega arith
 
+-- what spells the text after a piece spells it with the piece
 spelled_before : (text : List ℕ) (at n : ℕ) (p : Piece) (ts : List Token) → piece_of (take n (drop at text)) ≡ Some p → SpelledBefore text (at + n) ts → SpelledBefore text at (joined p at n ts)
 spelled_before text at n blank ts e next =
     λ from h spacing. next from (omega arith) (subst IsSpacing (slice_more text from at n h) (and_blank (slice text from at) (take n (drop at text)) spacing e))
@@ -143,6 +153,7 @@ pub each_of_kind : (text : List ℕ) (at : ℕ) (ts : List Token) → Spells tex
 each_of_kind text at [] h = All-nil (λ t. kind_of (text_of text t) ≡ Some t.kind)
 each_of_kind text at (t ∷ ts) h = All-cons (λ t. kind_of (text_of text t) ≡ Some t.kind) t ts h.1 (each_of_kind text t.finish ts h.2)
 
+-- tokens in order from one place up to another need that order of the places
 in_order_ends : (from upto : ℕ) (ts : List Token) → AreInOrder from upto ts → from ≤ upto
 in_order_ends from upto [] h = h
 in_order_ends from upto (t ∷ ts) h = along h.0 h.1 (in_order_ends t.finish upto ts h.2)

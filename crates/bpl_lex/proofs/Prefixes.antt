@@ -3,9 +3,11 @@ use Rattle.std.specs.Prelude.{◌≡◌, ℕ, zero, suc, ◌+◌, ◌<◌, ◌�
 use Rattle.std.specs.List.{list_all, prefix_len}
 use Rattle.std.proofs.Common.{refl, ap, ◌∙◌, arith}
 
+-- one more
 one_more : (n : ℕ) → 1 + n ≡ suc n
 one_more n = omega arith
 
+-- by whether the first byte passes
 all_at : (x : Bool) (p : ℕ → Bool) (b : ℕ) (bytes : List ℕ) → p b ≡ x → list_all p (take (prefix_len p bytes) bytes) ≡ true → list_all p (take (cond x (1 + prefix_len p bytes) 0) (b ∷ bytes)) ≡ true
 all_at true p b bytes h ih =
     ap (λ n. list_all p (take n (b ∷ bytes))) (one_more (prefix_len p bytes)) ∙ (λ j. h j && list_all p (take (prefix_len p bytes) bytes)) ∙ ih
@@ -16,6 +18,7 @@ pub prefix_passes : (p : ℕ → Bool) (bytes : List ℕ) → list_all p (take (
 prefix_passes p [] = refl
 prefix_passes p (b ∷ bytes) = all_at (p b) p b bytes refl (prefix_passes p bytes)
 
+-- by whether the first byte passes
 more_at : (x : Bool) (p : ℕ → Bool) (b : ℕ) (bytes : List ℕ) (m : ℕ) → p b ≡ x → cond x (1 + prefix_len p bytes) 0 < suc m → (prefix_len p bytes < m → list_all p (take m bytes) ≡ false) → list_all p (take (suc m) (b ∷ bytes)) ≡ false
 more_at true p b bytes m h a ih = (λ j. h j && list_all p (take m bytes)) ∙ ih (omega arith)
 more_at false p b bytes m h a ih = λ j. h j && list_all p (take m bytes)

@@ -27,12 +27,15 @@ inside_passed at (suc k) (b ∷ bytes) h = inside_passed (suc at) k bytes (omega
     moved : (n m : ℕ) → suc n + m ≡ n + suc m
     moved n m = omega arith
 
+-- what begins has bytes
 pub front_some : (bytes : List ℕ) (p : Piece) (n : ℕ) → front bytes ≡ Some (p, n) → 0 < n
 front_some bytes p n h = (front_is bytes p n h).some
 
+-- and they lie in the text
 pub front_within : (bytes : List ℕ) (p : Piece) (n : ℕ) → front bytes ≡ Some (p, n) → n ≤ length bytes
 front_within bytes p n h = (front_is bytes p n h).within
 
+-- the tokens by what begins here
 abbrev pub chosen : ℕ → List ℕ → Option (Piece × ℕ) → Result (List Token) ℕ
 chosen at bytes o = elim o [ Some f ↦ onto (joined f.0 at f.1) (tokens_from (suc at) (pred f.1) bytes) | None ↦ Err at ]
 
@@ -64,6 +67,7 @@ no_piece at (b ∷ bytes) some h = ap (chosen at bytes) h
 abbrev pub after : List Token → Result (List Token) ℕ → Result (List Token) ℕ
 after ts r = onto (λ us. ts ++ us) r
 
+-- tokens move from an answer to those before it
 after-onto : (ts us : List Token) (f : List Token → List Token) (r : Result (List Token) ℕ) → ((vs : List Token) → us ++ vs ≡ ts ++ f vs) → after us r ≡ after ts (onto f r)
 after-onto ts us f (Ok vs) h = ap Ok (h vs)
 after-onto ts us f (Err at) h = refl
@@ -88,6 +92,7 @@ at_end text at ts over before =
 pub at_fault : (text : List ℕ) (at : ℕ) (ts : List Token) → at < length text → front (drop at text) ≡ None → after ts (tokens_from at 0 (drop at text)) ≡ tokens text → tokens text ≡ Err at
 at_fault text at ts within h before = sym before ∙ ap (after ts) (no_piece at (drop at text) (omega (arith, length-drop at text)) h)
 
+-- what begins at a place ends in the text
 pub piece_fits : (text : List ℕ) (at n : ℕ) (p : Piece) → at ≤ length text → front (drop at text) ≡ Some (p, n) → at + n ≤ length text
 piece_fits text at n p within h = omega (arith, front_within (drop at text) p n h, length-drop at text)
 
