@@ -39,12 +39,14 @@ impl<T> Row<T> {
         self.items.as_slice()
     }
 
+    /// How many items there are.
     pub fn len(&self) -> usize
         ensures { result ≡ length self.now }
     {
         self.items.len()
     }
 
+    /// Whether there is no item.
     pub fn is_empty(&self) -> bool
         ensures { result ≡ (length self.now == 0) }
     {
@@ -87,6 +89,7 @@ impl Name {
         })
     }
 
+    /// The bytes of the name.
     pub fn as_bytes(&self) -> &[u8]
         ensures { result.now ≡ self.now }
     {
@@ -108,6 +111,7 @@ pub enum Operand {
     Local(u64),
 }
 
+/// How an operand of a sum counts.
 #[derive(Clone, Copy)]
 pub enum Sign {
     Plus,
@@ -148,6 +152,7 @@ impl Model for Sum {
     ghost view = { λ a. record { first = operand_of a.first; rest = a.rest } };
 }
 
+/// What a comparison says: `==`, `!=`, `<`, `<=`, `>` or `>=`.
 #[derive(Clone, Copy)]
 pub enum Relation {
     Equals,

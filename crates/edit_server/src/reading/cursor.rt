@@ -159,6 +159,7 @@ impl<'a> Cursor<'a> {
         }
     }
 
+    /// Whether no token is left.
     pub fn is_empty(&self) -> bool
         ensures { result ≡ (length self.now == 0) }
     {
