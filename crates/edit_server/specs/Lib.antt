@@ -18,3 +18,6 @@ pub mod WellSorted
 pub mod Verdict
 pub mod Report
 pub mod Sound
+pub mod Exit
+pub mod Check
+pub mod Run
