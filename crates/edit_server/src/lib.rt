@@ -1,10 +1,10 @@
 // The server: commands, sessions and reports.
 #![tactic(auto)]
 
-pub mod first_form;
-pub mod naming;
-pub mod formula;
 pub mod conditions;
+pub mod first_form;
+mod formula;
+mod naming;
+pub mod report;
 pub mod soundness;
 pub mod verdict;
-pub mod report;
