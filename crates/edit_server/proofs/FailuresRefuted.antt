@@ -81,12 +81,12 @@ refutes xs before shown hold fail =
     let body = body_of before shown in
     let os = first_occurrences [] (variables body) in
     let same : With (values_in xs os) none (canonical_body body) [] ≡ (λ P. P (flag false)) =
-          means (wholes xs) (values_in xs os) none (place_in os) body (all_in_order xs os (variables body) (all_occur [] (variables body))) []
-          ∙ body_is_false (wholes xs) none before shown hold fail in
+    means (wholes xs) (values_in xs os) none (place_in os) body (all_in_order xs os (variables body) (all_occur [] (variables body))) []
+    ∙ body_is_false (wholes xs) none before shown hold fail in
     record {
       sorts = values_sorted xs os;
       axioms = λ k d lt. absurd (omega (arith, lt));
-      goal = λ h. let bad : false ≡ true = subst (λ (M : Said → Type 0). M (λ v. IsTrue (holds v))) same h in cc
+      goal = λ h. let bad : false ≡ true = subst (λ (M : Said → Type 0). M (λ v. IsTrue (holds v))) same h in cc;
     }
 
 -- the incarnations have these values, and those of the locals are the state's
@@ -136,7 +136,7 @@ formula_stays : (next : ℕ) (now : List ℕ) (xs : List ℤ) (state : State) �
     → StayTrue xs (before ++ conjunction (incarnation now) cs ∷ [])
 formula_stays next now xs state t before stay cs h more =
     one_more_true (wholes (xs ++ more)) before (conjunction (incarnation now) cs) (stay more)
-      (conjunction_is (wholes (xs ++ more)) none (incarnation now) state (reads next now xs state t more) cs ∙ (λ k P. P (flag (h k))))
+    (conjunction_is (wholes (xs ++ more)) none (incarnation now) state (reads next now xs state t more) cs ∙ (λ k P. P (flag (h k))))
 
 -- an assignment's new incarnation has the value of the right side
 value_at_end : (xs more : List ℤ) (v : ℤ) → value_at (xs ++ (v ∷ more)) (length xs) ≡ v
@@ -150,13 +150,13 @@ module _ (next : ℕ) (now : List ℕ) (xs : List ℤ) (state : State) (t : Trac
   equation_true : (more : List ℤ) → Is (wholes (xs ++ (value ∷ more))) none (equal (free next) (sum_term (incarnation now) e)) (flag true)
   equation_true more =
       let new : at (wholes (xs ++ (value ∷ more))) next ≡ whole value =
-            at_wholes (xs ++ (value ∷ more)) next ∙ (λ k. whole (value_at (xs ++ (value ∷ more)) (sym t.count k))) ∙ (λ k. whole (value_at_end xs more value k)) in
+      at_wholes (xs ++ (value ∷ more)) next ∙ (λ k. whole (value_at (xs ++ (value ∷ more)) (sym t.count k))) ∙ (λ k. whole (value_at_end xs more value k)) in
       equation_is (wholes (xs ++ (value ∷ more))) none (incarnation now) state (reads next now xs state t (value ∷ more)) (free next) e (λ k P. P (new k))
 
   equation_stays : (before : List Tree) → StayTrue xs before → StayTrue (xs ++ value ∷ []) (before ++ equal (free next) (sum_term (incarnation now) e) ∷ [])
   equation_stays before stay more =
       subst (λ ys. AllTrue (wholes ys) none (before ++ equal (free next) (sum_term (incarnation now) e) ∷ [])) (sym (append_assoc xs (value ∷ []) more))
-        (one_more_true (wholes (xs ++ (value ∷ more))) before (equal (free next) (sum_term (incarnation now) e)) (stay (value ∷ more)) (equation_true more))
+      (one_more_true (wholes (xs ++ (value ∷ more))) before (equal (free next) (sum_term (incarnation now) e)) (stay (value ∷ more)) (equation_true more))
 
 -- after an assignment the locals' incarnations have the new state's values
 renewed_values : (xs : List ℤ) (v : ℤ) (next : ℕ) → length xs ≡ next → (now : List ℕ) (state : State) (x : ℕ) → length now ≡ length state
@@ -179,7 +179,7 @@ renewed_tracks next now xs state t x v = record {
   count = length_push xs v ∙ (λ k. t.count k + 1);
   as_many = length-set now x next ∙ t.as_many ∙ sym (length-set state x v);
   below = λ y i h. elim (set_either now x next y i h) [ inl p ↦ omega (arith, p.1) | inr old ↦ let lt = t.below y i old in omega (arith, lt) ];
-  values = renewed_values xs v next t.count now state x t.as_many t.below t.values
+  values = renewed_values xs v next t.count now state x t.as_many t.below t.values;
 }
 
 -- a goal at this place is refuted
@@ -196,9 +196,9 @@ failed_goal next now xs state t before stay cs not_true =
     let formula = conjunction (incarnation now) cs in
     let false_here : all_hold state cs ≡ false = by_test (all_hold state cs) not_true in
     refutes xs before formula
-      (subst (λ ys. AllTrue (wholes ys) none before) (append_nil xs) (stay []))
-      (subst (λ ys. Is (wholes ys) none formula (flag false)) (append_nil xs)
-        (conjunction_is (wholes (xs ++ [])) none (incarnation now) state (reads next now xs state t []) cs ∙ (λ k P. P (flag (false_here k)))))
+    (subst (λ ys. AllTrue (wholes ys) none before) (append_nil xs) (stay []))
+    (subst (λ ys. Is (wholes ys) none formula (flag false)) (append_nil xs)
+    (conjunction_is (wholes (xs ++ [])) none (incarnation now) state (reads next now xs state t []) cs ∙ (λ k P. P (flag (false_here k)))))
   where
     by_test : (b : Bool) → (IsTrue b → ⊥) → b ≡ false
     by_test true refused = absurd (refused refl)
@@ -211,18 +211,22 @@ fails_from ends at e now next before xs t stay = cc
 fails_from (assigned {state = state} {x = x} {e = right} {rest = rest} execution) at e now next before xs t stay =
     let v = sum_value state right in
     fails_from execution at e (slice_set now x next) (next + 1) (before ++ equal (free next) (sum_term (incarnation now) right) ∷ []) (xs ++ v ∷ [])
-      (renewed_tracks next now xs state t x v) (equation_stays next now xs state t x right before stay)
+    (renewed_tracks next now xs state t x v) (equation_stays next now xs state t x right before stay)
 fails_from (assumed {state = state} {cs = cs} h execution) at e now next before xs t stay =
     fails_from execution at e now next (before ++ conjunction (incarnation now) cs ∷ []) xs t (formula_stays next now xs state t before stay cs h)
 fails_from (asserted {state = state} {at = place} {cs = cs} {rest = rest} h execution) at e now next before xs t stay =
     let formula = conjunction (incarnation now) cs in
     later at (record { place = place; obligation = obligation_of before formula }) (goals_from now next (before ++ formula ∷ []) rest)
-      (fails_from execution at e now next (before ++ formula ∷ []) xs t (formula_stays next now xs state t before stay cs h))
+    (fails_from execution at e now next (before ++ formula ∷ []) xs t (formula_stays next now xs state t before stay cs h))
 fails_from (fails {state = state} {at = place} {cs = cs} {rest = rest} not_true) at e now next before xs t stay =
     let formula = conjunction (incarnation now) cs in
-    let here : place ≡ at = cc in
-    (0, record { place = place; obligation = obligation_of before formula }, omega arith, refl,
-      (here, (values_in xs (first_occurrences [] (variables (body_of before formula))), failed_goal next now xs state t before stay cs not_true)))
+    let here : place ≡ at = cc in (
+      0,
+      record { place = place; obligation = obligation_of before formula },
+      omega arith,
+      refl,
+      (here, (values_in xs (first_occurrences [] (variables (body_of before formula))), failed_goal next now xs state t before stay cs not_true)),
+    )
 
 length-range : (n : ℕ) → length (range_with_len 0 n) ≡ n
 length-range n = from 0 n
@@ -238,7 +242,7 @@ failures_refute_goals p at f =
       count = f.fits;
       as_many = length-range n ∙ sym f.fits;
       below = λ x i h. let r = in_range 0 n x i h in omega (arith, r.1);
-      values = λ x i h. let r = in_range 0 n x i h in (let same : i ≡ x = omega (arith, r.0) in λ k. value_at f.entry (same k))
+      values = λ x i h. let r = in_range 0 n x i h in (let same : i ≡ x = omega (arith, r.0) in λ k. value_at f.entry (same k));
     }) (λ more. tt)
 
 -- an assignment that refutes an obligation shows that it isn't valid

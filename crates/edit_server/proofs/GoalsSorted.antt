@@ -22,7 +22,7 @@ obligation_sorted made cs h =
     record {
       definitions = definition_sorted names.vars (body_of made.before formula) (asserted_integers made cs names h refl) (asserted_body made cs names made.before formula h refl refl refl);
       axioms = λ k d lt. absurd (omega (arith, lt));
-      goal = refl
+      goal = refl;
     }
 
 pushed : (gs : List Goal) (g : Goal) → AllByRecursion GoalSorted gs → GoalSorted g → AllByRecursion GoalSorted (gs ++ g ∷ [])
@@ -35,7 +35,7 @@ all_sorted made h hs (assign x e ∷ ss) = all_sorted (perform made (assign x e)
 all_sorted made h hs (assume cs ∷ ss) = all_sorted (perform made (assume cs)) (perform_sorted made (assume cs) h) hs ss
 all_sorted made h hs (assert at cs ∷ ss) =
     all_sorted (perform made (assert at cs)) (perform_sorted made (assert at cs) h)
-      (pushed made.goals (record { place = at; obligation = obligation_in (mention_all made.names cs) made.before (conjunction (named (mention_all made.names cs)) cs) }) hs (obligation_sorted made cs h)) ss
+    (pushed made.goals (record { place = at; obligation = obligation_in (mention_all made.names cs) made.before (conjunction (named (mention_all made.names cs)) cs) }) hs (obligation_sorted made cs h)) ss
 
 each_at : (gs : List Goal) → AllByRecursion GoalSorted gs → All GoalSorted gs
 each_at [] h k d lt = absurd (omega (arith, lt))

@@ -118,7 +118,7 @@ assume_stands made now next before os s cs =
       names = follows;
       before_is = before_joined made now next before os s formula formula' (formula_same next now names ms follows cs);
       order = order_joined made now next before os s formula formula';
-      inside = inside_joined made now next before os s formula formula'
+      inside = inside_joined made now next before os s formula formula';
     }
 
 -- an assertion makes the same formula
@@ -145,14 +145,14 @@ obligation_same made now next before os s cs =
     let follows : Follows next now names ms = conjunction_follows next now s.apart made.names os cs s.names in
     let formula' = conjunction (named names) cs in
     let body_same : body_of made.before formula' ≡ renamed (place_in ms) (body_of before formula) =
-          (λ i. body_of (before_stays made now next before os s formula formula' i) (formula_same next now names ms follows cs i)) ∙ sym (body_renamed (place_in ms) before formula) in
+    (λ i. body_of (before_stays made now next before os s formula formula' i) (formula_same next now names ms follows cs i)) ∙ sym (body_renamed (place_in ms) before formula) in
     let order_same : first_occurrences [] (variables (body_of before formula)) ≡ ms = body_order [] before formula ∙ (λ i. first_occurrences (s.order i) (variables formula)) in
     let made_over : obligation_in names made.before formula' ≡ over (body_of before formula) ms = λ i. record {
-          vars = follows.vars i;
-          defs = record { params = []; sort = boolean; logical = true; body = body_same i } ∷ [];
-          axioms = [];
-          goal = call 0 no_trees;
-        } in
+      vars = follows.vars i;
+      defs = record { params = []; sort = boolean; logical = true; body = body_same i } ∷ [];
+      axioms = [];
+      goal = call 0 no_trees;
+    } in
     made_over ∙ (λ i. over (body_of before formula) (sym order_same i))
 
 -- after a write each local has the new incarnation or the one that it had
@@ -166,15 +166,19 @@ set_either (j ∷ now) (suc x) n (suc y) i e = elim (set_either now x n y i e) [
 renewed_apart : (next : ℕ) (now : List ℕ) (x : ℕ) → AreApart next now → AreApart (next + 1) (slice_set now x next)
 renewed_apart next now x apart = record {
   only = λ y i e z e'. elim (set_either now x next y i e) [
-      inl p ↦ elim (set_either now x next z i e') [
-          inl q ↦ q.0 ∙ sym p.0
-        | inr old ↦ let lt = apart.below z i old in absurd (omega (arith, lt, p.1)) ]
+    | inl p ↦ elim (set_either now x next z i e') [
+      | inl q ↦ q.0 ∙ sym p.0
+      | inr old ↦ let lt = apart.below z i old in absurd (omega (arith, lt, p.1))
+    ]
     | inr old ↦ elim (set_either now x next z i e') [
-          inl q ↦ let lt = apart.below y i old in absurd (omega (arith, lt, q.1))
-        | inr old' ↦ apart.only y i old z old' ] ];
+      | inl q ↦ let lt = apart.below y i old in absurd (omega (arith, lt, q.1))
+      | inr old' ↦ apart.only y i old z old'
+    ]
+  ];
   below = λ y i e. elim (set_either now x next y i e) [
-      inl p ↦ omega (arith, p.1)
-    | inr old ↦ let lt = apart.below y i old in omega (arith, lt) ];
+    | inl p ↦ omega (arith, p.1)
+    | inr old ↦ let lt = apart.below y i old in omega (arith, lt)
+  ];
 }
 
 more_apart : (next : ℕ) (now : List ℕ) → AreApart next now → AreApart (next + 1) now
@@ -192,7 +196,7 @@ one_more_follows : (next : ℕ) (now : List ℕ) (names : Names) (os : List ℕ)
 one_more_follows next now names os apart h = subst (Follows (next + 1) now (one_more names)) (sym (joins_new next now names os h)) (record {
   current = h.current ∙ spots_of_others os now next (λ y e. let lt = apart.below y next e in omega (arith, lt));
   vars = vars_pushed names os next h.vars;
-  below = below_more next os h.below
+  below = below_more next os h.below;
 })
 
 -- an assignment
@@ -221,7 +225,7 @@ module _ (made : Made) (now : List ℕ) (next : ℕ) (before : List Tree) (os : 
   renewed_follows = record {
     current = (λ i. slice_set (after_follows.current i) x (sym new_spot i)) ∙ sym (map-set (spot order_after) now x next);
     vars = after_follows.vars;
-    below = after_follows.below
+    below = after_follows.below;
   }
 
   equation_same : equal (free (length made.names.vars)) (sum_term (named names_after) e) ≡ renamed (place_in order_after) equation
@@ -233,7 +237,7 @@ module _ (made : Made) (now : List ℕ) (next : ℕ) (before : List Tree) (os : 
     names = renewed_follows;
     before_is = before_joined made now next before os s equation equation' equation_same;
     order = order_joined made now next before os s equation equation';
-    inside = inside_joined made now next before os s equation equation'
+    inside = inside_joined made now next before os s equation equation';
   }
 
 -- the goals of the rest of a body
@@ -275,7 +279,7 @@ in_range a (suc n) (suc x) i e = let h = in_range (a + 1) n x i e in (omega (ari
 first_apart : (n : ℕ) → AreApart n (range_with_len 0 n)
 first_apart n = record {
   only = λ x i e y e'. let h = in_range 0 n x i e in let k = in_range 0 n y i e' in omega (arith, h.0, k.0);
-  below = λ x i e. let h = in_range 0 n x i e in omega (arith, h.1)
+  below = λ x i e. let h = in_range 0 n x i e in omega (arith, h.1);
 }
 
 pub same_goals : (p : Procedure) → goals_in_one_pass p ≡ goals_of p
@@ -286,9 +290,9 @@ same_goals p =
       names = record {
         current = (λ i. (groups_joined (record { current = []; vars = [] }) p.groups i).current) ∙ no_spots (locals_of p) 0;
         vars = λ i. (groups_joined (record { current = []; vars = [] }) p.groups i).vars;
-        below = tt
+        below = tt;
       };
       before_is = refl;
       order = refl;
-      inside = tt
+      inside = tt;
     }) p.body

@@ -127,8 +127,8 @@ impl Made {
         ensures { OnOk result (self.new ≡ perform_assume self.old comparisons.now) }
     {
         self.names.mention_all(comparisons)?;
-        self.before
-            .push(self.names.conjunction(alloc, comparisons)?)?;
+        let assumed = self.names.conjunction(alloc, comparisons)?;
+        self.before.push(assumed)?;
         Ok(())
     }
 
@@ -177,4 +177,187 @@ pub fn goals(alloc: Global, procedure: &Procedure) -> Result<Vec<Goal>, AllocErr
         made.perform(alloc, statement)?;
     }
     Ok(made.goals)
+}
+
+#[cfg(test)]
+mod tests {
+    use super::*;
+    use crate::first_form::{Literal, Name, Operand, Part, Relation, Row, Sign};
+    use std::test::Fail;
+
+    fn alone(alloc: Global, operand: Operand) -> Sum {
+        Sum {
+            first: operand,
+            rest: Row::new(alloc),
+        }
+    }
+
+    fn plus_one(alloc: Global, operand: Operand) -> Result<Sum, AllocError> {
+        let mut sum = alone(alloc, operand);
+        sum.rest.push(Part {
+            sign: Sign::Plus,
+            operand: number(1),
+        })?;
+        Ok(sum)
+    }
+
+    fn number(value: u8) -> Operand {
+        Operand::Number(Literal {
+            value: value as u128,
+        })
+    }
+
+    fn compared(
+        alloc: Global,
+        left: Operand,
+        relation: Relation,
+        right: Operand,
+    ) -> Result<Row<Comparison>, AllocError> {
+        let mut comparisons = Row::new(alloc);
+        comparisons.push(Comparison {
+            left: alone(alloc, left),
+            relation,
+            right: alone(alloc, right),
+        })?;
+        Ok(comparisons)
+    }
+
+    fn assume(comparisons: Row<Comparison>) -> Statement {
+        Statement {
+            kind: StatementKind::Assume(comparisons),
+        }
+    }
+
+    fn assign(target: u64, sum: Sum) -> Statement {
+        Statement {
+            kind: StatementKind::Assign(target, sum),
+        }
+    }
+
+    fn assert_at(line: u32, comparisons: Row<Comparison>) -> Statement {
+        Statement {
+            kind: StatementKind::Assert(Place { line, col: 3 }, comparisons),
+        }
+    }
+
+    // The group `x, y`.
+    fn two_locals(alloc: Global) -> Result<Row<Row<Name>>, AllocError> {
+        let mut group = Row::new(alloc);
+        group.push(Name::from_slice(alloc, b"x")?)?;
+        group.push(Name::from_slice(alloc, b"y")?)?;
+        let mut groups = Row::new(alloc);
+        groups.push(group)?;
+        Ok(groups)
+    }
+
+    fn procedure(alloc: Global, body: Row<Statement>) -> Result<Procedure, AllocError> {
+        let groups = two_locals(alloc)?;
+        let name = Name::from_slice(alloc, b"P")?;
+        Ok(Procedure { name, groups, body })
+    }
+
+    // assume x > 0; x := x + 1; assert x > 1;
+    fn increment(alloc: Global) -> Result<Procedure, AllocError> {
+        let x = Operand::Local(0);
+        let mut body = Row::new(alloc);
+        body.push(assume(compared(alloc, x, Relation::Greater, number(0))?))?;
+        body.push(assign(0, plus_one(alloc, x)?))?;
+        body.push(assert_at(5, compared(alloc, x, Relation::Greater, number(1))?))?;
+        procedure(alloc, body)
+    }
+
+    // x := y; assert y >= x; assert x == 3;
+    fn copy(alloc: Global) -> Result<Procedure, AllocError> {
+        let (x, y) = (Operand::Local(0), Operand::Local(1));
+        let mut body = Row::new(alloc);
+        body.push(assign(0, alone(alloc, y)))?;
+        body.push(assert_at(2, compared(alloc, y, Relation::AtLeast, x)?))?;
+        body.push(assert_at(3, compared(alloc, x, Relation::Equals, number(3))?))?;
+        procedure(alloc, body)
+    }
+
+    fn free(v: u64) -> Term {
+        Term::new(Node::Free(v))
+    }
+
+    fn num(n: i128) -> Term {
+        Term::new(Node::Num(n))
+    }
+
+    // (<= (+ 1 a 1) b)
+    fn below(alloc: Global, a: Term, b: Term) -> Result<Term, AllocError> {
+        let mut parts = Vec::new(alloc);
+        parts.push((1, a))?;
+        at_most(alloc, Term::new(Node::Sum(parts, 1)), b)
+    }
+
+    fn at_most(alloc: Global, a: Term, b: Term) -> Result<Term, AllocError> {
+        let (a, b) = (Box::new(alloc, a)?, Box::new(alloc, b)?);
+        Ok(Term::new(Node::Le(a, b)))
+    }
+
+    // (+ 1 a 1 b 0)
+    fn sum(alloc: Global, a: Term, b: Term) -> Result<Term, AllocError> {
+        let mut parts = Vec::new(alloc);
+        parts.push((1, a))?;
+        parts.push((1, b))?;
+        Ok(Term::new(Node::Sum(parts, 0)))
+    }
+
+    // (| (! a) (! b) c)
+    fn unless(alloc: Global, a: Term, b: Term, c: Term) -> Result<Term, AllocError> {
+        let mut parts = Vec::new(alloc);
+        parts.push(negation_of(alloc, a)?)?;
+        parts.push(negation_of(alloc, b)?)?;
+        parts.push(c)?;
+        Ok(Term::new(Node::Or(parts)))
+    }
+
+    // (| (! (<= (+ 1 0 1) v0)) (! (= v1 (+ 1 v0 1 1 0))) (<= (+ 1 1 1) v1))
+    fn increment_body(alloc: Global) -> Result<Term, AllocError> {
+        let above = below(alloc, num(0), free(0))?;
+        let next = equal_to(alloc, free(1), sum(alloc, free(0), num(1))?)?;
+        let shown = below(alloc, num(1), free(1))?;
+        unless(alloc, above, next, shown)
+    }
+
+    // (| (! (= v0 v1)) (! (<= v0 v1)) (= v0 3))
+    fn copy_body(alloc: Global) -> Result<Term, AllocError> {
+        let copied = equal_to(alloc, free(0), free(1))?;
+        let asserted = at_most(alloc, free(0), free(1))?;
+        let shown = equal_to(alloc, free(0), num(3))?;
+        unless(alloc, copied, asserted, shown)
+    }
+
+    // The only definition has this body, and the goal is its application.
+    fn shows(alloc: Global, obligation: &Obligation, body: &Term) -> bool {
+        let applied = Term::new(Node::Call(0, Vec::new(alloc)));
+        match obligation.signature().defs() {
+            [def] => def.logical && def.body.equals(body) && obligation.goal().equals(&applied),
+            _ => false,
+        }
+    }
+
+    #[test]
+    fn increment_keeps_above(rt: HostRuntime) -> Result<(), Fail> {
+        let found = goals(rt.alloc(), &increment(rt.alloc())?)?;
+        assert_eq!(rt; found.len(), 1);
+        let goal = found.first().ok_or("no goal")?;
+        let place = goal.place;
+        assert_eq!(rt; (place.line, place.col), (5, 3));
+        assert_eq!(rt; goal.obligation.signature().vars().len(), 2);
+        let body = increment_body(rt.alloc())?;
+        assert!(rt; shows(rt.alloc(), &goal.obligation, &body));
+        Ok(())
+    }
+
+    #[test]
+    fn target_before_right_side(rt: HostRuntime) -> Result<(), Fail> {
+        let found = goals(rt.alloc(), &copy(rt.alloc())?)?;
+        assert_eq!(rt; found.len(), 2);
+        let goal = found.last().ok_or("no goal")?;
+        let body = copy_body(rt.alloc())?;
+        assert!(rt; shows(rt.alloc(), &goal.obligation, &body));
+        Ok(())
+    }
 }

@@ -113,3 +113,79 @@ pub fn report(
     write_last(&mut out, name, verdicts)?;
     Ok(out)
 }
+
+#[cfg(test)]
+mod tests {
+    use super::*;
+    use crate::conditions::goals;
+    use crate::first_form::{Comparison, Name, Procedure, Row, Statement, StatementKind};
+    use std::process::Abort;
+    use std::test::Fail;
+
+    fn assert_at(alloc: Global, line: u32, col: u32) -> Statement {
+        let none: Row<Comparison> = Row::new(alloc);
+        Statement {
+            kind: StatementKind::Assert(Place { line, col }, none),
+        }
+    }
+
+    // Two assertions of no comparisons.
+    fn two_goals(alloc: Global) -> Result<Vec<Goal>, AllocError> {
+        let mut body = Row::new(alloc);
+        body.push(assert_at(alloc, 5, 3))?;
+        body.push(assert_at(alloc, 12, 40))?;
+        let name = Name::from_slice(alloc, b"P")?;
+        let groups = Row::new(alloc);
+        goals(alloc, &Procedure { name, groups, body })
+    }
+
+    fn check_lines(
+        rt: &impl Abort,
+        alloc: Global,
+        verdicts: [Verdict; 2],
+        expected: &[u8],
+    ) -> Result<(), Fail> {
+        let goals = two_goals(alloc)?;
+        assert_eq!(rt; goals.len(), 2);
+        let text = report(alloc, b"P", goals.as_slice(), &verdicts)?;
+        assert!(rt; text.as_slice() == expected);
+        Ok(())
+    }
+
+    #[test]
+    fn all_proved_is_correct(rt: HostRuntime) -> Result<(), Fail> {
+        check_lines(
+            &rt,
+            rt.alloc(),
+            [Verdict::Proved, Verdict::Proved],
+            b"P 5:3 assert proved\nP 12:40 assert proved\nP correct\n",
+        )
+    }
+
+    #[test]
+    fn one_open_is_not_proved(rt: HostRuntime) -> Result<(), Fail> {
+        check_lines(
+            &rt,
+            rt.alloc(),
+            [Verdict::Proved, Verdict::Open],
+            b"P 5:3 assert proved\nP 12:40 assert open\nP not proved\n",
+        )
+    }
+
+    #[test]
+    fn words_of_other_verdicts(rt: HostRuntime) -> Result<(), Fail> {
+        check_lines(
+            &rt,
+            rt.alloc(),
+            [Verdict::Turns, Verdict::Wide],
+            b"P 5:3 assert turns\nP 12:40 assert wide\nP not proved\n",
+        )
+    }
+
+    #[test]
+    fn without_assertions(rt: HostRuntime) -> Result<(), Fail> {
+        let text = report(rt.alloc(), b"E", &[], &[])?;
+        assert!(rt; text.as_slice() == b"E correct\n".as_slice());
+        Ok(())
+    }
+}
