@@ -40,5 +40,6 @@ pub record Broken (left left' held held' : Option (List ℕ)) : Type 0 where
   pub status : Status
   pub taken : Takes left left' text
   pub to_the_end : IsEnd left'
+  pub short : length text ≤ total
   pub front : WroteFront held held' written
   pub is_answer : IsAnswer text written status

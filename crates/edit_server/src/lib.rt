@@ -17,6 +17,3 @@ mod words;
 
 pub use run::run;
 pub use status::Status;
-pub mod report;
-pub mod soundness;
-pub mod verdict;
