@@ -3,6 +3,7 @@ pub mod Turns
 pub mod Reversed
 pub mod Moves
 pub mod Found
+pub mod Pairs
 pub mod Tracked
 pub mod OutsideSorts
 pub mod Outcomes

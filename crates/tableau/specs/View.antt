@@ -1,5 +1,5 @@
 -- What the search's data stand for: branches over these variables, what a step made of them, and proofs under way.
-use Rattle.std.specs.Prelude.{ℕ, Option, Some, None, Vec, List, map, reverse}
+use Rattle.std.specs.Prelude.{ℕ, Option, Some, None, Vec, List, [], map, reverse}
 use Rattle.std.specs.declared.alloc.Global.{Global}
 use Rattle.logic_core.specs.Tree.{Kind}
 use Rattle.proof_core.specs.Proof as proofs
@@ -53,3 +53,8 @@ place_of (Some a) = Some a.at
 abbrev pub found_at : {A : Type 0} → Option (branch.At A) → Option (ℕ × A)
 found_at None = None
 found_at (Some a) = Some (a.at, a.what)
+
+-- a close by facts of these numbers, where there is one
+abbrev pub close_of : Option (ℕ × ℕ) → branch.Attempt move.Move
+close_of None = branch.none
+close_of (Some p) = branch.gives (record { ending = move.closes p.0 p.1; made = [] })

@@ -8,7 +8,7 @@ ghost use Rattle.tableau.specs.View.{made_of};
 use crate::branch::Made;
 use crate::fact::{Fact, is_there, is_truth};
 use logic_core::term::Term;
-use std::alloc::AllocError;
+use std::alloc::{AllocError, Global};
 use std::mem;
 
 /// Takes the next number of the proof's facts. Facts are counted in 64 bits; past that there is
@@ -35,7 +35,7 @@ pub fn add(made: &mut Made, fact: Fact) -> Result<(), AllocError>
 }
 
 /// Adds normal terms, in order, as facts with the next numbers.
-pub fn add_each(made: &mut Made, mut terms: Vec<Term>) -> Result<(), AllocError>
+pub fn add_each(alloc: Global, made: &mut Made, mut terms: Vec<Term>) -> Result<(), AllocError>
     ensures { OnOk result ((vars : List Kind) → made_of vars made.new ≡ added_each (numbered made.old.branch.next terms.items) (with_steps [] (length terms.items) (made_of vars made.old))) }
 {
     let mut number = made.branch.next;
@@ -44,7 +44,7 @@ pub fn add_each(made: &mut Made, mut terms: Vec<Term>) -> Result<(), AllocError>
         .ok_or(AllocError)?;
     terms.reverse();
     while let Some(term) = terms.pop() {
-        add(made, Fact::new(term, number))?;
+        add(made, Fact::new(alloc, term, number)?)?;
         number += 1;
     }
     Ok(())

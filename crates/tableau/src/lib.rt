@@ -4,10 +4,13 @@
 pub mod assembly;
 pub mod branch;
 pub mod change;
+pub mod closing;
 pub mod fact;
 pub mod laws;
 pub mod oldest;
 pub mod oriented;
 pub mod outside;
 pub mod partial;
+pub mod pending;
 pub mod played;
+pub mod rewriting;

@@ -1,14 +1,17 @@
 // Oriented facts: the left side of a fact.
-ghost use Rattle.std.specs.Prelude.{◌≡◌, ◌&&◌, ◌||◌, not, nat_eq, Some};
+ghost use Rattle.std.specs.Prelude.{◌≡◌, ◌&&◌, ◌||◌, not, nat_eq, Some, IfOk};
 ghost use Rattle.logic_core.specs.Wide.{when};
 ghost use Rattle.std.specs.Option.{option_copied};
 ghost use Rattle.logic_core.specs.Subterm.{has_quantifier, has_any, has_part, is_quantifier};
 ghost use Rattle.logic_core.specs.Junction.{is_zero};
 ghost use Rattle.logic_core.specs.View.{trees_of, parts_of};
 ghost use Rattle.proof_core.specs.Says.{sum_of};
-ghost use Rattle.tableau.specs.Oriented.{is_variable, is_application, is_one, is_minus_one, parts_with, greater_number, solvable_among, simple_lead, linear_left, defines, defined};
+ghost use Rattle.tableau.specs.Oriented.{is_variable, is_application, is_one, is_minus_one, parts_with, greater_number, solvable_among, simple_lead, linear_left, defines, defined, greater_side, equation_left, left_side};
 
+use logic_core::def::Signature;
+use logic_core::sort::{Sort, SortKind};
 use logic_core::term::{Node, Term};
+use std::alloc::{AllocError, Global};
 
 /// Whether the term is a free variable.
 fn is_variable(term: &Term) -> bool
@@ -209,5 +212,67 @@ fn defined<'a>(a: &'a Term, b: &'a Term) -> Option<&'a Term>
         Some(a)
     } else {
         None
+    }
+}
+
+/// The greater side of an equation of maps; of an equation of Bool, where the greater side is a
+/// Read or a Call and the other side has no quantifier.
+fn greater_side<'a>(sort: Option<Sort>, a: &'a Term, b: &'a Term) -> Option<&'a Term>
+    ensures { option_copied result ≡ greater_side sort a.now b.now }
+{
+    match sort {
+        Some(sort) => match sort.kind {
+            SortKind::Int => None,
+            SortKind::Bool => {
+                if is_application(b) && !has_quantifier(a) {
+                    Some(b)
+                } else {
+                    None
+                }
+            }
+            SortKind::Map(_) => Some(b),
+        },
+        None => None,
+    }
+}
+
+/// The left side of an equation.
+fn equation_left<'a>(
+    alloc: Global,
+    signature: &Signature,
+    a: &'a Term,
+    b: &'a Term,
+) -> Result<Option<&'a Term>, AllocError>
+    ensures { IfOk result (λ l. option_copied l ≡ equation_left signature.now.vars signature.now.defs a.now b.now) }
+{
+    if is_zero(b) {
+        return Ok(linear_left(a));
+    }
+    match defined(a, b) {
+        Some(variable) => Ok(Some(variable)),
+        None => Ok(greater_side(a.sort_of(alloc, signature, &[])?, a, b)),
+    }
+}
+
+/// The left side of a fact, by what the fact says that it is equal to. None exactly where the fact
+/// isn't oriented.
+pub fn left_side<'a>(
+    alloc: Global,
+    signature: &Signature,
+    fact: &'a Term,
+) -> Result<Option<&'a Term>, AllocError>
+    ensures { IfOk result (λ l. option_copied l ≡ left_side signature.now.vars signature.now.defs fact.now) }
+{
+    match &fact.node {
+        Node::Eq(a, b) => equation_left(alloc, signature, a, b),
+        Node::Free(_) => Ok(Some(fact)),
+        Node::Not(t) => {
+            if is_variable(t) {
+                Ok(Some(t))
+            } else {
+                Ok(None)
+            }
+        }
+        _ => Ok(None),
     }
 }

@@ -1,0 +1,70 @@
+// The rules that rewrite facts.
+ghost use Rattle.std.specs.Prelude.{◌≡◌, ℕ, [], IfOk, option_map};
+ghost use Rattle.std.specs.List.{list_any};
+ghost use Rattle.std.specs.Option.{option_copied};
+ghost use Rattle.tableau.specs.Branch.{first_from};
+ghost use Rattle.tableau.specs.Rewriting.{rewrites, left_in_another};
+ghost use Rattle.tableau.specs.View.{found_at};
+
+use crate::fact::Fact;
+use crate::oriented::left_side;
+use logic_core::def::Signature;
+use logic_core::term::Term;
+use std::alloc::{AllocError, Global};
+
+/// Whether the second fact is another one, in which the term occurs.
+fn rewrites(fact: &Fact, left: &Term, other: &Fact) -> bool
+    ensures { result ≡ rewrites fact.now left.now other.now }
+{
+    fact.number() != other.number() && left.occurs_in(other.term())
+}
+
+/// Whether the term occurs in another fact.
+fn occurs_in_another(fact: &Fact, left: &Term, facts: &[Fact]) -> bool
+    ensures { result ≡ list_any (rewrites fact.now left.now) facts.now }
+{
+    for other in facts {
+        if rewrites(fact, left, other) {
+            return true;
+        }
+    }
+    false
+}
+
+/// The left side of an oriented fact that occurs in another fact.
+fn left_in_another<'a>(
+    alloc: Global,
+    signature: &Signature,
+    facts: &[Fact],
+    fact: &'a Fact,
+) -> Result<Option<&'a Term>, AllocError>
+    ensures { IfOk result (λ l. option_copied l ≡ left_in_another signature.now.defs (record { facts = facts.now; vars = signature.now.vars; next = 0 }) fact.now) }
+{
+    match left_side(alloc, signature, fact.term())? {
+        Some(left) => {
+            if occurs_in_another(fact, left, facts) {
+                Ok(Some(left))
+            } else {
+                Ok(None)
+            }
+        }
+        None => Ok(None),
+    }
+}
+
+/// The place of the oldest oriented fact whose left side occurs in another fact, and its left
+/// side.
+pub fn oldest_rewriting<'a>(
+    alloc: Global,
+    signature: &Signature,
+    facts: &'a [Fact],
+) -> Result<Option<(usize, &'a Term)>, AllocError>
+    ensures { IfOk result (λ o. option_map (λ p. (p.0, p.1.now)) o ≡ found_at (first_from (left_in_another signature.now.defs (record { facts = facts.now; vars = signature.now.vars; next = 0 })) 0 facts.now)) }
+{
+    for (i, fact) in facts.iter().enumerate() {
+        if let Some(left) = left_in_another(alloc, signature, facts, fact)? {
+            return Ok(Some((i, left)));
+        }
+    }
+    Ok(None)
+}
