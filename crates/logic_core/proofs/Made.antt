@@ -2,23 +2,10 @@
 use Rattle.std.proofs.Common.{◌≡◌, ◌∙◌, refl, sym, ap, ℕ, ◌+◌, ◌<◌, ◌≤◌, ℤ, Vec, Option, Some, None, option_map, List, [], ◌∷◌, ◌++◌, length, get_or, drop}
 use Rattle.std.proofs.lemmas.List.{at_drop_more, at_drop_all}
 use Rattle.std.specs.declared.alloc.Global.{Global}
-use Rattle.logic_core.specs.Tree.{Tree, Trees, no_trees, tree, Parts, no_parts, part, Patterns, no_patterns, pattern}
+use Rattle.logic_core.specs.Tree.{Tree, no_trees, tree, no_parts, part, no_patterns, pattern}
 use Rattle.logic_core.specs.View.{trees_of, parts_of, patterns_of, each_items}
 use Rattle.logic_core.specs.Wide.{◌>>=◌}
-
--- the items of the list in front of a value
-abbrev pub before : {B R : Type 0} → (B → R → R) → List B → R → R
-before cons [] r = r
-before cons (b ∷ bs) r = cons b (before cons bs r)
-
-abbrev pub tree_before : Tree → Trees → Trees
-tree_before t us = tree t us
-
-abbrev pub part_before : ℤ × Tree → Parts → Parts
-part_before p qs = part p.0 p.1 qs
-
-abbrev pub pattern_before : Vec Tree Global → Patterns → Patterns
-pattern_before p qs = pattern (trees_of p.items) qs
+use Rattle.logic_core.specs.Before.{before, tree_before, part_before, pattern_before}
 
 -- in front of nothing
 pub trees_before_none : (ts : List Tree) → before tree_before ts no_trees ≡ trees_of ts
@@ -47,3 +34,23 @@ made_more cons F xs made made' i x y whole within is pushed so_far gives =
 -- its end
 pub made_all : {A B R : Type 0} (cons : B → R → R) (F : List A → R) (xs : List A) (made : List B) (i : ℕ) (whole : R) → length xs ≤ i → before cons made (F (drop i xs)) ≡ whole → before cons made (F []) ≡ whole
 made_all cons F xs made i whole past so_far = ap (before cons made) (sym (at_drop_all F xs i past)) ∙ so_far
+
+-- The same where what the rest gives may be nothing.
+option_push : {B R : Type 0} (cons : B → R → R) (bs : List B) (b : B) (o : Option R) → option_map (before cons (bs ++ b ∷ [])) o ≡ option_map (before cons bs) (option_map (cons b) o)
+option_push cons bs b None = refl
+option_push cons bs b (Some r) = ap Some (before_push cons bs b r)
+
+-- a step of the loop
+pub option_more : {A B R : Type 0} (cons : B → R → R) (F : List A → Option R) (xs : List A) (made made' : List B) (i : ℕ) (x : A) (y : B) (whole : Option R) → i < length xs → x ≡ get_or xs i x → made' ≡ made ++ y ∷ [] → option_map (before cons made) (F (drop i xs)) ≡ whole → F (x ∷ drop (i + 1) xs) ≡ option_map (cons y) (F (drop (i + 1) xs)) → option_map (before cons made') (F (drop (i + 1) xs)) ≡ whole
+option_more cons F xs made made' i x y whole within is pushed so_far gives =
+    let here : F (drop i xs) ≡ F (x ∷ drop (i + 1) xs) = at_drop_more F xs i x within ∙ ap (λ z. F (z ∷ drop (i + 1) xs)) (sym is) in
+    ap (λ zs. option_map (before cons zs) (F (drop (i + 1) xs))) pushed ∙ option_push cons made y (F (drop (i + 1) xs)) ∙ ap (option_map (before cons made)) (sym (here ∙ gives)) ∙ so_far
+
+-- its end
+pub option_all : {A B R : Type 0} (cons : B → R → R) (F : List A → Option R) (xs : List A) (made : List B) (i : ℕ) (whole : Option R) → length xs ≤ i → option_map (before cons made) (F (drop i xs)) ≡ whole → option_map (before cons made) (F []) ≡ whole
+option_all cons F xs made i whole past so_far = ap (option_map (before cons made)) (sym (at_drop_all F xs i past)) ∙ so_far
+
+-- a last computation that always gives something
+pub then_some : {A B : Type 0} (f : A → B) (o : Option A) → (o >>= λ a. Some (f a)) ≡ option_map f o
+then_some f None = refl
+then_some f (Some a) = refl

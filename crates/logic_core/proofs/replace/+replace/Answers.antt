@@ -5,7 +5,8 @@ use Rattle.std.proofs.lemmas.Grind.{common_steps}
 use Rattle.logic_core.specs.View.{trees_of, parts_of, patterns_of, each_items}
 use Rattle.logic_core.specs.Same.{same_term}
 use Rattle.logic_core.specs.Replace.{replace_each, replace_parts, replace_patterns}
-use Rattle.logic_core.proofs.Made.{tree_before, part_before, pattern_before, made_more, made_all, trees_before_none, parts_before_none, patterns_before_none}
+use Rattle.logic_core.specs.Before.{tree_before, part_before, pattern_before}
+use Rattle.logic_core.proofs.Made.{made_more, made_all, trees_before_none, parts_before_none, patterns_before_none}
 use Rattle.logic_core.proofs.Picked.{picked_replace}
 use Rattle.logic_core.proofs.replace.+replace.Goals as goal
 

@@ -3,7 +3,7 @@ use Rattle.logic_core.specs.Tree.{nodes, trees_nodes, parts_nodes, patterns_node
 use Rattle.logic_core.specs.View.{trees_of, parts_of, patterns_of, each_items}
 use Rattle.logic_core.specs.Same.{same_term}
 use Rattle.logic_core.specs.Replace.{replace_each, replace_parts, replace_patterns}
-use Rattle.logic_core.proofs.Made.{before, tree_before, part_before, pattern_before}
+use Rattle.logic_core.specs.Before.{before, tree_before, part_before, pattern_before}
 use Rattle.logic_core.proofs.replace.+replace.Given as goal
 
 abbrev pub decreases-replace : goal.decreases-replace
