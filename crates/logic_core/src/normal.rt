@@ -8,7 +8,8 @@ ghost use Rattle.logic_core.specs.Normal.{choice, quantified, has_negative_lead,
 use crate::copy::copy_sorts;
 use crate::def::Signature;
 use crate::fault::NormalFault;
-use crate::junction::{conjunction, disjunction, negated};
+use crate::junction::{conjunction, disjunction};
+use crate::negation::negated;
 use crate::sort::{Sort, SortKind};
 use crate::sorts::within_binder;
 use crate::sum::{Linear, affine, difference, in_order, product};
@@ -94,7 +95,7 @@ fn equivalence_with(alloc: Global, a: Term, b: Term) -> Result<Term, NormalFault
 {
     match b.node {
         Node::Truth(true) => Ok(a),
-        Node::Truth(false) => negated(alloc, a),
+        Node::Truth(false) => negated(alloc, &a),
         node => {
             let (first, second) = in_order(a, Term::new(node));
             Ok(equal(alloc, first, second)?)
@@ -108,7 +109,7 @@ fn equivalence(alloc: Global, a: Term, b: Term) -> Result<Term, NormalFault>
 {
     match a.node {
         Node::Truth(true) => Ok(b),
-        Node::Truth(false) => negated(alloc, b),
+        Node::Truth(false) => negated(alloc, &b),
         node => equivalence_with(alloc, Term::new(node), b),
     }
 }
@@ -239,7 +240,7 @@ impl Term {
             }
             Node::Not(a) => {
                 let a = a.normal_under(alloc, sig, bound)?;
-                negated(alloc, a)
+                negated(alloc, &a)
             }
             Node::And(terms) => {
                 let terms = normal_each(alloc, sig, bound, terms)?;
