@@ -11,5 +11,5 @@ pub returns : goal.returns
 returns c =
     let none : into_iter_items c.loop-term.term-iterator ≡ [] = nil_from_length _ (sym c.loop-term.invariant.counted ∙ c.in-None.ensures.steps.0) in
     sym (trees_before_none c.loop-term.parts.items)
-      ∙ ap (λ ts. before tree_before c.loop-term.parts.items (disjuncts (trees_of ts))) (sym none)
-      ∙ c.loop-term.invariant.made
+    ∙ ap (λ ts. before tree_before c.loop-term.parts.items (disjuncts (trees_of ts))) (sym none)
+    ∙ c.loop-term.invariant.made
