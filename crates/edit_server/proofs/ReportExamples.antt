@@ -1,7 +1,7 @@
 -- A report that was computed.
 use Rattle.std.specs.Prelude.{◌≡◌, refl, [], ◌∷◌, codes}
 use Rattle.std.specs.Fmt.{digits}
-use Rattle.edit_server.specs.Verdict.{proved, «open»}
+use Rattle.tableau.specs.Search.{proved, «open»}
 use Rattle.edit_server.specs.Report.{report_lines, text_of}
 use Rattle.edit_server.proofs.Programs.{at}
 

@@ -5,7 +5,7 @@ use Rattle.edit_server.specs.FirstForm.{Procedure}
 use Rattle.edit_server.specs.Spelling.{Spells}
 use Rattle.edit_server.specs.Execution.{IsSafe}
 use Rattle.edit_server.specs.Conditions.{Goal, goals_of}
-use Rattle.edit_server.specs.Verdict.{Verdict}
+use Rattle.tableau.specs.Search.{Verdict}
 use Rattle.edit_server.specs.Report.{is_correct, last_line, report_lines, text_of}
 use Rattle.edit_server.specs.declared.status.Status.{Status}
 use Rattle.edit_server.specs.declared.status.Status.TheVariants.{Done, NotAll, Refused}

@@ -2,7 +2,7 @@
 use Rattle.std.specs.Prelude.{ℕ, Bool, true, false, cond, List, [], ◌∷◌, ◌++◌, codes, decimal, flat_map}
 use Rattle.std.specs.List.{list_all}
 use Rattle.bv_base.specs.declared.place.Place.{Place}
-use Rattle.edit_server.specs.Verdict.{Verdict, proved, «open», turns, wide}
+use Rattle.tableau.specs.Search.{Verdict, proved, «open», turns, wide}
 
 abbrev pub verdict_text : Verdict → List ℕ
 verdict_text proved = codes "proved"

@@ -65,7 +65,7 @@ fn report_on(alloc: Global, procedure: &Procedure) -> Result<Answer, AllocError>
 
 /// The answer to a text: the report on the procedure that it spells, or the line of a text that
 /// spells none.
-pub fn answer(alloc: Global, text: &[u8]) -> Result<Answer, AllocError>
+pub fn answer_to(alloc: Global, text: &[u8]) -> Result<Answer, AllocError>
     requires { length text.now < 2 ^ 32 - 1 }
     ensures { IfOk result (λ a. IsAnswer text.now a.written.items a.status) }
 {

@@ -3,17 +3,17 @@
 #![tactic(auto)]
 
 mod check;
+mod command;
 pub mod conditions;
 pub mod first_form;
 mod formula;
 mod naming;
 pub mod reading;
 pub mod report;
-mod run;
 pub mod soundness;
 pub mod status;
 pub mod verdict;
 mod words;
 
-pub use run::run;
+pub use command::run;
 pub use status::Status;

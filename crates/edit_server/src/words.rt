@@ -7,7 +7,7 @@ pub fn is_check(words: &[String]) -> bool
     ensures { IsTrue result ↔ IsCheck (map string_bytes words.now) }
 {
     match words {
-        [word] => word.as_bytes() == b"check",
+        [word] => word.as_str() == "check",
         _ => false,
     }
 }

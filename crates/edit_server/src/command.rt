@@ -4,7 +4,7 @@ ghost use Rattle.bv_base.specs.Known.{Adds, HasRisen};
 ghost use Rattle.edit_server.specs.Exit.{IsAnswering, IsSilent};
 ghost use Rattle.edit_server.specs.Run.{Answered, Broken, IsCheck, IsFull, WroteFront, total, usage_line};
 
-use crate::check::answer;
+use crate::check::answer_to;
 use crate::status::Status;
 use crate::words::is_check;
 use bv_base::{LineFault, Sink, Source, read_all, write_all};
@@ -42,7 +42,7 @@ fn check<S: Source, K: Sink>(alloc: Global, source: &mut S, sink: &mut K) -> Sta
         Err(LineFault::Full) => return Status::SessionFull,
         Err(LineFault::Memory) => return Status::Memory,
     };
-    match answer(alloc, text.as_slice()) {
+    match answer_to(alloc, text.as_slice()) {
         Err(_) => Status::Memory,
         Ok(answer) => match write_all(sink, answer.written.as_slice()) {
             Ok(()) => answer.status,
