@@ -1,12 +1,11 @@
 -- Obligations that were computed.
-use Rattle.std.specs.Prelude.{◌≡◌, refl, ℕ, pos, negsuc, true, List, [], ◌∷◌}
+use Rattle.std.specs.Prelude.{◌≡◌, refl, pos, negsuc, true, List, [], ◌∷◌}
 use Rattle.bv_base.specs.declared.place.Place.{Place}
 use Rattle.logic_core.specs.Tree.{Kind, int, boolean, Tree, num, free, linear, call, negation, all, some, equal, at_most as at_most_term, no_trees, tree, no_parts, part}
-use Rattle.logic_core.specs.Def.{Def, Obligation}
-use Rattle.edit_server.specs.FirstForm.{number, local, plus, minus, Sum, equals, differs, less, at_most, greater, at_least, Comparison, Relation, Statement, assign, assume, assert, Procedure}
+use Rattle.edit_server.specs.FirstForm.{number, local, minus, equals, differs, less, at_least, assign, assert, Procedure}
 use Rattle.edit_server.specs.Conditions.{Goal, goals_of}
 use Rattle.edit_server.specs.OnePass.{goals_in_one_pass}
-use Rattle.edit_server.proofs.Programs.{at, alone, two, compare, procedure_of, incremented}
+use Rattle.edit_server.proofs.Programs.{at, alone, compare, procedure_of, incremented}
 
 -- a goal over so many variables
 abbrev goal : Place → List Kind → Tree → Goal

@@ -1,8 +1,8 @@
 -- An execution that fails, and a procedure that is safe.
-use Rattle.std.specs.Prelude.{◌≡◌, refl, ℕ, ℤ, pos, true, false, IsTrue, List, [], ◌∷◌}
+use Rattle.std.specs.Prelude.{◌≡◌, refl, pos, [], ◌∷◌}
 use Rattle.bv_base.specs.declared.place.Place.{Place}
-use Rattle.edit_server.specs.FirstForm.{local, number, equals, Statement, assume, assert, Procedure}
-use Rattle.edit_server.specs.Execution.{State, Outcome, normal, failed, Executes, ends, assigned, assumed, asserted, fails, all_hold, Fails, IsSafe}
+use Rattle.edit_server.specs.FirstForm.{local, number, equals, assume, assert, Procedure}
+use Rattle.edit_server.specs.Execution.{State, Outcome, failed, Executes, ends, assigned, assumed, asserted, fails, Fails, IsSafe}
 use Rattle.edit_server.proofs.Programs.{at, compare, procedure_of, incremented}
 
 -- with x = 1 at the entry the assertion x > 2 doesn't hold

@@ -1,5 +1,5 @@
 -- A failing execution gives each incarnation a value, in which the goal of the failed assertion doesn't hold.
-use Rattle.std.specs.Prelude.{◌≡◌, refl, ℕ, zero, suc, ◌+◌, ◌-◌, ◌<◌, ◌≤◌, nat_eq, ℤ, pos, Bool, true, false, ◌&&◌, ◌||◌, cond, IsTrue, Option, Some, None, unwrap_or, List, [], ◌∷◌, ◌++◌, map, length, slice_get, slice_index_or, slice_set, Any, All}
+use Rattle.std.specs.Prelude.{◌≡◌, refl, ℕ, zero, suc, ◌+◌, ◌-◌, ◌<◌, nat_eq, ℤ, pos, Bool, true, false, ◌||◌, cond, IsTrue, Option, Some, None, unwrap_or, List, [], ◌∷◌, ◌++◌, map, length, slice_get, slice_index_or, slice_set, Any}
 use Rattle.std.specs.List.{AllByRecursion, list_any, position_from, range_with_len}
 use Rattle.std.proofs.Common.{arith, sym, ◌∙◌, ap, subst, inl, inr}
 use Rattle.std.proofs.lemmas.List.{get_or_append_left, length_push, length-set}
@@ -7,13 +7,13 @@ use Rattle.std.proofs.lemmas.Bool.{eqb-true}
 use Rattle.bv_base.specs.declared.place.Place.{Place}
 use Rattle.logic_core.specs.Tree.{int, Tree, free, equal}
 use Rattle.logic_core.specs.Value.{Value, whole, flag, holds, are_of, at}
-use Rattle.logic_core.specs.Meaning.{Said, With, Holds}
-use Rattle.logic_core.specs.Valid.{Calls, calls_of, Valid}
-use Rattle.edit_server.specs.FirstForm.{Sum, Comparison, Statement, assign, assume, assert, Procedure}
-use Rattle.edit_server.specs.Execution.{State, locals_of, sum_value, all_hold, Outcome, normal, failed, Executes, ends, assigned, assumed, asserted, fails, Fails, IsSafe}
+use Rattle.logic_core.specs.Meaning.{Said, With}
+use Rattle.logic_core.specs.Valid.{Calls, Valid}
+use Rattle.edit_server.specs.FirstForm.{Sum, Comparison, Statement}
+use Rattle.edit_server.specs.Execution.{State, locals_of, sum_value, all_hold, Outcome, failed, Executes, ends, assigned, assumed, asserted, fails}
 use Rattle.edit_server.specs.Formula.{sum_term, conjunction}
-use Rattle.edit_server.specs.Variables.{variables, renamed, first_occurrences, place_in}
-use Rattle.edit_server.specs.Conditions.{incarnation, incarnation_term, body_of, canonical_body, obligation_of, Goal, goals_from, goals_of}
+use Rattle.edit_server.specs.Variables.{variables, first_occurrences, place_in}
+use Rattle.edit_server.specs.Conditions.{incarnation, incarnation_term, body_of, canonical_body, obligation_of, Goal, goals_from}
 use Rattle.edit_server.specs.Sound.{Refutes, FailuresRefuteGoals, ValidGoalsAreSafe}
 use Rattle.edit_server.proofs.FirstOccurrences.{IsIn, all_occur, eq_other}
 use Rattle.edit_server.proofs.FormulaMeanings.{Is, AllTrue, conjunction_is, equation_is, body_is_false}

@@ -1,7 +1,7 @@
 -- Numbers in the order of their first occurrences, and where they stand there.
-use Rattle.std.specs.Prelude.{◌≡◌, refl, ℕ, zero, suc, ◌+◌, ◌<◌, nat_eq, Bool, true, false, ◌||◌, Option, Some, None, List, [], ◌∷◌, ◌++◌, fold, length, map, cond, if◌then◌else◌}
+use Rattle.std.specs.Prelude.{◌≡◌, refl, ℕ, suc, ◌+◌, ◌<◌, nat_eq, Bool, true, false, ◌||◌, Option, Some, None, List, [], ◌∷◌, ◌++◌, length, cond, if◌then◌else◌}
 use Rattle.std.specs.List.{list_any, position_from, AllByRecursion}
-use Rattle.std.proofs.Common.{arith, sym, ◌∙◌, ap}
+use Rattle.std.proofs.Common.{arith, ◌∙◌, ap}
 use Rattle.std.proofs.lemmas.Bool.{eqb-true, eqb-false}
 use Rattle.edit_server.specs.Variables.{joined, first_occurrences}
 

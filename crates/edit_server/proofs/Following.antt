@@ -1,17 +1,17 @@
 -- The variables of the one pass follow the order of the incarnations' first occurrences.
-use Rattle.std.specs.Prelude.{◌≡◌, refl, ℕ, zero, suc, ◌+◌, ◌<◌, nat_eq, Bool, true, false, Option, Some, None, List, [], ◌∷◌, ◌++◌, fold, length, map, slice_get, slice_set, option_map, unwrap_or}
+use Rattle.std.specs.Prelude.{◌≡◌, refl, ℕ, zero, suc, ◌<◌, nat_eq, true, false, Option, Some, None, List, [], ◌∷◌, ◌++◌, fold, length, map, slice_get, slice_set, option_map}
 use Rattle.std.specs.List.{list_any, AllByRecursion}
 use Rattle.std.proofs.Common.{arith, sym, ◌∙◌, ap, subst}
 use Rattle.std.proofs.lemmas.List.Sums.{fold-append}
 use Rattle.std.proofs.lemmas.Option.{slice_get-map}
-use Rattle.logic_core.specs.Tree.{Kind, int, Tree, free, negation, equal, Trees}
+use Rattle.logic_core.specs.Tree.{Kind, int}
 use Rattle.logic_core.specs.View.{trees_of, parts_of}
 use Rattle.edit_server.specs.FirstForm.{Operand, number, local, Sign, Sum, Relation, equals, differs, less, at_most, greater, at_least, Comparison}
-use Rattle.edit_server.specs.Formula.{sum_of, below, relation_term, conjunction_of, operand_term, signed_part, sum_term, comparison_term, conjunction}
+use Rattle.edit_server.specs.Formula.{sum_of, below, relation_term, operand_term, signed_part, sum_term, comparison_term, conjunction}
 use Rattle.edit_server.specs.Variables.{variables, variables_of_each, variables_of_parts, joined, first_occurrences, place_in, renamed}
 use Rattle.edit_server.specs.Conditions.{incarnation, incarnation_term}
 use Rattle.edit_server.specs.OnePass.{Names, one_more, renewed, mention_in, mention, mention_operand, mention_part, mention_sum, mention_sides, mention_comparison, mention_all, variable_term, named}
-use Rattle.edit_server.proofs.FirstOccurrences.{IsIn, joined_cases, spot, spot_new, spot_other, no_spot, has_spot}
+use Rattle.edit_server.proofs.FirstOccurrences.{joined_cases, spot, spot_new, spot_other, no_spot, has_spot}
 
 -- the incarnation i is that of x alone
 abbrev pub OnlyAt : List ℕ → ℕ → ℕ → Type 0

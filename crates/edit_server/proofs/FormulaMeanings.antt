@@ -1,18 +1,16 @@
 -- Terms of expressions mean what the expressions say, where the terms of the locals have their values.
-use Rattle.std.specs.Prelude.{◌≡◌, refl, ℕ, ℤ, pos, negsuc, ◌+ℤ◌, ◌*ℤ◌, neg_ℤ, int_lt, int_le, Bool, true, false, not, ◌&&◌, ◌||◌, List, [], ◌∷◌, ◌++◌, map, slice_index_or}
-use Rattle.std.specs.List.{list_all}
-use Rattle.std.specs.Ordering.{int_eq}
-use Rattle.std.proofs.Common.{arith, sym, ◌∙◌, ap}
+use Rattle.std.specs.Prelude.{◌≡◌, refl, ℕ, ℤ, pos, ◌+ℤ◌, ◌*ℤ◌, int_lt, int_le, Bool, true, false, not, ◌&&◌, ◌||◌, List, [], ◌∷◌, ◌++◌, map, slice_index_or}
+use Rattle.std.proofs.Common.{arith, sym, ◌∙◌}
 use Rattle.std.proofs.lemmas.Int.{ints}
-use Rattle.std.proofs.Math.IntN.{+ℤ_idl, +ℤ_idr}
-use Rattle.logic_core.specs.Tree.{Tree, num, linear, negation, all, some, equal, at_most as at_most_term, Trees, Parts}
+use Rattle.std.proofs.Math.IntN.{+ℤ_idr}
+use Rattle.logic_core.specs.Tree.{Tree, negation, equal}
 use Rattle.logic_core.specs.View.{trees_of, parts_of}
 use Rattle.logic_core.specs.Value.{Value, whole, flag, int_of, holds, same}
 use Rattle.std.proofs.lemmas.Cmp.{int_eq_equiv}
-use Rattle.logic_core.specs.Meaning.{Said, With, WithEvery, WithAny, WithSum, Holds}
+use Rattle.logic_core.specs.Meaning.{Said, With, WithEvery, WithAny, WithSum}
 use Rattle.edit_server.specs.FirstForm.{Operand, number, local, Sign, plus, minus, Sum, Relation, equals, differs, less, at_most, greater, at_least, Comparison}
 use Rattle.edit_server.specs.Execution.{State, operand_value, signed, rest_value, sum_value, relates, comparison_holds, all_hold}
-use Rattle.edit_server.specs.Formula.{coefficient, sum_of, below, relation_term, conjunction_of, operand_term, signed_part, sum_term, comparison_term, conjunction}
+use Rattle.edit_server.specs.Formula.{coefficient, sum_of, below, relation_term, operand_term, signed_part, sum_term, comparison_term, conjunction}
 use Rattle.edit_server.specs.Conditions.{body_of}
 
 -- integers

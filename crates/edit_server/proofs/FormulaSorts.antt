@@ -1,12 +1,12 @@
 -- Terms of expressions are integers and formulas, where the terms of the locals are integers.
-use Rattle.std.specs.Prelude.{◌≡◌, refl, ℕ, ℤ, pos, ◌<◌, ◌≤◌, Bool, true, ◌&&◌, Some, List, [], ◌∷◌, ◌++◌, map}
+use Rattle.std.specs.Prelude.{◌≡◌, refl, ℕ, ℤ, ◌≤◌, true, ◌&&◌, Some, List, [], ◌∷◌, ◌++◌, map}
 use Rattle.std.specs.List.{AllByRecursion}
 use Rattle.std.proofs.Common.{arith}
 use Rattle.logic_core.specs.Tree.{Kind, int, boolean, Tree, negation, equal, at_most as at_most_term}
 use Rattle.logic_core.specs.View.{trees_of, parts_of}
-use Rattle.logic_core.specs.Sorts.{sort_of, is, are_ints, are_formulas}
+use Rattle.logic_core.specs.Sorts.{is, are_ints, are_formulas}
 use Rattle.logic_core.specs.Wide.{◌>>=◌, when}
-use Rattle.edit_server.specs.FirstForm.{Operand, number, local, Sign, Sum, Relation, equals, differs, less, at_most, greater, at_least, Comparison}
+use Rattle.edit_server.specs.FirstForm.{Operand, Sign, Sum, Relation, equals, differs, less, at_most, greater, at_least, Comparison}
 use Rattle.edit_server.specs.Formula.{sum_of, below, relation_term, conjunction_of, operand_term, signed_part, sum_term, comparison_term, conjunction}
 use Rattle.edit_server.specs.Conditions.{body_of}
 use Rattle.edit_server.specs.WellSorted.{HasIntegers, IsIntegerOver, IsFormulaOver}

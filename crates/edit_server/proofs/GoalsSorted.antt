@@ -1,9 +1,9 @@
 -- Each obligation is well sorted.
-use Rattle.std.specs.Prelude.{◌≡◌, refl, ℕ, zero, suc, ◌<◌, List, [], ◌∷◌, ◌++◌, fold, length, slice_index_or, All}
+use Rattle.std.specs.Prelude.{refl, zero, suc, List, [], ◌∷◌, ◌++◌, fold, All}
 use Rattle.std.specs.List.{AllByRecursion}
 use Rattle.std.proofs.Common.{arith, subst}
 use Rattle.obligation_text.specs.WellSorted.{IsWellSorted}
-use Rattle.edit_server.specs.FirstForm.{Statement, assign, assume, assert, Procedure, Comparison}
+use Rattle.edit_server.specs.FirstForm.{Statement, assign, assume, assert, Comparison}
 use Rattle.edit_server.specs.Formula.{conjunction}
 use Rattle.edit_server.specs.Conditions.{body_of, Goal, goals_of}
 use Rattle.edit_server.specs.OnePass.{mention_all, named, Made, nothing_made, obligation_in, perform}

@@ -1,5 +1,5 @@
 -- What is made in one pass is well sorted: each local of a formula occurs, and so has a variable, before the formula is made.
-use Rattle.std.specs.Prelude.{◌≡◌, refl, ℕ, zero, suc, ◌+◌, ◌<◌, ◌≤◌, Option, Some, None, List, [], ◌∷◌, ◌++◌, fold, map, length, slice_get, slice_set, ⊤, true, ◌&&◌}
+use Rattle.std.specs.Prelude.{◌≡◌, refl, ℕ, zero, suc, ◌<◌, ◌≤◌, Option, Some, None, List, [], ◌∷◌, ◌++◌, fold, map, length, slice_get, slice_set, ⊤, true, ◌&&◌}
 use Rattle.std.specs.List.{AllByRecursion}
 use Rattle.std.proofs.Common.{arith, subst, sym, ◌∙◌}
 use Rattle.std.proofs.lemmas.List.{length_push}
@@ -9,9 +9,9 @@ use Rattle.logic_core.specs.Def.{Def}
 use Rattle.edit_server.specs.Conditions.{body_of}
 use Rattle.edit_server.specs.FirstForm.{Operand, number, local, Sign, Sum, Relation, equals, differs, less, at_most, greater, at_least, Comparison, Statement, assign, assume, assert, Procedure}
 use Rattle.edit_server.specs.Formula.{sum_term, conjunction}
-use Rattle.edit_server.specs.OnePass.{Names, with_locals, first_names, one_more, renewed, mention_in, mention, mention_operand, mention_part, mention_sum, mention_sides, mention_comparison, mention_all, variable_term, named, Made, nothing_made, perform_assign, perform}
+use Rattle.edit_server.specs.OnePass.{Names, with_locals, one_more, renewed, mention_in, mention_operand, mention_part, mention_sum, mention_sides, mention_comparison, mention_all, variable_term, named, Made, nothing_made, perform_assign, perform}
 use Rattle.edit_server.specs.WellSorted.{HasIntegers, IsIntegerOver, IsFormulaOver, AreSorted, IsSorted}
-use Rattle.edit_server.proofs.FormulaSorts.{fewer, formulas_over_more, equal_is_formula, OperandSorted, SumSorted, ComparisonSorted, sum_is_integer, conjunction_is_formula, body_is_formula}
+use Rattle.edit_server.proofs.FormulaSorts.{formulas_over_more, equal_is_formula, OperandSorted, SumSorted, ComparisonSorted, sum_is_integer, conjunction_is_formula, body_is_formula}
 
 -- the local has a variable, or isn't one of the locals
 abbrev Met : Names → ℕ → Type 0

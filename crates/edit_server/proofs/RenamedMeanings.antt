@@ -1,5 +1,5 @@
 -- A renamed term means what the term means, where the new variables have the values of the old ones.
-use Rattle.std.specs.Prelude.{◌≡◌, refl, ℕ, ℤ, pos, ◌+ℤ◌, ◌*ℤ◌, int_le, Bool, not, ◌&&◌, ◌||◌, IsTrue, List, [], ◌∷◌, ◌++◌, reverse}
+use Rattle.std.specs.Prelude.{◌≡◌, refl, ℕ, ◌+ℤ◌, ◌*ℤ◌, int_le, not, ◌&&◌, ◌||◌, IsTrue, List, ◌∷◌, ◌++◌, reverse}
 use Rattle.std.specs.List.{AllByRecursion}
 use Rattle.logic_core.specs.Tree.{Tree, num, truth, free, bound, linear, mul, read, write, choose, call, negation, all, some, equal, at_most, for_all, exists, Trees, no_trees, tree, Parts, no_parts, part}
 use Rattle.logic_core.specs.Value.{Value, whole, flag, int_of, holds, same, look, put, are_of, at}

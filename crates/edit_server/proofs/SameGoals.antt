@@ -1,22 +1,22 @@
 -- The goals made in one pass are the goals.
-use Rattle.std.specs.Prelude.{◌≡◌, refl, ℕ, zero, suc, ◌+◌, ◌<◌, ◌≤◌, pos, true, Some, None, Option, List, [], ◌∷◌, ◌++◌, fold, length, map, slice_get, slice_set, unwrap_or, flat_map, ◌⊎◌, if◌then◌else◌}
+use Rattle.std.specs.Prelude.{◌≡◌, refl, ℕ, zero, suc, ◌+◌, ◌<◌, true, Some, None, Option, List, [], ◌∷◌, ◌++◌, fold, length, map, slice_get, slice_set, unwrap_or, flat_map, ◌⊎◌, if◌then◌else◌}
 use Rattle.std.specs.List.{AllByRecursion, range_with_len}
 use Rattle.std.proofs.Common.{arith, sym, ◌∙◌, ap, subst, inl, inr}
 use Rattle.std.proofs.lemmas.List.{map-set}
 use Rattle.std.proofs.lemmas.List.Sums.{fold-append}
 use Rattle.bv_base.specs.declared.place.Place.{Place}
-use Rattle.logic_core.specs.Tree.{int, boolean, Tree, free, negation, some, equal, call, no_trees}
+use Rattle.logic_core.specs.Tree.{boolean, Tree, free, negation, some, equal, call, no_trees}
 use Rattle.logic_core.specs.View.{trees_of}
 use Rattle.logic_core.specs.Def.{Obligation}
 use Rattle.edit_server.specs.FirstForm.{Sum, Comparison, Statement, assign, assume, assert, Procedure}
 use Rattle.edit_server.specs.Execution.{locals_of}
 use Rattle.edit_server.specs.Formula.{sum_term, conjunction}
 use Rattle.edit_server.specs.Variables.{variables, variables_of_each, renamed, joined, first_occurrences, place_in}
-use Rattle.edit_server.specs.Conditions.{incarnation, body_of, canonical_body, obligation_of, Goal, goals_from, goals_of}
-use Rattle.edit_server.specs.OnePass.{Names, with_locals, first_names, one_more, renewed, mention_sum, mention_all, named, Made, nothing_made, also, obligation_in, perform_assign, perform_assume, perform_assert, perform, goals_in_one_pass}
-use Rattle.edit_server.proofs.FirstOccurrences.{IsIn, joined_cases, stays, all_stay, all_occur, spot, spot_stays, spot_new, is_new, is_joined}
+use Rattle.edit_server.specs.Conditions.{incarnation, body_of, obligation_of, goals_from, goals_of}
+use Rattle.edit_server.specs.OnePass.{Names, with_locals, one_more, renewed, mention_sum, mention_all, named, Made, nothing_made, obligation_in, perform_assign, perform_assume, perform_assert, perform, goals_in_one_pass}
+use Rattle.edit_server.proofs.FirstOccurrences.{IsIn, all_stay, all_occur, spot, spot_stays, spot_new, is_new, is_joined}
 use Rattle.edit_server.proofs.Renaming.{agree, each_renamed_of, renamed_sum, renamed_conjunction}
-use Rattle.edit_server.proofs.Following.{OnlyAt, spots, spots_of_others, integers, Follows, AreApart, count_of, vars_pushed, sum_follows, conjunction_follows, named_follows}
+use Rattle.edit_server.proofs.Following.{spots, spots_of_others, integers, Follows, AreApart, count_of, vars_pushed, sum_follows, conjunction_follows, named_follows}
 
 -- a formula's variables are among those of the order
 abbrev Inside : List ℕ → Tree → Type 0

@@ -4,7 +4,6 @@ use Rattle.bv_base.specs.declared.place.Place.{Place}
 use Rattle.logic_core.specs.Tree.{Kind, int, boolean, Tree, num, free, call, equal, no_trees}
 use Rattle.logic_core.specs.Def.{Obligation}
 use Rattle.edit_server.specs.FirstForm.{Operand, number, local, Sign, Sum, Relation, equals, differs, less, at_most, greater, at_least, Comparison, Statement, assign, assume, assert, Procedure}
-use Rattle.edit_server.specs.Execution.{locals_of}
 use Rattle.edit_server.specs.Formula.{sum_term, conjunction}
 use Rattle.edit_server.specs.Conditions.{body_of, Goal}
 

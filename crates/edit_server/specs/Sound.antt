@@ -8,7 +8,7 @@ use Rattle.logic_core.specs.Def.{Obligation}
 use Rattle.obligation_text.specs.WellSorted.{IsWellSorted}
 use Rattle.edit_server.specs.FirstForm.{Procedure}
 use Rattle.edit_server.specs.Execution.{Fails, IsSafe}
-use Rattle.edit_server.specs.Conditions.{Goal, goals_of}
+use Rattle.edit_server.specs.Conditions.{goals_of}
 
 -- in this assignment the axioms hold, and the goal doesn't
 pub record Refutes (o : Obligation) (frees : List Value) : Type 0 where

@@ -1,5 +1,5 @@
 -- What was made in one pass is well sorted: its variables are integers, and its formulas are formulas over them.
-use Rattle.std.specs.Prelude.{◌≡◌, ℕ, ◌<◌, Option, Some, List, [], length, slice_get}
+use Rattle.std.specs.Prelude.{◌≡◌, ℕ, ◌<◌, Some, List, [], length, slice_get}
 use Rattle.std.specs.List.{AllByRecursion}
 use Rattle.logic_core.specs.Tree.{Kind, int, boolean, Tree}
 use Rattle.logic_core.specs.Sorts.{sort_of}

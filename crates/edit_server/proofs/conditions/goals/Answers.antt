@@ -1,7 +1,7 @@
 use Rattle.std.proofs.Common.{◌≡◌, ◌≤◌, ◌∙◌, ap, sym, subst, fold, length, arith}
 use Rattle.std.proofs.lemmas.Grind.{common_steps}
 use Rattle.std.proofs.lemmas.List.{at_drop_all}
-use Rattle.edit_server.specs.OnePass.{nothing_made, perform}
+use Rattle.edit_server.specs.OnePass.{perform}
 use Rattle.edit_server.specs.WellSorted.{IsSorted}
 use Rattle.edit_server.proofs.MadeSorted.{nothing_sorted, perform_sorted}
 use Rattle.edit_server.proofs.SameGoals.{same_goals}

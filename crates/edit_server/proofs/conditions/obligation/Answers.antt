@@ -1,4 +1,4 @@
-use Rattle.std.proofs.Common.{◌≡◌, ◌∙◌, ap, sym, subst, true, [], ◌∷◌, ◌++◌}
+use Rattle.std.proofs.Common.{◌≡◌, ◌∙◌, ap, true, [], ◌∷◌, ◌++◌}
 use Rattle.logic_core.specs.Tree.{boolean}
 use Rattle.logic_core.specs.Sorts.{bodies_sorted}
 use Rattle.edit_server.specs.Conditions.{body_of}
