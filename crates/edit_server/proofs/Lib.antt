@@ -1,3 +1,4 @@
+mod OnlyWord
 mod Programs
 mod ConditionExamples
 mod ExecutionExamples
@@ -13,3 +14,5 @@ mod FormulaMeanings
 mod RenamedMeanings
 mod FailuresRefuted
 mod GoalsSorted
+mod CorrectIsSafe
+mod Answered

@@ -2,7 +2,7 @@
 use Rattle.std.specs.Prelude.{ℕ, ◌-◌, List, [], ◌∷◌, map, codes, bytes_eq, cond}
 use Rattle.std.specs.Int.Digits.{number_from_digits}
 use Rattle.bv_base.specs.declared.place.Place.{Place}
-use Rattle.bv_base.specs.Place.{place_of}
+use Rattle.bv_base.specs.Place.{place_at}
 use Rattle.bpl_lex.specs.Token.{Kind, id, number, text, sign, word, Token, text_of}
 
 -- a name with its bytes, a number with its value, the word `assert` with its place, each other word, sign or string with its bytes
@@ -25,7 +25,7 @@ lexeme word bytes place = cond (bytes_eq bytes (codes "assert")) (assertion plac
 
 -- a token of the text, where places count from this byte
 abbrev pub lexeme_of : List ℕ → ℕ → Token → Lexeme
-lexeme_of bytes from t = lexeme t.kind (text_of bytes t) (place_of bytes from t.start)
+lexeme_of bytes from t = lexeme t.kind (text_of bytes t) (place_at bytes from t.start)
 
 -- the tokens of the text, where places count from the first
 abbrev pub lexemes_of : List ℕ → List Token → List Lexeme

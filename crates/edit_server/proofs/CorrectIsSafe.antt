@@ -1,0 +1,44 @@
+-- A procedure whose report says that it is correct is safe: each of its goals has an accepted proof, so it is valid.
+use Rattle.std.proofs.Common.{◌≡◌, ◌∙◌, ℕ, zero, suc, arith, Bool, true, false, cond, ◌&&◌, List, [], ◌∷◌, ◌++◌, IsTrue, All, codes, map, refl, sym, ap, subst}
+use Rattle.std.specs.List.{list_all, AllByRecursion}
+use Rattle.logic_core.specs.Def.{Obligation}
+use Rattle.logic_core.specs.Valid.{Valid}
+use Rattle.tableau.specs.Search.{answer, Verdict, proved, «open», turns, wide}
+use Rattle.edit_server.specs.FirstForm.{Procedure}
+use Rattle.edit_server.specs.Execution.{IsSafe}
+use Rattle.edit_server.specs.Conditions.{Goal, goals_of}
+use Rattle.edit_server.specs.Report.{is_correct, is_proved, last_line, last_words}
+use Rattle.edit_server.specs.Check.{turns as allowed, verdict_on, verdicts, correct_line}
+use Rattle.obligation_text.specs.WellSorted.{IsWellSorted}
+use Rattle.edit_server.proofs.GoalsSorted.{goals_are_well_sorted}
+use Rattle.edit_server.proofs.FailuresRefuted.{valid_goals_are_safe}
+
+-- an obligation for which the search finds a proof is valid
+proved_is_valid : (o : Obligation) (n : ℕ) → IsWellSorted o → (answer o n).verdict ≡ proved → Valid o
+proved_is_valid o n w h = ?
+
+ends_correct : (b : Bool) → cond b (codes " correct") (codes " not proved") ≡ codes " correct" → b ≡ true
+ends_correct true e = refl
+ends_correct false e = absurd (cc)
+
+is_proved_is : (v : Verdict) → is_proved v ≡ true → v ≡ proved
+is_proved_is proved e = refl
+is_proved_is «open» e = absurd (cc)
+is_proved_is turns e = absurd (cc)
+is_proved_is wide e = absurd (cc)
+
+cancel : (xs ys zs : List ℕ) → xs ++ ys ≡ xs ++ zs → ys ≡ zs
+cancel [] ys zs e = e
+cancel (x ∷ xs) ys zs e = cancel xs ys zs (cc)
+
+both_true : (a b : Bool) → (a && b) ≡ true → (a ≡ true) × (b ≡ true)
+both_true true b e = (refl, e)
+both_true false b e = absurd (cc)
+
+each_valid : (gs : List Goal) → All (λ g. IsWellSorted g.obligation) gs → list_all is_proved (map verdict_on gs) ≡ true → All (λ g. Valid g.obligation) gs
+each_valid [] ws h k d lt = absurd (omega (arith, lt))
+each_valid (g ∷ gs) ws h zero d lt = proved_is_valid g.obligation allowed (ws 0 g (omega arith)) (is_proved_is (verdict_on g) (both_true (is_proved (verdict_on g)) (list_all is_proved (map verdict_on gs)) h).0)
+each_valid (g ∷ gs) ws h (suc k) d lt = each_valid gs (λ j e l. ws (suc j) e (omega (arith, l))) (both_true (is_proved (verdict_on g)) (list_all is_proved (map verdict_on gs)) h).1 k d (omega (arith, lt))
+
+pub correct_is_safe : (p : Procedure) → last_line p.name (verdicts p) ≡ correct_line p → IsSafe p
+correct_is_safe p line = valid_goals_are_safe p (each_valid (goals_of p) (goals_are_well_sorted p) (ends_correct (is_correct (verdicts p)) (cancel p.name (last_words (verdicts p)) (codes " correct") line)))
