@@ -13,6 +13,8 @@ pub mod report;
 pub mod soundness;
 pub mod status;
 pub mod verdict;
+#[cfg(test)]
+mod tests;
 mod words;
 
 pub use command::run;

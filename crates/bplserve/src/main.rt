@@ -1,0 +1,32 @@
+//! The program: its words, standard input and standard output, handed to `run`, whose status it
+//! ends with. This edge is trusted.
+#![tactic(auto)]
+
+use bv_base::{StdSink, StdSource};
+use edit_server::{Status, run};
+use std::alloc::Global;
+use std::env;
+use std::io::{self, ErrorKind};
+use std::process::ExitCode;
+use std::rt::Env;
+
+/// The words after the program's name.
+fn words_of(rt: &(impl Env + AllocGlobal)) -> io::Result<Vec<String>> {
+    let mut words = Vec::new(rt.alloc());
+    for word in env::args(rt)?.skip(1) {
+        words.push(word)?;
+    }
+    Ok(words)
+}
+
+fn main(rt: HostRuntime) -> ExitCode {
+    let mut source = StdSource::new(rt.reader());
+    let mut sink = StdSink::new(io::writer(&rt));
+    let status = match words_of(&rt) {
+        Ok(words) => run(&rt, words.as_slice(), &mut source, &mut sink),
+        Err(error) if error.kind() == ErrorKind::OutOfMemory => Status::Memory,
+        // A word that isn't UTF-8 is no command.
+        Err(_) => run(&rt, &[], &mut source, &mut sink),
+    };
+    ExitCode::from(status.code())
+}
