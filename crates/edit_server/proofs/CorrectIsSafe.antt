@@ -1,6 +1,12 @@
 -- A procedure whose report says that it is correct is safe: each of its goals has an accepted proof, so it is valid.
-use Rattle.std.proofs.Common.{◌≡◌, ◌∙◌, ℕ, zero, suc, arith, Bool, true, false, cond, ◌&&◌, List, [], ◌∷◌, ◌++◌, IsTrue, All, codes, map, refl, sym, ap, subst}
+use Rattle.std.proofs.Common.{◌≡◌, ◌∙◌, ℕ, zero, suc, arith, Bool, true, false, cond, ◌&&◌, Option, Some, None, is_some, List, [], ◌∷◌, ◌++◌, IsTrue, All, codes, map, refl, sym, ap, subst}
 use Rattle.std.specs.List.{list_all, AllByRecursion}
+use Rattle.proof_core.specs.Proof.{Proof}
+use Rattle.proof_core.specs.Soundness as proofs
+use Rattle.proof_core.proofs.Sound.{acceptance_is_sound}
+use Rattle.tableau.proofs.Refuting.{finds_accepted}
+use Rattle.tableau.proofs.FoundWhereProved.{finds_where_proved}
+use Rattle.tableau.specs.Search.{is_proved as only_proved}
 use Rattle.logic_core.specs.Def.{Obligation}
 use Rattle.logic_core.specs.Valid.{Valid}
 use Rattle.tableau.specs.Search.{answer, Verdict, proved, «open», turns, wide}
@@ -15,7 +21,14 @@ use Rattle.edit_server.proofs.FailuresRefuted.{valid_goals_are_safe}
 
 -- an obligation for which the search finds a proof is valid
 proved_is_valid : (o : Obligation) (n : ℕ) → IsWellSorted o → (answer o n).verdict ≡ proved → Valid o
-proved_is_valid o n w h = ?
+proved_is_valid o n w h = from_found (answer o n).found refl
+  where
+    sorted : proofs.IsWellSorted o
+    sorted = record { definitions = w.definitions; axioms = w.axioms; goal = w.goal }
+
+    from_found : (found : Option Proof) → (answer o n).found ≡ found → Valid o
+    from_found None e = absurd (let none : is_some (answer o n).found ≡ false = ap is_some e in let some : is_some (answer o n).found ≡ true = finds_where_proved o n ∙ ap only_proved h in cc)
+    from_found (Some p) e = acceptance_is_sound o p sorted (finds_accepted o n p sorted e)
 
 ends_correct : (b : Bool) → cond b (codes " correct") (codes " not proved") ≡ codes " correct" → b ≡ true
 ends_correct true e = refl

@@ -15,7 +15,6 @@ pub mod OnePass
 pub mod Codes
 pub mod Outcomes
 pub mod WellSorted
-pub mod Verdict
 pub mod Report
 pub mod Sound
 pub mod Exit

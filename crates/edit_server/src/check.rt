@@ -3,7 +3,7 @@ ghost use Rattle.std.specs.Prelude.{◌≡◌, ◌-◌, ◌^◌, ◌<◌, map, l
 ghost use Rattle.edit_server.specs.Check.{report_on, status_on, verdict_on, verdicts, IsAnswer};
 ghost use Rattle.edit_server.specs.Conditions.{goals_of};
 ghost use Rattle.edit_server.specs.Report.{text_of};
-ghost use Rattle.edit_server.specs.Verdict.{verdict_of};
+ghost use Rattle.tableau.specs.RunView.{verdict_of};
 
 use crate::conditions::{Goal, goals};
 use crate::first_form::Procedure;
@@ -11,8 +11,9 @@ use crate::reading::faults::ReadFault;
 use crate::reading::read;
 use crate::report::{all_proved, report};
 use crate::status::Status;
-use crate::verdict::Verdict;
 use std::alloc::{AllocError, Global};
+use tableau::ended::Verdict;
+use tableau::search::search_plain;
 
 /// What is written, and the status.
 #[derive(Drop)]
@@ -35,11 +36,12 @@ fn verdicts_on(alloc: Global, goals: &[Goal]) -> Result<Vec<Verdict>, AllocError
     Ok(verdicts)
 }
 
+// What the search says of a goal.
 fn verdict_on(alloc: Global, goal: &Goal) -> Result<Verdict, AllocError>
     ensures { IfOk result (λ v. verdict_of v ≡ verdict_on goal.now) }
 {
-    let _ = Vec::<u8>::from_slice(alloc, &[])?;
-    Err(AllocError)
+    let settled = search_plain(alloc, &goal.obligation, TURNS)?;
+    Ok(settled.verdict())
 }
 
 // The report on a procedure, and its status.

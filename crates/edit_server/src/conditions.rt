@@ -16,12 +16,13 @@ use logic_core::term::{Node, Term};
 use obligation_text::obligation::Obligation;
 use std::alloc::{AllocError, Global};
 use std::marker::Model;
+use std::sync::Arc;
 
 /// An assertion's place, and its obligation: that it holds where the formulas before it hold.
 #[derive(Drop)]
 pub struct Goal {
     pub place: Place,
-    pub obligation: Obligation,
+    pub obligation: Arc<Obligation, Global>,
 }
 
 impl Model for Goal {
@@ -32,7 +33,9 @@ impl Model for Goal {
 
     ghost coded = { coded_goal };
 
-    ghost view = { λ a. record { place = a.place; obligation = a.obligation } };
+    ghost use Rattle.std.specs.Arc.{arc_value};
+
+    ghost view = { λ a. record { place = a.place; obligation = arc_value a.obligation } };
 }
 
 /// What the statements so far have made: the variables, the formulas assumed or asserted, and the
@@ -145,6 +148,7 @@ impl Made {
         self.names.mention_all(comparisons)?;
         let asserted = self.names.conjunction(alloc, comparisons)?;
         let obligation = obligation(alloc, &self.names, self.before.as_slice(), &asserted)?;
+        let obligation = Arc::new(alloc, obligation)?;
         self.goals.push(Goal { place, obligation })?;
         self.before.push(asserted)?;
         Ok(())

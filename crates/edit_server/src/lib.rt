@@ -12,7 +12,6 @@ pub mod reading;
 pub mod report;
 pub mod soundness;
 pub mod status;
-pub mod verdict;
 #[cfg(test)]
 mod tests;
 mod words;

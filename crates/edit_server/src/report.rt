@@ -1,13 +1,13 @@
 // The report on a procedure.
 ghost use Rattle.std.specs.Prelude.{◌≡◌, ◌++◌, map, length, IfOk, OnOk};
-ghost use Rattle.edit_server.specs.Verdict.{verdict_of};
+ghost use Rattle.tableau.specs.RunView.{verdict_of};
 ghost use Rattle.edit_server.specs.Report.{verdict_text, is_proved, is_correct, head, goal_line, last_words, last_line, report_lines, ended, text_of};
 
 use crate::conditions::Goal;
-use crate::verdict::Verdict;
 use bv_base::place::Place;
 use itoa::Buffer;
 use std::alloc::{AllocError, Global};
+use tableau::ended::Verdict;
 
 /// The verdict's word in a report.
 fn word(verdict: Verdict) -> &'static [u8]

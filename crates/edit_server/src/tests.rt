@@ -33,7 +33,12 @@ fn runs<R: AllocGlobal>(
 }
 
 /// Whether `check` answers so.
-fn checks<R: AllocGlobal>(rt: &R, input: &str, output: &str, status: Status) -> Result<bool, AllocError> {
+fn checks<R: AllocGlobal>(
+    rt: &R,
+    input: &str,
+    output: &str,
+    status: Status,
+) -> Result<bool, AllocError> {
     runs(rt, &["check"], input, output, status)
 }
 
@@ -41,23 +46,43 @@ fn checks<R: AllocGlobal>(rt: &R, input: &str, output: &str, status: Status) -> 
 fn a_text_has_its_report(rt: HostRuntime) -> Result<(), Fail> {
     assert!(rt; checks(&rt, "", "", Status::Done)?);
     assert!(rt; checks(&rt, " // nothing\n/* at all */", "", Status::Done)?);
-    assert!(rt; checks(&rt,
-        "procedure P() {\n  var x: int;\n  assume x > 0;\n  x := x + 1;\n  assert x > 1;\n}\n",
-        "P 5:3 assert proved\nP correct\n", Status::Done)?);
-    assert!(rt; checks(&rt,
-        "procedure P() {\n  var x: int;\n  assume x > 0;\n  x := x + 1;\n  assert x > 2;\n}\n",
-        "P 5:3 assert open\nP not proved\n", Status::NotAll)?);
-    assert!(rt; checks(&rt,
-        "procedure A() { var x: int; var y: int; assume x == 1 && y == x; assert y == 1 && x <= y; }",
-        "A 1:66 assert proved\nA correct\n", Status::Done)?);
+    assert!(rt;
+        checks(
+            &rt,
+            "procedure P() {\n  var x: int;\n  assume x > 0;\n  x := x + 1;\n  assert x > 1;\n}\n",
+            "P 5:3 assert proved\nP correct\n",
+            Status::Done
+        )?
+    );
+    assert!(rt;
+        checks(
+            &rt,
+            "procedure P() {\n  var x: int;\n  assume x > 0;\n  x := x + 1;\n  assert x > 2;\n}\n",
+            "P 5:3 assert open\nP not proved\n",
+            Status::NotAll
+        )?
+    );
+    assert!(rt;
+        checks(
+            &rt,
+            "procedure A() { var x: int; var y: int; assume x == 1 && y == x; assert y == 1 && x <= y; }",
+            "A 1:66 assert proved\nA correct\n",
+            Status::Done
+        )?
+    );
     Ok(())
 }
 
 #[test]
 fn a_sum_past_128_bits_is_wide(rt: HostRuntime) -> Result<(), Fail> {
-    assert!(rt; checks(&rt,
-        "procedure W() { var x: int; assert x + 85070591730234615865843651857942052864 + 85070591730234615865843651857942052864 > x; }",
-        "W 1:29 assert wide\nW not proved\n", Status::NotAll)?);
+    assert!(rt;
+        checks(
+            &rt,
+            "procedure W() { var x: int; assert x + 85070591730234615865843651857942052864 + 85070591730234615865843651857942052864 > x; }",
+            "W 1:29 assert wide\nW not proved\n",
+            Status::NotAll
+        )?
+    );
     Ok(())
 }
 
@@ -65,8 +90,22 @@ fn a_sum_past_128_bits_is_wide(rt: HostRuntime) -> Result<(), Fail> {
 fn a_text_that_is_not_read_is_refused(rt: HostRuntime) -> Result<(), Fail> {
     let line = "fault Unbuilt - 0:0 input\n";
     assert!(rt; checks(&rt, "function f(x: int): int { x }", line, Status::Refused)?);
-    assert!(rt; checks(&rt, "procedure P() { var x: int; while (x < 1) { x := 1; } }", line, Status::Refused)?);
-    assert!(rt; checks(&rt, "procedure P() { } procedure Q() { }", line, Status::Refused)?);
+    assert!(rt;
+        checks(
+            &rt,
+            "procedure P() { var x: int; while (x < 1) { x := 1; } }",
+            line,
+            Status::Refused
+        )?
+    );
+    assert!(rt;
+        checks(
+            &rt,
+            "procedure P() { } procedure Q() { }",
+            line,
+            Status::Refused
+        )?
+    );
     assert!(rt; checks(&rt, "procedure P() { /* open", line, Status::Refused)?);
     Ok(())
 }
@@ -126,7 +165,11 @@ fn check_with_fault<R: AllocGlobal>(
 fn a_read_that_fails_leaves_nothing_written(rt: HostRuntime) -> Result<(), Fail> {
     // 17 bytes, and the read that finds the end
     for k in 0..18 {
-        let (ended, written) = check_with_fault(&rt, failing(rt.alloc(), k)?, Vec::new(rt.alloc()))?;
+        let (ended, written) = check_with_fault(
+            &rt,
+            failing(rt.alloc(), k)?,
+            Vec::new(rt.alloc()),
+        )?;
         assert!(rt; ended == Status::ReadFault && written.is_empty());
     }
     let (ended, written) = check_with_fault(&rt, failing(rt.alloc(), 18)?, Vec::new(rt.alloc()))?;
@@ -137,7 +180,11 @@ fn a_read_that_fails_leaves_nothing_written(rt: HostRuntime) -> Result<(), Fail>
 #[test]
 fn a_write_that_fails_leaves_the_bytes_before(rt: HostRuntime) -> Result<(), Fail> {
     for k in 0..10usize {
-        let (ended, written) = check_with_fault(&rt, Vec::new(rt.alloc()), failing(rt.alloc(), k as u64)?)?;
+        let (ended, written) = check_with_fault(
+            &rt,
+            Vec::new(rt.alloc()),
+            failing(rt.alloc(), k as u64)?,
+        )?;
         assert!(rt; ended == Status::WriteFault && written.as_slice() == &b"P correct\n"[..k]);
     }
     let (ended, _) = check_with_fault(&rt, Vec::new(rt.alloc()), failing(rt.alloc(), 10)?)?;
@@ -161,26 +208,26 @@ fn is_not_proved<R: AllocGlobal>(rt: &R, body: &str) -> Result<bool, AllocError>
 
 /// Each body has an assertion that fails from the entry state beside it.
 const FAILING: [&str; 20] = [
-    "assert x > 0;",                                           // x = 0
-    "assert x == y;",                                          // x = 0, y = 1
-    "assert x != y;",                                          // x = 0, y = 0
-    "assume x >= 0; assert x > 0;",                            // x = 0
-    "assume x > 0; x := x + 1; assert x > 2;",                 // x = 1
-    "x := y; assert x != y;",                                  // x = 0, y = 0
-    "x := x + 1; assert x == y;",                              // x = 0, y = 0
-    "y := x; x := x + 1; assert x == y;",                      // x = 0, y = 0
-    "assume x < y; assert y - x > 1;",                         // x = 0, y = 1
-    "assume x <= y; assert x < y;",                            // x = 0, y = 0
-    "assume x + y == 2; assert x == 1;",                       // x = 0, y = 2
-    "assert x + x != 4;",                                      // x = 2, y = 0
-    "assert 1 > 2;",                                           // x = 0, y = 0
-    "assume x == 1 && y == 2; assert x == y;",                 // x = 1, y = 2
-    "x := 1; y := 2; assert x == 1 && y == 1;",                // x = 0, y = 0
-    "assume x == x; assert x == y + 1;",                       // x = 0, y = 0
-    "assert x >= x; assert x > x;",                            // x = 0, y = 0
-    "x := y + 1; y := x + 1; assert y == x;",                  // x = 0, y = 0
-    "assume x != 0; assert x > 0;",                            // x = -1, y = 0
-    "assert x <= 170141183460469231731687303715884105727;",    // x = 2^127
+    "assert x > 0;", // x = 0
+    "assert x == y;", // x = 0, y = 1
+    "assert x != y;", // x = 0, y = 0
+    "assume x >= 0; assert x > 0;", // x = 0
+    "assume x > 0; x := x + 1; assert x > 2;", // x = 1
+    "x := y; assert x != y;", // x = 0, y = 0
+    "x := x + 1; assert x == y;", // x = 0, y = 0
+    "y := x; x := x + 1; assert x == y;", // x = 0, y = 0
+    "assume x < y; assert y - x > 1;", // x = 0, y = 1
+    "assume x <= y; assert x < y;", // x = 0, y = 0
+    "assume x + y == 2; assert x == 1;", // x = 0, y = 2
+    "assert x + x != 4;", // x = 2, y = 0
+    "assert 1 > 2;", // x = 0, y = 0
+    "assume x == 1 && y == 2; assert x == y;", // x = 1, y = 2
+    "x := 1; y := 2; assert x == 1 && y == 1;", // x = 0, y = 0
+    "assume x == x; assert x == y + 1;", // x = 0, y = 0
+    "assert x >= x; assert x > x;", // x = 0, y = 0
+    "x := y + 1; y := x + 1; assert y == x;", // x = 0, y = 0
+    "assume x != 0; assert x > 0;", // x = -1, y = 0
+    "assert x <= 170141183460469231731687303715884105727;", // x = 2^127
 ];
 
 #[test]

@@ -1,6 +1,6 @@
 use Rattle.std.proofs.Common.{◌≡◌, map, take}
 use Rattle.edit_server.specs.Check.{verdict_on}
-use Rattle.edit_server.specs.Verdict.{verdict_of}
+use Rattle.tableau.specs.RunView.{verdict_of}
 use Rattle.edit_server.proofs.check.verdicts_on.Given as goal
 
 abbrev pub invariant-loop-goal : goal.invariant-loop-goal

@@ -1,5 +1,5 @@
 use Rattle.std.proofs.Common.{◌≡◌, map, drop}
-use Rattle.edit_server.specs.Verdict.{verdict_of}
+use Rattle.tableau.specs.RunView.{verdict_of}
 use Rattle.edit_server.specs.Report.{is_correct}
 use Rattle.edit_server.proofs.report.all_proved.Given as goal
 

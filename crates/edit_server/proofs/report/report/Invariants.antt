@@ -1,5 +1,5 @@
 use Rattle.std.proofs.Common.{◌≡◌, ◌++◌, map, drop}
-use Rattle.edit_server.specs.Verdict.{verdict_of}
+use Rattle.tableau.specs.RunView.{verdict_of}
 use Rattle.edit_server.specs.Report.{goal_lines, text_of}
 use Rattle.edit_server.proofs.report.report.Given as goal
 
