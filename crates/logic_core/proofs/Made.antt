@@ -51,9 +51,9 @@ pub given_more : {A B R : Type 0} (cons : B → R → R) (F : List A → Option 
 given_more cons F xs made made' i x y whole within is pushed so_far gives =
     let rest = F (drop (i + 1) xs) in
     ap (λ zs. option_map (before cons zs) rest) pushed
-      ∙ mapped_push cons made y rest
-      ∙ ap (option_map (before cons made)) (sym (bind_some (cons y) rest) ∙ sym gives ∙ sym (here F xs i x within is))
-      ∙ so_far
+    ∙ mapped_push cons made y rest
+    ∙ ap (option_map (before cons made)) (sym (bind_some (cons y) rest) ∙ sym gives ∙ sym (here F xs i x within is))
+    ∙ so_far
 
 -- an item gives nothing
 pub given_none : {A B R : Type 0} (cons : B → R → R) (F : List A → Option R) (xs : List A) (made : List B) (i : ℕ) (x : A) (whole : Option R) → i < length xs → x ≡ get_or xs i x → option_map (before cons made) (F (drop i xs)) ≡ whole → F (x ∷ drop (i + 1) xs) ≡ None → whole ≡ None

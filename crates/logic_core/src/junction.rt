@@ -1,4 +1,6 @@
-// The normal form of And, Or and Not.
+// The normal form of And and Or: nested ones of the kind are taken in, the neutral truth value
+// drops, beside the other one the whole is that value, one part alone is the result, and no part
+// is the neutral value.
 ghost use Rattle.std.specs.Prelude.{◌≡◌, [], ◌∷◌, ◌++◌, None, IfOk, IfErr};
 ghost use Rattle.logic_core.specs.Tree.{all, some, Trees};
 ghost use Rattle.logic_core.specs.View.{trees_of};

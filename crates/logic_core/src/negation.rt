@@ -1,4 +1,5 @@
-// The normal Not of a normal formula.
+// The normal Not of a normal formula: Nots are moved in to the atoms by De Morgan's laws. Over the
+// integers, where 0 <= d doesn't hold, 0 <= -d - 1 does.
 ghost use Rattle.std.specs.Prelude.{◌≡◌, Some, IfOk};
 ghost use Rattle.logic_core.specs.Tree.{negation, at_most};
 ghost use Rattle.logic_core.specs.View.{trees_of};
@@ -73,6 +74,7 @@ pub fn negated(alloc: Global, term: &Term) -> Result<Term, NormalFault>
     }
 }
 
+// The normal Nots of the formulas.
 #[cycle(negated)]
 fn negated_each(alloc: Global, terms: &[Term]) -> Result<Vec<Term>, NormalFault>
     ensures { GivesAs (λ v. trees_of v.items) result (negated_each (trees_of terms.now)) }

@@ -1,4 +1,19 @@
-// The normal form of a term, made from the parts up.
+// The normal form of a term, made from the parts up, so that terms that differ in writing alone are
+// the same:
+// - A Sum has falling atoms with coefficients other than zero; without atoms it is a number, and
+//   an atom times 1 plus 0 is the atom.
+// - A number scales the other factor of a Mul; otherwise the smaller factor stands first.
+// - An If with a truth value as its condition is a branch, and so is one of equal branches.
+// - Nots stand at atoms alone, and none at an inequality.
+// - Ands and Ors are flat, of two parts at least, without truth values.
+// - An Eq of equal sides is true. One of integers is d = 0, where d is the difference of the sides
+//   or its negation, so that the first coefficient is positive; where d is a number it is a truth
+//   value. Beside a truth value it is the other side or its Not. Every other has the smaller side
+//   first.
+// - A Le is 0 <= d, where d is the second side less the first, or a truth value.
+// - A quantifier whose body is a truth value is that truth value.
+// Coefficients and constants have 128 bits. Where one on the way leaves them there is no normal
+// form, even if it would have cancelled later.
 ghost use Rattle.std.specs.Prelude.{◌≡◌, ◌++◌, [], reverse, option_map, IfOk};
 ghost use Rattle.logic_core.specs.Tree.{equal, for_all, exists};
 ghost use Rattle.logic_core.specs.View.{trees_of, parts_of, patterns_of, each_items};
@@ -37,6 +52,7 @@ fn choice(alloc: Global, c: Term, a: Term, b: Term) -> Result<Term, AllocError>
     }
 }
 
+// The Eq of these very sides.
 fn equal(alloc: Global, a: Term, b: Term) -> Result<Term, AllocError>
     ensures { IfOk result (λ t. t ≡ equal a b) }
 {
@@ -151,7 +167,7 @@ fn equation(alloc: Global, sort: Option<Sort>, a: Term, b: Term) -> Result<Term,
     equation_of(alloc, sort, a, b)
 }
 
-// Le.
+// Le, by the difference of the sides.
 fn inequality(alloc: Global, a: Term, b: Term) -> Result<Term, NormalFault>
     ensures { Gives result (inequality a b) }
 {
