@@ -6,7 +6,6 @@ pub mod Spelling
 pub mod TokensInText
 pub mod Reading
 pub mod LexemeView
-pub mod Answers
 pub mod Execution
 pub mod Formula
 pub mod Variables

@@ -2,6 +2,9 @@ mod SearchExamples
 pub mod Turns
 pub mod Reversed
 pub mod Moves
+pub mod Changing
+pub mod Listed
+pub mod AppliedAt
 pub mod Found
 pub mod Pairs
 pub mod Tracked
@@ -10,3 +13,7 @@ pub mod Outcomes
 pub mod RulesGo
 pub mod RewritesGo
 pub mod Refuting
+pub mod Stepping
+pub mod Tried
+pub mod FoundWhereProved
+pub mod Starting

@@ -8,7 +8,7 @@ use Rattle.tableau.specs.Closing.{are_opposed, pair_from}
 module _ (before : List Fact) (g : Fact) (gs : List Fact) where
   -- what comes of the fact that was found before g, and of whether g is false
   abbrev paired : Option Fact → Bool → Option (Fact × Fact)
-  paired o b = elim o [ | Some f ↦ Some (f, g) | None ↦ elim b [ true ↦ Some (g, g) | false ↦ pair_from (before ++ g ∷ []) gs ] ]
+  paired o b = elim o [ Some f ↦ Some (f, g) | None ↦ elim b [ true ↦ Some (g, g) | false ↦ pair_from (before ++ g ∷ []) gs ] ]
 
   as_paired : (o : Option Fact) (b : Bool) → find (λ x. are_opposed x g) before ≡ o → is_truth false g.term ≡ b → pair_from before (g ∷ gs) ≡ paired o b
   as_paired o b h k = ap (λ p. paired p (is_truth false g.term)) h ∙ ap (paired o) k

@@ -38,7 +38,6 @@ use Rattle.tableau.proofs.OutsideSorts.{HasSort, outside_sorts, found_has, said_
 use Rattle.tableau.proofs.RulesGo.{second, found_at_oldest, on_one_goes}
 use Rattle.tableau.proofs.Outcomes.{Goes, IsPlaced, ArePlaced, Outcome, no_steps}
 
-
 either_branch : {A R : Type 0} (x : Bool) (o p : Option A) (y : A) → ◌≡◌ {A = Option A} (elim x [ false ↦ o | true ↦ p ]) (Some y) → (x ≡ false → o ≡ Some y → R) → (x ≡ true → p ≡ Some y → R) → R
 either_branch false o p y h f g = f refl h
 either_branch true o p y h f g = g refl h
@@ -77,17 +76,17 @@ module _ (defs : List Def) (b : Branch) (f : Fact) (l r : Tree) (c : Context) wh
 
   -- the facts that are rewritten, one after another
   changed_goes : (done fs : List Fact) (m n : Made) (d : Context) → Reached m d → All (IsKnown d) done → All (IsKnown d) fs → says f.term l ≡ Some r
-      → changed_from (rewrites f l) (rewritten defs b l r) (λ g. by_replace g.number f.number l) done fs m ≡ Some n
+      → changed_from (rewrites f.number l) (rewritten defs b l r) (λ g. by_replace g.number f.number l) done fs m ≡ Some n
       → (e : Context) × Leads defs c n.steps e × Tracks n.branch e × IsSorted defs e
   changed_goes done [] m n d at kd kfs said h = let is_n : record { branch = record (m.branch) { facts = done }; steps = m.steps; size = m.size } ≡ n = cc in
       subst (λ x. (e : Context) × Leads defs c x.steps e × Tracks x.branch e × IsSorted defs e) is_n (d, at.leads, record { vars = at.same; next = at.next; facts = kd }, at.sorted)
   changed_goes done (g ∷ gs) m n d at kd kfs said h =
       let kg = All-head (IsKnown d) g gs kfs in
       let kgs = All-tail (IsKnown d) g gs kfs in
-      either_branch (rewrites f l g) (changed_from (rewrites f l) (rewritten defs b l r) (λ g. by_replace g.number f.number l) (done ++ g ∷ []) gs m)
-      (rewritten defs b l r g.term >>= λ t. changed_from (rewrites f l) (rewritten defs b l r) (λ g. by_replace g.number f.number l) (kept done (record { term = t; number = m.branch.next }) gs) gs (after_one m g t)) n h
+      either_branch (rewrites f.number l g) (changed_from (rewrites f.number l) (rewritten defs b l r) (λ g. by_replace g.number f.number l) (done ++ g ∷ []) gs m)
+      (rewritten defs b l r g.term >>= λ t. changed_from (rewrites f.number l) (rewritten defs b l r) (λ g. by_replace g.number f.number l) (kept done (record { term = t; number = m.branch.next }) gs) gs (after_one m g t)) n h
       (λ _ k. changed_goes (done ++ g ∷ []) gs m n d at (All-push (IsKnown d) done g kd kg) kgs said k)
-      (λ _ k. let p = bind_some (rewritten defs b l r g.term) (λ t. changed_from (rewrites f l) (rewritten defs b l r) (λ g. by_replace g.number f.number l) (kept done (record { term = t; number = m.branch.next }) gs) gs (after_one m g t)) n k in
+      (λ _ k. let p = bind_some (rewritten defs b l r g.term) (λ t. changed_from (rewrites f.number l) (rewritten defs b l r) (λ g. by_replace g.number f.number l) (kept done (record { term = t; number = m.branch.next }) gs) gs (after_one m g t)) n k in
       let t = p.0 in
       let e = with_fact d t in
       let step = replaces d g t at.sorted at.oriented kg at.vars said p.1 in
@@ -107,7 +106,7 @@ module _ (defs : List Def) (b : Branch) (f : Fact) (l r : Tree) (c : Context) wh
   rewritten_goes m placed kf h said =
       let t = placed.tracks in
       let made = rw said at h in
-      let p = bind_some (changed_each (rewrites f l) (rewritten defs b l r) (λ g. by_replace g.number f.number l) (begun b)) (λ x. Some (on_one x)) m made in
+      let p = bind_some (changed_each (rewrites f.number l) (rewritten defs b l r) (λ g. by_replace g.number f.number l) (begun b)) (λ x. Some (on_one x)) m made in
       let is_m : on_one p.0 ≡ m = cc in
       let start : Reached (emptied (begun b)) c = record { leads = refl; vars = t.vars; same = t.vars; next = t.next; sorted = placed.sorted; oriented = kf } in
       let o = changed_goes [] b.facts (emptied (begun b)) p.0 c start (All-nil (IsKnown c)) t.facts said p.1 in
@@ -123,7 +122,7 @@ module _ (defs : List Def) where
       let o = found_at_oldest (left_in_another defs b) (λ a. rewritten_by defs b a.fact a.what) b m h in
       let a = o.0 in
       let k = found_known (left_in_another defs b) (IsKnown c) 0 b.facts a o.1 placed.tracks.facts in
-      let p = bind_some (says (a.fact).term a.what) (λ r. changed_each (rewrites a.fact a.what) (rewritten defs b a.what r) (λ g. by_replace g.number (a.fact).number a.what) (begun b) >>= λ x. Some (on_one x)) m o.2 in
+      let p = bind_some (says (a.fact).term a.what) (λ r. changed_each (rewrites (a.fact).number a.what) (rewritten defs b a.what r) (λ g. by_replace g.number (a.fact).number a.what) (begun b) >>= λ x. Some (on_one x)) m o.2 in
       rewritten_goes defs b a.fact a.what p.0 c m placed k.0 o.2 p.1
 
   -- unfold
@@ -185,11 +184,13 @@ module _ (defs : List Def) where
   cases_placed : (b : Branch) (c : Context) (us : List Tree) → Tracks b c → All (IsSorted defs) (contexts_with c us) → ArePlaced defs (branches_of (map (case b) us)) (contexts_with c us)
   cases_placed b c [] t s = tt
   cases_placed b c (u ∷ us) t s =
-      let base : Tracks (record b { next = b.next + 1 }) (with_fact c u) = record { vars = t.vars; next = (let x = t.next in let y = length_push c.facts u in omega arith); facts = known_later c (u ∷ []) b.facts t.facts } in
-      (record {
-        tracks = added_tracks (with_fact c u) (record { term = u; number = b.next }) (record { branch = record b { next = b.next + 1 }; steps = []; size = 0 }) base (get_next c.facts u b.next t.next);
-        sorted = All-head (IsSorted defs) (with_fact c u) (contexts_with c us) s;
-      }, cases_placed b c us t (All-tail (IsSorted defs) (with_fact c u) (contexts_with c us) s))
+      let base : Tracks (record b { next = b.next + 1 }) (with_fact c u) = record { vars = t.vars; next = (let x = t.next in let y = length_push c.facts u in omega arith); facts = known_later c (u ∷ []) b.facts t.facts } in (
+        record {
+          tracks = added_tracks (with_fact c u) (record { term = u; number = b.next }) (record { branch = record b { next = b.next + 1 }; steps = []; size = 0 }) base (get_next c.facts u b.next t.next);
+          sorted = All-head (IsSorted defs) (with_fact c u) (contexts_with c us) s;
+        },
+        cases_placed b c us t (All-tail (IsSorted defs) (with_fact c u) (contexts_with c us) s),
+      )
 
   splits : (c : Context) (n : ℕ) (g : Tree) (ts : List Tree) (ds : List Context) → fact c n ≡ Some g → cases g ≡ Some ts → children defs c (one_each ts) ≡ Some ds → after_cases defs c n ≡ Some ds
   splits c n g ts ds known form h = rw (known, form) h

@@ -67,7 +67,7 @@ pair_known P before (g ∷ gs) p h b every = at_pair (find (λ f. are_opposed f 
     at_false true e k further = let is_p : (g, g) ≡ p = cc in subst (λ (q : Fact × Fact). P q.0 × P q.1 × AreClosing q.0 q.1) is_p (All-head P g gs every, All-head P g gs every, inr (refl, e))
     at_false false e k further = further k
 
-    at_pair : (o : Option Fact) → find (λ f. are_opposed f g) before ≡ o → (elim o [ | Some f ↦ Some (f, g) | None ↦ elim (is_truth false g.term) [ true ↦ Some (g, g) | false ↦ pair_from (before ++ g ∷ []) gs ] ]) ≡ Some p → (pair_from (before ++ g ∷ []) gs ≡ Some p → P p.0 × P p.1 × AreClosing p.0 p.1) → P p.0 × P p.1 × AreClosing p.0 p.1
+    at_pair : (o : Option Fact) → find (λ f. are_opposed f g) before ≡ o → (elim o [ Some f ↦ Some (f, g) | None ↦ elim (is_truth false g.term) [ true ↦ Some (g, g) | false ↦ pair_from (before ++ g ∷ []) gs ] ]) ≡ Some p → (pair_from (before ++ g ∷ []) gs ≡ Some p → P p.0 × P p.1 × AreClosing p.0 p.1) → P p.0 × P p.1 × AreClosing p.0 p.1
     at_pair (Some f) e k further = let is_p : (f, g) ≡ p = cc in let found = found_of P (λ x. are_opposed x g) before f e b in
         subst (λ (q : Fact × Fact). P q.0 × P q.1 × AreClosing q.0 q.1) is_p (found.0, All-head P g gs every, inl found.1)
     at_pair None e k further = at_false (is_truth false g.term) refl k further
@@ -114,7 +114,7 @@ module _ (defs : List Def) where
   pub close_goes : (b : Branch) (c : Context) (m : Move) → close b ≡ gives m → IsPlaced defs b c → Outcome defs c m
   close_goes b c m h placed = at_pair (pair_from [] b.facts) refl h
     where
-      at_pair : (o : Option (Fact × Fact)) → pair_from [] b.facts ≡ o → (elim o [ | None ↦ none | Some p ↦ gives (if nat_le (p.0).number (p.1).number then close_by p.0 p.1 else close_by p.1 p.0) ]) ≡ gives m → Outcome defs c m
+      at_pair : (o : Option (Fact × Fact)) → pair_from [] b.facts ≡ o → (elim o [ None ↦ none | Some p ↦ gives (if nat_le (p.0).number (p.1).number then close_by p.0 p.1 else close_by p.1 p.0) ]) ≡ gives m → Outcome defs c m
       at_pair None e k = absurd (cc)
       at_pair (Some p) e k =
           let is_m : (if nat_le (p.0).number (p.1).number then close_by p.0 p.1 else close_by p.1 p.0) ≡ m = cc in

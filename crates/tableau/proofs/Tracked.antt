@@ -104,6 +104,6 @@ pub found_known : {A : Type 0} (test : Fact → Option A) (P : Fact → Type 0) 
 found_known test P n [] a h all = absurd (cc)
 found_known {A} test P n (f ∷ fs) a h all = at_test (test f) refl h (λ k. found_known test P (n + 1) fs a k (All-tail P f fs all))
   where
-    at_test : (o : Option A) → test f ≡ o → ◌≡◌ {A = Option (At A)} (elim o [ | None ↦ first_from test (n + 1) fs | Some x ↦ Some (record { at = n; fact = f; what = x }) ]) (Some a) → (first_from test (n + 1) fs ≡ Some a → P a.fact × (test a.fact ≡ Some a.what)) → P a.fact × (test a.fact ≡ Some a.what)
+    at_test : (o : Option A) → test f ≡ o → ◌≡◌ {A = Option (At A)} (elim o [ None ↦ first_from test (n + 1) fs | Some x ↦ Some (record { at = n; fact = f; what = x }) ]) (Some a) → (first_from test (n + 1) fs ≡ Some a → P a.fact × (test a.fact ≡ Some a.what)) → P a.fact × (test a.fact ≡ Some a.what)
     at_test None e k further = further k
     at_test (Some x) e k further = let is_a : record { at = n; fact = f; what = x } ≡ a = cc in subst (λ (y : At A). P y.fact × (test y.fact ≡ Some y.what)) is_a (All-head P f fs all, e)

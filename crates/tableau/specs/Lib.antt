@@ -6,5 +6,8 @@ pub mod Move
 pub mod Closing
 pub mod Rewriting
 pub mod Splitting
+pub mod Applied
 pub mod Search
 pub mod View
+pub mod RunView
+pub mod Settled

@@ -8,7 +8,6 @@ use crate::played::{Ending, Played};
 use proof_core::proof::{End, Proof, Step};
 use std::alloc::{AllocError, Global};
 
-
 /// Takes as many proofs from the stack as there are lists of steps: each begins with its steps.
 fn begin_each(
     alloc: Global,
@@ -47,11 +46,18 @@ fn only(alloc: Global, mut begun: Vec<PartialProof>) -> PartialProof
 fn finish_each(alloc: Global, begun: Vec<PartialProof>) -> Result<Vec<Proof>, AllocError>
     ensures { IfOk result (λ v. v.items ≡ map partial_of begun.items) }
 {
-    begun.into_iter().map(|partial| partial.finish()).collect(alloc)
+    begun
+        .into_iter()
+        .map(|partial| partial.finish())
+        .collect(alloc)
 }
 
 /// The proof of a branch on which a move was made, from those of the branches that it made.
-fn proof_of(alloc: Global, ending: Ending, begun: Vec<PartialProof>) -> Result<PartialProof, AllocError>
+fn proof_of(
+    alloc: Global,
+    ending: Ending,
+    begun: Vec<PartialProof>,
+) -> Result<PartialProof, AllocError>
     ensures { IfOk result (λ p. partial_of p ≡ proof_of (ending_of ending) (map partial_of begun.items)) }
 {
     match ending {

@@ -10,4 +10,4 @@ returns-clause-played c = λ vars. let none : c.loop-made_one.made.items ≡ [] 
 
 pub returns-clause-pushed : goal.returns-clause-pushed
 returns-clause-pushed c = λ vars. let none : c.loop-made_one.made.items ≡ [] = nil_from_length c.loop-made_one.made.items (omega (arith, c.in_default.ensures.cases)) in
-    let kept = rw none at c.loop-made_one.invariant.branches in let was = branches_of_made vars c.args.self.made.items in rw (was, kept, map-append) 
+    let kept = rw none at c.loop-made_one.invariant.branches in let was = branches_of_made vars c.args.self.made.items in rw (was, kept, map-append)
