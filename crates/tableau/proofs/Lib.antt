@@ -2,6 +2,8 @@ mod SearchExamples
 pub mod Turns
 pub mod Reversed
 pub mod Moves
+pub mod Listed
+pub mod AppliedAt
 pub mod Found
 pub mod Pairs
 pub mod Tracked

@@ -77,17 +77,17 @@ module _ (defs : List Def) (b : Branch) (f : Fact) (l r : Tree) (c : Context) wh
 
   -- the facts that are rewritten, one after another
   changed_goes : (done fs : List Fact) (m n : Made) (d : Context) → Reached m d → All (IsKnown d) done → All (IsKnown d) fs → says f.term l ≡ Some r
-      → changed_from (rewrites f l) (rewritten defs b l r) (λ g. by_replace g.number f.number l) done fs m ≡ Some n
+      → changed_from (rewrites f.number l) (rewritten defs b l r) (λ g. by_replace g.number f.number l) done fs m ≡ Some n
       → (e : Context) × Leads defs c n.steps e × Tracks n.branch e × IsSorted defs e
   changed_goes done [] m n d at kd kfs said h = let is_n : record { branch = record (m.branch) { facts = done }; steps = m.steps; size = m.size } ≡ n = cc in
       subst (λ x. (e : Context) × Leads defs c x.steps e × Tracks x.branch e × IsSorted defs e) is_n (d, at.leads, record { vars = at.same; next = at.next; facts = kd }, at.sorted)
   changed_goes done (g ∷ gs) m n d at kd kfs said h =
       let kg = All-head (IsKnown d) g gs kfs in
       let kgs = All-tail (IsKnown d) g gs kfs in
-      either_branch (rewrites f l g) (changed_from (rewrites f l) (rewritten defs b l r) (λ g. by_replace g.number f.number l) (done ++ g ∷ []) gs m)
-      (rewritten defs b l r g.term >>= λ t. changed_from (rewrites f l) (rewritten defs b l r) (λ g. by_replace g.number f.number l) (kept done (record { term = t; number = m.branch.next }) gs) gs (after_one m g t)) n h
+      either_branch (rewrites f.number l g) (changed_from (rewrites f.number l) (rewritten defs b l r) (λ g. by_replace g.number f.number l) (done ++ g ∷ []) gs m)
+      (rewritten defs b l r g.term >>= λ t. changed_from (rewrites f.number l) (rewritten defs b l r) (λ g. by_replace g.number f.number l) (kept done (record { term = t; number = m.branch.next }) gs) gs (after_one m g t)) n h
       (λ _ k. changed_goes (done ++ g ∷ []) gs m n d at (All-push (IsKnown d) done g kd kg) kgs said k)
-      (λ _ k. let p = bind_some (rewritten defs b l r g.term) (λ t. changed_from (rewrites f l) (rewritten defs b l r) (λ g. by_replace g.number f.number l) (kept done (record { term = t; number = m.branch.next }) gs) gs (after_one m g t)) n k in
+      (λ _ k. let p = bind_some (rewritten defs b l r g.term) (λ t. changed_from (rewrites f.number l) (rewritten defs b l r) (λ g. by_replace g.number f.number l) (kept done (record { term = t; number = m.branch.next }) gs) gs (after_one m g t)) n k in
       let t = p.0 in
       let e = with_fact d t in
       let step = replaces d g t at.sorted at.oriented kg at.vars said p.1 in
@@ -107,7 +107,7 @@ module _ (defs : List Def) (b : Branch) (f : Fact) (l r : Tree) (c : Context) wh
   rewritten_goes m placed kf h said =
       let t = placed.tracks in
       let made = rw said at h in
-      let p = bind_some (changed_each (rewrites f l) (rewritten defs b l r) (λ g. by_replace g.number f.number l) (begun b)) (λ x. Some (on_one x)) m made in
+      let p = bind_some (changed_each (rewrites f.number l) (rewritten defs b l r) (λ g. by_replace g.number f.number l) (begun b)) (λ x. Some (on_one x)) m made in
       let is_m : on_one p.0 ≡ m = cc in
       let start : Reached (emptied (begun b)) c = record { leads = refl; vars = t.vars; same = t.vars; next = t.next; sorted = placed.sorted; oriented = kf } in
       let o = changed_goes [] b.facts (emptied (begun b)) p.0 c start (All-nil (IsKnown c)) t.facts said p.1 in
@@ -123,7 +123,7 @@ module _ (defs : List Def) where
       let o = found_at_oldest (left_in_another defs b) (λ a. rewritten_by defs b a.fact a.what) b m h in
       let a = o.0 in
       let k = found_known (left_in_another defs b) (IsKnown c) 0 b.facts a o.1 placed.tracks.facts in
-      let p = bind_some (says (a.fact).term a.what) (λ r. changed_each (rewrites a.fact a.what) (rewritten defs b a.what r) (λ g. by_replace g.number (a.fact).number a.what) (begun b) >>= λ x. Some (on_one x)) m o.2 in
+      let p = bind_some (says (a.fact).term a.what) (λ r. changed_each (rewrites (a.fact).number a.what) (rewritten defs b a.what r) (λ g. by_replace g.number (a.fact).number a.what) (begun b) >>= λ x. Some (on_one x)) m o.2 in
       rewritten_goes defs b a.fact a.what p.0 c m placed k.0 o.2 p.1
 
   -- unfold

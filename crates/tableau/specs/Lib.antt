@@ -6,5 +6,6 @@ pub mod Move
 pub mod Closing
 pub mod Rewriting
 pub mod Splitting
+pub mod Applied
 pub mod Search
 pub mod View

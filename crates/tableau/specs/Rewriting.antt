@@ -1,5 +1,5 @@
 -- The rules of the search that rewrite facts: rewrite and unfold.
-use Rattle.std.specs.Prelude.{nat_eq, Bool, true, false, not, ◌&&◌, Option, Some, None, List, [], ◌∷◌, find}
+use Rattle.std.specs.Prelude.{ℕ, nat_eq, Bool, true, false, not, ◌&&◌, Option, Some, None, List, [], ◌∷◌, find}
 use Rattle.std.specs.List.{list_any}
 use Rattle.logic_core.specs.Tree.{Tree, call, no_trees}
 use Rattle.logic_core.specs.Def.{Def}
@@ -13,12 +13,9 @@ use Rattle.tableau.specs.Change.{begun, appended_one, changed_at, changed_each}
 use Rattle.tableau.specs.Oriented.{left_side}
 use Rattle.tableau.specs.Move.{Move, on_one}
 
-abbrev pub is_another : Fact → Fact → Bool
-is_another f g = not (nat_eq f.number g.number)
-
--- another fact, in which l occurs
-abbrev pub rewrites : Fact → Tree → Fact → Bool
-rewrites f l g = is_another f g && occurs l g.term
+-- whether g is another fact than that of this number, and l occurs in it
+abbrev pub rewrites : ℕ → Tree → Fact → Bool
+rewrites n l g = not (nat_eq n g.number) && occurs l g.term
 
 abbrev pub is_call : Tree → Bool
 is_call (call f no_trees) = true
@@ -31,7 +28,7 @@ first_call f = find is_call (outside f.term)
 module _ (defs : List Def) where
   -- the left side of an oriented fact that occurs in another fact
   abbrev pub left_in_another : Branch → Fact → Option Tree
-  left_in_another b f = left_side b.vars defs f.term >>= λ l. when (list_any (rewrites f l) b.facts) (Some l)
+  left_in_another b f = left_side b.vars defs f.term >>= λ l. when (list_any (rewrites f.number l) b.facts) (Some l)
 
   -- l becomes r
   abbrev pub rewritten : Branch → Tree → Tree → Tree → Option Tree
@@ -40,7 +37,7 @@ module _ (defs : List Def) where
   -- by the oldest oriented fact whose left side occurs in another fact: in all other facts
   abbrev pub rewritten_by : Branch → Fact → Tree → Option Move
   rewritten_by b f l = says f.term l >>= λ r.
-      changed_each (rewrites f l) (rewritten b l r) (λ g. by_replace g.number f.number l) (begun b) >>= λ m. Some (on_one m)
+      changed_each (rewrites f.number l) (rewritten b l r) (λ g. by_replace g.number f.number l) (begun b) >>= λ m. Some (on_one m)
 
   abbrev pub rewrite : Branch → Attempt Move
   rewrite b = elim (oldest (left_in_another b) b) [ None ↦ none | Some a ↦ unless_wide (rewritten_by b a.fact a.what) ]

@@ -1,5 +1,5 @@
 // Branches, and what a step makes of one.
-ghost use Rattle.std.specs.Prelude.{◌≡◌, List, IfOk, length};
+ghost use Rattle.std.specs.Prelude.{◌≡◌, List, [], IfOk};
 ghost use Rattle.logic_core.specs.Tree.{Kind};
 
 use crate::fact::{Fact, copy_facts};
@@ -42,7 +42,10 @@ impl Made {
 
     /// The branch as it is, before the step's first node.
     pub fn begun(alloc: Global, branch: Branch) -> Made
-        ensures { (vars : List Kind) → made_of vars result ≡ begun (branch_of vars branch) }
+        ensures made { (vars : List Kind) → made_of vars result ≡ begun (branch_of vars branch) }
+        ensures branch { result.branch ≡ branch }
+        ensures steps { result.steps.items ≡ [] }
+        ensures size { result.size ≡ 0 }
     {
         Made {
             branch,

@@ -1,12 +1,18 @@
 // Facts that a step adds and changes.
-ghost use Rattle.std.specs.Prelude.{◌≡◌, ◌<◌, ◌+◌, ℕ, List, [], ◌∷◌, ◌++◌, OnOk, IfOk, length, vec_len, take, drop};
+ghost use Rattle.std.specs.Prelude.{◌≡◌, ◌<◌, ◌+◌, ℕ, List, [], ◌∷◌, ◌++◌, OnOk, IfOk, length, vec_len, take, drop, ◌≤◌, if◌then◌else◌};
 ghost use Rattle.logic_core.specs.Tree.{Kind};
 ghost use Rattle.tableau.specs.Branch.{numbered};
-ghost use Rattle.tableau.specs.Change.{added, added_each, changed_at, with_steps};
+ghost use Rattle.logic_core.specs.Gives.{GivesAs};
+ghost use Rattle.logic_core.specs.Normal.{normal};
+ghost use Rattle.tableau.specs.Change.{added, added_each, kept, changed_at, with_steps};
+ghost use Rattle.tableau.specs.Closing.{each};
 ghost use Rattle.tableau.specs.View.{made_of};
 
 use crate::branch::Made;
 use crate::fact::{Fact, is_there, is_truth};
+use crate::pending::normal;
+use logic_core::def::Signature;
+use logic_core::fault::NormalFault;
 use logic_core::term::Term;
 use std::alloc::{AllocError, Global};
 use std::mem;
@@ -27,6 +33,7 @@ pub fn add(made: &mut Made, fact: Fact) -> Result<(), AllocError>
     ensures { OnOk result ((vars : List Kind) → made_of vars made.new ≡ added fact (made_of vars made.old)) }
 {
     if is_truth(true, fact.term()) || is_there(fact.term(), &made.branch.facts) {
+        discard(fact);
         return Ok(());
     }
     made.size = made.size.saturating_add(fact.term().size());
@@ -50,27 +57,58 @@ pub fn add_each(alloc: Global, made: &mut Made, mut terms: Vec<Term>) -> Result<
     Ok(())
 }
 
+/// Lets a fact go.
+fn discard(_fact: Fact) {}
+
+/// Takes the fact at `at` out.
+pub fn take_out(facts: &mut Vec<Fact>, at: usize)
+    requires { at < vec_len facts.old }
+    ensures { facts.new.items ≡ take at facts.old.items ++ drop (at + 1) facts.old.items }
+{
+    discard(facts.remove(at));
+}
+
 /// Puts a fact in the place of the one at `at`.
 fn put(facts: &mut Vec<Fact>, at: usize, fact: Fact)
     requires { at < vec_len facts.old }
     ensures { facts.new.items ≡ (take at facts.old.items ++ fact ∷ []) ++ drop (at + 1) facts.old.items }
 {
-    let _ = mem::replace(&mut facts[at], fact);
+    discard(mem::replace(&mut facts[at], fact));
 }
 
 /// Puts a changed fact in the place of the one at `at`. It goes away where it is true or equals
-/// another.
-pub fn change_at(made: &mut Made, at: usize, fact: Fact)
+/// another. Whether it stays.
+pub fn change_at(made: &mut Made, at: usize, fact: Fact) -> bool
     requires { at < length made.old.branch.facts.items }
-    ensures { (vars : List Kind) → made_of vars made.new ≡ changed_at at fact (made_of vars made.old) }
+    ensures made { (vars : List Kind) → made_of vars made.new ≡ changed_at at fact (made_of vars made.old) }
+    ensures before { take (if result then at + 1 else at) made.new.branch.facts.items ≡ kept (take at made.old.branch.facts.items) fact (drop (at + 1) made.old.branch.facts.items) }
+    ensures behind { drop (if result then at + 1 else at) made.new.branch.facts.items ≡ drop (at + 1) made.old.branch.facts.items }
+    ensures within { (if result then at + 1 else at) ≤ length made.new.branch.facts.items }
 {
     made.size = made.size.saturating_add(fact.term().size());
     let goes = is_truth(true, fact.term())
         || is_there(fact.term(), &made.branch.facts[..at])
         || is_there(fact.term(), &made.branch.facts[at + 1..]);
     if goes {
-        made.branch.facts.remove(at);
-    } else {
-        put(&mut made.branch.facts, at, fact);
+        take_out(&mut made.branch.facts, at);
+        discard(fact);
+        return false;
     }
+    put(&mut made.branch.facts, at, fact);
+    true
+}
+
+/// The normal forms of formulas. Wide exactly where one leaves 128 bits.
+pub fn normal_forms(
+    alloc: Global,
+    signature: &Signature,
+    terms: &[Term],
+) -> Result<Vec<Term>, NormalFault>
+    ensures { GivesAs (λ v. v.items) result (each (λ t. normal signature.now.vars signature.now.defs [] t) terms.now) }
+{
+    let mut forms = Vec::new(alloc);
+    for term in terms {
+        forms.push(normal(alloc, term, signature)?)?;
+    }
+    Ok(forms)
 }

@@ -33,8 +33,20 @@ pub struct Played {
 }
 
 impl Move {
-    ghost use Rattle.tableau.specs.Move.{cost, branches_of, played};
-    ghost use Rattle.tableau.specs.View.{branch_of, move_of, played_of};
+    ghost use Rattle.tableau.specs.Move.{on_one, cost, branches_of, played};
+    ghost use Rattle.tableau.specs.View.{branch_of, made_of, move_of, played_of};
+
+    /// A step that goes on on one branch.
+    pub fn on_one(alloc: Global, made: Made) -> Result<Move, AllocError>
+        ensures { IfOk result (λ m. (vars : List Kind) → move_of vars m ≡ on_one (made_of vars made)) }
+    {
+        let mut one = Vec::new(alloc);
+        one.push(made)?;
+        Ok(Move {
+            ending: Ending::GoesOn,
+            made: one,
+        })
+    }
 
     /// The turns that the step costs: one, and one for every 64 nodes of the facts that it adds
     /// or changes.

@@ -12,19 +12,19 @@ use logic_core::def::Signature;
 use logic_core::term::Term;
 use std::alloc::{AllocError, Global};
 
-/// Whether the second fact is another one, in which the term occurs.
-fn rewrites(fact: &Fact, left: &Term, other: &Fact) -> bool
-    ensures { result ≡ rewrites fact.now left.now other.now }
+/// Whether this is another fact than that of the number, and the term occurs in it.
+fn rewrites(number: u64, left: &Term, other: &Fact) -> bool
+    ensures { result ≡ rewrites number left.now other.now }
 {
-    fact.number() != other.number() && left.occurs_in(other.term())
+    number != other.number() && left.occurs_in(other.term())
 }
 
-/// Whether the term occurs in another fact.
-fn occurs_in_another(fact: &Fact, left: &Term, facts: &[Fact]) -> bool
-    ensures { result ≡ list_any (rewrites fact.now left.now) facts.now }
+/// Whether the term occurs in another fact than that of the number.
+fn occurs_in_another(number: u64, left: &Term, facts: &[Fact]) -> bool
+    ensures { result ≡ list_any (rewrites number left.now) facts.now }
 {
     for other in facts {
-        if rewrites(fact, left, other) {
+        if rewrites(number, left, other) {
             return true;
         }
     }
@@ -42,7 +42,7 @@ fn left_in_another<'a>(
 {
     match left_side(alloc, signature, fact.term())? {
         Some(left) => {
-            if occurs_in_another(fact, left, facts) {
+            if occurs_in_another(fact.number(), left, facts) {
                 Ok(Some(left))
             } else {
                 Ok(None)
