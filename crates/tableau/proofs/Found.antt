@@ -4,9 +4,8 @@ use Rattle.std.specs.Option.{option_or}
 use Rattle.std.proofs.Common.{get_or, ap, sym, subst, ◌∙◌, arith}
 use Rattle.std.proofs.lemmas.List.{drop_more, take_more}
 use Rattle.std.proofs.lemmas.List.Folds.{find-append}
-use Rattle.std.proofs.lemmas.Option.{some_pair_parts}
 use Rattle.tableau.specs.Branch.{Fact, At, first_from}
-use Rattle.tableau.specs.View.{place_of, found_at}
+use Rattle.tableau.specs.View.{place_of}
 
 -- the rest of a list begins with the item that a loop reads
 pub drop_item : {A : Type 0} (xs : List A) (i : ℕ) (x : A) → i < length xs → x ≡ get_or xs i x → drop i xs ≡ x ∷ drop (i + 1) xs
@@ -47,7 +46,7 @@ found_from {A} test n (f ∷ fs) a h = at_test (test f) refl h (λ k. found_from
         let first : (n ≤ n) × (n < n + suc (length fs)) × ((d : Fact) → get_or (f ∷ fs) (n - n) d ≡ f) × (test f ≡ Some x) = (omega arith, omega arith, λ d. rw here refl, e) in
         subst (λ (y : At A). (n ≤ y.at) × (y.at < n + suc (length fs)) × ((d : Fact) → get_or (f ∷ fs) (y.at - n) d ≡ y.fact) × (test y.fact ≡ Some y.what)) is_a first
 
-abbrev found_at_place : {A : Type 0} (test : Fact → Option A) (fs : List Fact) (a : At A) (k : ℕ) → first_from test 0 fs ≡ Some a → a.at ≡ k → IsFound test fs k
+found_at_place : {A : Type 0} (test : Fact → Option A) (fs : List Fact) (a : At A) (k : ℕ) → first_from test 0 fs ≡ Some a → a.at ≡ k → IsFound test fs k
 found_at_place test fs a k h e = let r = found_from test 0 fs a h in
     let start : a.at - 0 ≡ k = omega (arith, e) in
     record { a = a; is = h; at = e; within = omega (arith, r.1, e); fact = (λ d. rw start at (r.2 d)); what = r.3 }
@@ -58,13 +57,6 @@ found_place {A} test fs k h = at_found (first_from test 0 fs) refl h
     at_found : (o : Option (At A)) → first_from test 0 fs ≡ o → place_of o ≡ Some k → IsFound test fs k
     at_found None e p = absurd (cc)
     at_found (Some a) e p = found_at_place test fs a k e (cc)
-
-pub found_with : {A : Type 0} (test : Fact → Option A) (fs : List Fact) (k : ℕ) (x : A) → found_at (first_from test 0 fs) ≡ Some (k, x) → (f : IsFound test fs k) × (f.a.what ≡ x)
-found_with {A} test fs k x h = at_found (first_from test 0 fs) refl h
-  where
-    at_found : (o : Option (At A)) → first_from test 0 fs ≡ o → found_at o ≡ Some (k, x) → (f : IsFound test fs k) × (f.a.what ≡ x)
-    at_found None e p = absurd (cc)
-    at_found (Some a) e p = let parts = some_pair_parts a.at k a.what x p in (found_at_place test fs a k e parts.0, parts.1)
 
 -- what a read at that place gives
 pub read_found : {A : Type 0} {test : Fact → Option A} {fs : List Fact} {k : ℕ} (f : IsFound test fs k) (x : Fact) → x ≡ get_or fs k x → x ≡ f.a.fact

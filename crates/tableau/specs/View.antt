@@ -49,11 +49,6 @@ abbrev pub place_of : {A : Type 0} → Option (branch.At A) → Option ℕ
 place_of None = None
 place_of (Some a) = Some a.at
 
--- the place of a fact, and what is found in it
-abbrev pub found_at : {A : Type 0} → Option (branch.At A) → Option (ℕ × A)
-found_at None = None
-found_at (Some a) = Some (a.at, a.what)
-
 -- a close by facts of these numbers, where there is one
 abbrev pub close_of : Option (ℕ × ℕ) → branch.Attempt move.Move
 close_of None = branch.none

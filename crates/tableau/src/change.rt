@@ -2,9 +2,11 @@
 ghost use Rattle.std.specs.Prelude.{◌≡◌, ◌<◌, ◌+◌, ℕ, List, [], ◌∷◌, ◌++◌, OnOk, IfOk, length, vec_len, take, drop, ◌≤◌, if◌then◌else◌};
 ghost use Rattle.logic_core.specs.Tree.{Kind};
 ghost use Rattle.tableau.specs.Branch.{numbered};
-ghost use Rattle.logic_core.specs.Gives.{GivesAs};
+ghost use Rattle.logic_core.specs.Gives.{Gives, GivesAs};
 ghost use Rattle.logic_core.specs.Normal.{normal};
-ghost use Rattle.tableau.specs.Change.{added, added_each, kept, changed_at, with_steps};
+ghost use Rattle.logic_core.specs.Subterm.{replaced};
+ghost use Rattle.proof_core.specs.View.{step_of};
+ghost use Rattle.tableau.specs.Change.{added, added_each, kept, changed_at, with_steps, appended_one};
 ghost use Rattle.tableau.specs.Closing.{each};
 ghost use Rattle.tableau.specs.View.{made_of};
 
@@ -13,7 +15,9 @@ use crate::fact::{Fact, is_there, is_truth};
 use crate::pending::normal;
 use logic_core::def::Signature;
 use logic_core::fault::NormalFault;
+use logic_core::replace::replace;
 use logic_core::term::Term;
+use proof_core::proof::Step;
 use std::alloc::{AllocError, Global};
 use std::mem;
 
@@ -22,6 +26,7 @@ use std::mem;
 pub fn next_number(made: &mut Made) -> Result<u64, AllocError>
     ensures number { IfOk result (λ n. n ≡ made.old.branch.next) }
     ensures rest { OnOk result ((vars : List Kind) → made_of vars made.new ≡ with_steps [] 1 (made_of vars made.old)) }
+    ensures facts { OnOk result (made.new.branch.facts ≡ made.old.branch.facts) }
 {
     let number = made.branch.next;
     made.branch.next = number.checked_add(1).ok_or(AllocError)?;
@@ -96,6 +101,41 @@ pub fn change_at(made: &mut Made, at: usize, fact: Fact) -> bool
     }
     put(&mut made.branch.facts, at, fact);
     true
+}
+
+/// Changes the fact at `at` to this normal term by one more node, which appends it. Whether it
+/// stays.
+pub fn change_by(
+    alloc: Global,
+    made: &mut Made,
+    at: usize,
+    step: Step,
+    term: Term,
+) -> Result<bool, AllocError>
+    requires { at < length made.old.branch.facts.items }
+    ensures made { OnOk result ((vars : List Kind) → made_of vars made.new ≡ (let p = appended_one (step_of step ∷ []) term (made_of vars made.old) in changed_at at p.0 p.1)) }
+    ensures before { IfOk result (λ stays. take (if stays then at + 1 else at) made.new.branch.facts.items ≡ kept (take at made.old.branch.facts.items) (record { term = term; number = made.old.branch.next }) (drop (at + 1) made.old.branch.facts.items)) }
+    ensures behind { IfOk result (λ stays. drop (if stays then at + 1 else at) made.new.branch.facts.items ≡ drop (at + 1) made.old.branch.facts.items) }
+    ensures within { IfOk result (λ stays. (if stays then at + 1 else at) ≤ length made.new.branch.facts.items) }
+{
+    made.steps.push(step)?;
+    let number = next_number(made)?;
+    let fact = Fact::new(alloc, term, number)?;
+    Ok(change_at(made, at, fact))
+}
+
+/// The normal form of a formula with a term replaced. Wide exactly where it leaves 128 bits.
+pub fn replaced_form(
+    alloc: Global,
+    signature: &Signature,
+    formula: &Term,
+    old: &Term,
+    new: &Term,
+) -> Result<Term, NormalFault>
+    ensures { Gives result (normal signature.now.vars signature.now.defs [] (replaced old.now new.now formula.now)) }
+{
+    let changed = replace(alloc, formula, old, new)?;
+    normal(alloc, &changed, signature)
 }
 
 /// The normal forms of formulas. Wide exactly where one leaves 128 bits.

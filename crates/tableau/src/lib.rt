@@ -16,3 +16,4 @@ pub mod pending;
 pub mod played;
 pub mod rewriting;
 pub mod splitting;
+pub mod unfolding;

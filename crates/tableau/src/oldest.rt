@@ -1,12 +1,11 @@
 // The oldest facts at which rules can be applied.
-ghost use Rattle.std.specs.Prelude.{◌≡◌, is_some, option_map, ℕ};
-ghost use Rattle.logic_core.specs.Tree.{Tree};
+ghost use Rattle.std.specs.Prelude.{◌≡◌, is_some};
 ghost use Rattle.proof_core.specs.Ends.{cases};
 ghost use Rattle.tableau.specs.Branch.{first_from};
 ghost use Rattle.tableau.specs.Closing.{conjuncts_of, as_all};
 ghost use Rattle.tableau.specs.Rewriting.{first_call};
 ghost use Rattle.tableau.specs.Splitting.{cases_of};
-ghost use Rattle.tableau.specs.View.{place_of, found_at};
+ghost use Rattle.tableau.specs.View.{place_of};
 
 use crate::fact::Fact;
 use crate::outside;
@@ -56,14 +55,13 @@ pub fn oldest_or(facts: &[Fact]) -> Option<usize>
     None
 }
 
-/// The place of the oldest fact with a call without arguments outside quantifiers, and its first
-/// such call.
-pub fn oldest_call(facts: &[Fact]) -> Option<(usize, &Term)>
-    ensures { option_map (λ p. (p.0, p.1.now)) result ≡ found_at (first_from first_call 0 facts.now) }
+/// The place of the oldest fact with a call without arguments outside quantifiers.
+pub fn oldest_call(facts: &[Fact]) -> Option<usize>
+    ensures { result ≡ place_of (first_from first_call 0 facts.now) }
 {
     for (i, fact) in facts.iter().enumerate() {
-        if let Some(call) = outside::first_call(fact.term()) {
-            return Some((i, call));
+        if outside::first_call(fact.term()).is_some() {
+            return Some(i);
         }
     }
     None

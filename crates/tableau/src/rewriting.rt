@@ -1,10 +1,10 @@
 // The rules that rewrite facts.
-ghost use Rattle.std.specs.Prelude.{◌≡◌, ℕ, [], IfOk, option_map};
+ghost use Rattle.std.specs.Prelude.{◌≡◌, [], IfOk};
 ghost use Rattle.std.specs.List.{list_any};
 ghost use Rattle.std.specs.Option.{option_copied};
 ghost use Rattle.tableau.specs.Branch.{first_from};
 ghost use Rattle.tableau.specs.Rewriting.{rewrites, left_in_another};
-ghost use Rattle.tableau.specs.View.{found_at};
+ghost use Rattle.tableau.specs.View.{place_of};
 
 use crate::fact::Fact;
 use crate::oriented::left_side;
@@ -52,18 +52,17 @@ fn left_in_another<'a>(
     }
 }
 
-/// The place of the oldest oriented fact whose left side occurs in another fact, and its left
-/// side.
-pub fn oldest_rewriting<'a>(
+/// The place of the oldest oriented fact whose left side occurs in another fact.
+pub fn oldest_rewriting(
     alloc: Global,
     signature: &Signature,
-    facts: &'a [Fact],
-) -> Result<Option<(usize, &'a Term)>, AllocError>
-    ensures { IfOk result (λ o. option_map (λ p. (p.0, p.1.now)) o ≡ found_at (first_from (left_in_another signature.now.defs (record { facts = facts.now; vars = signature.now.vars; next = 0 })) 0 facts.now)) }
+    facts: &[Fact],
+) -> Result<Option<usize>, AllocError>
+    ensures { IfOk result (λ o. o ≡ place_of (first_from (left_in_another signature.now.defs (record { facts = facts.now; vars = signature.now.vars; next = 0 })) 0 facts.now)) }
 {
     for (i, fact) in facts.iter().enumerate() {
-        if let Some(left) = left_in_another(alloc, signature, facts, fact)? {
-            return Ok(Some((i, left)));
+        if left_in_another(alloc, signature, facts, fact)?.is_some() {
+            return Ok(Some(i));
         }
     }
     Ok(None)
