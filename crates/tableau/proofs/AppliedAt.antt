@@ -3,7 +3,10 @@ use Rattle.std.specs.Prelude.{◌≡◌, refl, ℕ, ◌+◌, Bool, Option, Some,
 use Rattle.std.proofs.Common.{ap, sym, subst, ◌∙◌}
 use Rattle.logic_core.specs.Tree.{Tree, Trees, no_trees}
 use Rattle.logic_core.specs.Def.{Def}
-use Rattle.logic_core.specs.Wide.{◌>>=◌}
+use Rattle.std.specs.List.{list_any}
+use Rattle.logic_core.specs.Wide.{◌>>=◌, when}
+use Rattle.logic_laws.proofs.Options.{bind_some, when_some}
+use Rattle.tableau.specs.Oriented.{left_side}
 use Rattle.logic_core.specs.Normal.{normal}
 use Rattle.logic_core.specs.Subterm.{listed}
 use Rattle.logic_core.specs.Subterm.{replaced}
@@ -82,12 +85,13 @@ module _ (defs : List Def) (b : Branch) (k : ℕ) (f : IsFound (left_in_another 
   pub says_nothing : says (f.a.fact).term f.a.what ≡ None → applied (left_in_another defs b) rewriting b ≡ None
   says_nothing h = applied_at (left_in_another defs b) rewriting b k f ∙ ap by_right h
 
-  pub rewrites_not : (r : Tree) → says (f.a.fact).term f.a.what ≡ Some r
-      → changed_each (rewrites (f.a.fact).number f.a.what) (rewritten defs b f.a.what r) (λ g. by_replace g.number (f.a.fact).number f.a.what) (begun b) ≡ None
-      → applied (left_in_another defs b) rewriting b ≡ None
-  rewrites_not r h e = applied_at (left_in_another defs b) rewriting b k f ∙ ap by_right h ∙ ap (λ (o : Option Made). o >>= λ m. Some (on_one m)) e
+  pub rewrites_as : (r : Tree) → says (f.a.fact).term f.a.what ≡ Some r
+      → applied (left_in_another defs b) rewriting b ≡ (changed_each (rewrites (f.a.fact).number f.a.what) (rewritten defs b f.a.what r) (λ g. by_replace g.number (f.a.fact).number f.a.what) (begun b) >>= λ m. Some (on_one m))
+  rewrites_as r h = applied_at (left_in_another defs b) rewriting b k f ∙ ap by_right h
 
-  pub rewrites_to : (r : Tree) (m : Made) → says (f.a.fact).term f.a.what ≡ Some r
-      → changed_each (rewrites (f.a.fact).number f.a.what) (rewritten defs b f.a.what r) (λ g. by_replace g.number (f.a.fact).number f.a.what) (begun b) ≡ Some m
-      → applied (left_in_another defs b) rewriting b ≡ Some (on_one m)
-  rewrites_to r m h e = applied_at (left_in_another defs b) rewriting b k f ∙ ap by_right h ∙ ap (λ (o : Option Made). o >>= λ m. Some (on_one m)) e
+  -- it has a left side
+  pub left_found : left_side b.vars defs (f.a.fact).term ≡ Some f.a.what
+  left_found =
+      let p = bind_some (left_side b.vars defs (f.a.fact).term) (λ l. when (list_any (rewrites (f.a.fact).number l) b.facts) (Some l)) f.a.what f.what in
+      let same : p.0 ≡ f.a.what = (when_some (list_any (rewrites (f.a.fact).number p.0) b.facts) p.0 f.a.what p.2).1 in
+      p.1 ∙ ap Some same

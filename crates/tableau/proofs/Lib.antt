@@ -2,6 +2,7 @@ mod SearchExamples
 pub mod Turns
 pub mod Reversed
 pub mod Moves
+pub mod Changing
 pub mod Listed
 pub mod AppliedAt
 pub mod Found

@@ -1,7 +1,15 @@
 -- What the search's data stand for: branches over these variables, what a step made of them, and proofs under way.
-use Rattle.std.specs.Prelude.{ℕ, Option, Some, None, Vec, List, [], map, reverse}
+use Rattle.std.specs.Prelude.{ℕ, Option, Some, None, Vec, List, [], take, drop, map, reverse}
 use Rattle.std.specs.declared.alloc.Global.{Global}
-use Rattle.logic_core.specs.Tree.{Kind}
+use Rattle.logic_core.specs.Tree.{Kind, Tree}
+use Rattle.logic_core.specs.Def.{Signature}
+use Rattle.logic_core.specs.Normal.{normal}
+use Rattle.logic_core.specs.Subterm.{replaced}
+use Rattle.logic_core.specs.Wide.{◌>>=◌}
+use Rattle.proof_core.specs.Proof.{by_replace}
+use Rattle.tableau.specs.Change.{emptied, begun, changed_from, changed_each}
+use Rattle.tableau.specs.Move.{on_one}
+use Rattle.tableau.specs.Rewriting.{rewrites}
 use Rattle.proof_core.specs.Proof as proofs
 use Rattle.proof_core.specs.View.{steps_of}
 use Rattle.proof_core.specs.ProofView.{end_of}
@@ -53,3 +61,11 @@ place_of (Some a) = Some a.at
 abbrev pub close_of : Option (ℕ × ℕ) → branch.Attempt move.Move
 close_of None = branch.none
 close_of (Some p) = branch.gives (record { ending = move.closes p.0 p.1; made = [] })
+
+-- the facts from place k on rewritten, where those before it are done: l becomes r by fact n
+abbrev pub rewritten_from : Signature → ℕ → Tree → Tree → Made → ℕ → Option change.Made
+rewritten_from s n l r m k = changed_from (rewrites n l) (λ t. normal s.vars s.defs [] (replaced l r t)) (λ g. by_replace g.number n l) (take k m.branch.facts.items) (drop k m.branch.facts.items) (emptied (made_of s.vars m))
+
+-- the move that rewrites all other facts
+abbrev pub rewritten_all : Signature → ℕ → Tree → Tree → Branch → Option move.Move
+rewritten_all s n l r b = changed_each (rewrites n l) (λ t. normal s.vars s.defs [] (replaced l r t)) (λ g. by_replace g.number n l) (begun (branch_of s.vars b)) >>= λ m. Some (on_one m)

@@ -1,5 +1,5 @@
 // Facts that a step adds and changes.
-ghost use Rattle.std.specs.Prelude.{◌≡◌, ◌<◌, ◌+◌, ℕ, List, [], ◌∷◌, ◌++◌, OnOk, IfOk, length, vec_len, take, drop, ◌≤◌, if◌then◌else◌};
+ghost use Rattle.std.specs.Prelude.{◌≡◌, ◌<◌, ◌+◌, ℕ, List, [], ◌∷◌, ◌++◌, OnOk, IfOk, length, vec_len, take, drop, ◌≤◌};
 ghost use Rattle.logic_core.specs.Tree.{Kind};
 ghost use Rattle.tableau.specs.Branch.{numbered};
 ghost use Rattle.logic_core.specs.Gives.{Gives, GivesAs};
@@ -82,13 +82,13 @@ fn put(facts: &mut Vec<Fact>, at: usize, fact: Fact)
 }
 
 /// Puts a changed fact in the place of the one at `at`. It goes away where it is true or equals
-/// another. Whether it stays.
-pub fn change_at(made: &mut Made, at: usize, fact: Fact) -> bool
+/// another. The place of the fact that comes next.
+pub fn change_at(made: &mut Made, at: usize, fact: Fact) -> usize
     requires { at < length made.old.branch.facts.items }
     ensures made { (vars : List Kind) → made_of vars made.new ≡ changed_at at fact (made_of vars made.old) }
-    ensures before { take (if result then at + 1 else at) made.new.branch.facts.items ≡ kept (take at made.old.branch.facts.items) fact (drop (at + 1) made.old.branch.facts.items) }
-    ensures behind { drop (if result then at + 1 else at) made.new.branch.facts.items ≡ drop (at + 1) made.old.branch.facts.items }
-    ensures within { (if result then at + 1 else at) ≤ length made.new.branch.facts.items }
+    ensures before { take result made.new.branch.facts.items ≡ kept (take at made.old.branch.facts.items) fact (drop (at + 1) made.old.branch.facts.items) }
+    ensures behind { drop result made.new.branch.facts.items ≡ drop (at + 1) made.old.branch.facts.items }
+    ensures within { result ≤ length made.new.branch.facts.items }
 {
     made.size = made.size.saturating_add(fact.term().size());
     let goes = is_truth(true, fact.term())
@@ -97,26 +97,26 @@ pub fn change_at(made: &mut Made, at: usize, fact: Fact) -> bool
     if goes {
         take_out(&mut made.branch.facts, at);
         discard(fact);
-        return false;
+        return at;
     }
     put(&mut made.branch.facts, at, fact);
-    true
+    at + 1
 }
 
-/// Changes the fact at `at` to this normal term by one more node, which appends it. Whether it
-/// stays.
+/// Changes the fact at `at` to this normal term by one more node, which appends it. The place of
+/// the fact that comes next.
 pub fn change_by(
     alloc: Global,
     made: &mut Made,
     at: usize,
     step: Step,
     term: Term,
-) -> Result<bool, AllocError>
+) -> Result<usize, AllocError>
     requires { at < length made.old.branch.facts.items }
     ensures made { OnOk result ((vars : List Kind) → made_of vars made.new ≡ (let p = appended_one (step_of step ∷ []) term (made_of vars made.old) in changed_at at p.0 p.1)) }
-    ensures before { IfOk result (λ stays. take (if stays then at + 1 else at) made.new.branch.facts.items ≡ kept (take at made.old.branch.facts.items) (record { term = term; number = made.old.branch.next }) (drop (at + 1) made.old.branch.facts.items)) }
-    ensures behind { IfOk result (λ stays. drop (if stays then at + 1 else at) made.new.branch.facts.items ≡ drop (at + 1) made.old.branch.facts.items) }
-    ensures within { IfOk result (λ stays. (if stays then at + 1 else at) ≤ length made.new.branch.facts.items) }
+    ensures before { IfOk result (λ k. take k made.new.branch.facts.items ≡ kept (take at made.old.branch.facts.items) (record { term = term; number = made.old.branch.next }) (drop (at + 1) made.old.branch.facts.items)) }
+    ensures behind { IfOk result (λ k. drop k made.new.branch.facts.items ≡ drop (at + 1) made.old.branch.facts.items) }
+    ensures within { IfOk result (λ k. k ≤ length made.new.branch.facts.items) }
 {
     made.steps.push(step)?;
     let number = next_number(made)?;
