@@ -13,3 +13,5 @@ pub mod Outcomes
 pub mod RulesGo
 pub mod RewritesGo
 pub mod Refuting
+pub mod Stepping
+pub mod Tried

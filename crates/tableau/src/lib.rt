@@ -16,4 +16,5 @@ pub mod pending;
 pub mod played;
 pub mod rewriting;
 pub mod splitting;
+pub mod step;
 pub mod unfolding;
