@@ -9,3 +9,4 @@ pub mod Splitting
 pub mod Applied
 pub mod Search
 pub mod View
+pub mod RunView
