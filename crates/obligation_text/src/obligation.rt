@@ -1,7 +1,7 @@
 // Obligations.
 ghost use Rattle.std.specs.Prelude.{◌≡◌, [], IsTrue, All};
 ghost use Rattle.logic_core.specs.Sorts.{bodies_sorted};
-ghost use Rattle.obligation_text.specs.WellSorted.{IsFormula};
+ghost use Rattle.obligation_text.specs.WellSorted.{IsFormula, IsWellSorted};
 
 use logic_core::def::Signature;
 use logic_core::sequence::Sequence;
@@ -48,26 +48,24 @@ impl Obligation {
         }
     }
 
-    /// The sorts of the variables, and the definitions.
+    /// The sorts of the variables, and the definitions. The obligation is well sorted over them.
     pub fn signature(&self) -> &Signature
         ensures value { result.now ≡ record { vars = self.now.vars; defs = self.now.defs } }
-        ensures sorted { IsTrue (bodies_sorted self.now.vars [] self.now.defs) }
+        ensures sorted { IsWellSorted self.now }
     {
         &self.signature
     }
 
     /// The axioms, in order.
     pub fn axioms(&self) -> &[Term]
-        ensures value { result.now ≡ self.now.axioms }
-        ensures sorted { All (IsFormula self.now.vars self.now.defs) self.now.axioms }
+        ensures { result.now ≡ self.now.axioms }
     {
         self.axioms.as_slice()
     }
 
     /// The goal.
     pub fn goal(&self) -> &Term
-        ensures value { result.now ≡ self.now.goal }
-        ensures sorted { IsFormula self.now.vars self.now.defs self.now.goal }
+        ensures { result.now ≡ self.now.goal }
     {
         &self.goal
     }

@@ -15,3 +15,5 @@ pub mod RewritesGo
 pub mod Refuting
 pub mod Stepping
 pub mod Tried
+pub mod FoundWhereProved
+pub mod Starting

@@ -85,6 +85,7 @@ first_refutes defs c (q ∷ ps) p r h = let is_p : q ≡ p = cc in subst (Refute
 
 -- the proof that the search finds is accepted
 pub finds_accepted : FindsAccepted
+unfolding answer
 finds_accepted o n p sorted h = at_start (start o) refl h
   where
     at_start : (s : Option Context) → start o ≡ s → (let a : Answer = elim s [ | None ↦ record { verdict = wide; found = None } | Some c ↦ answer_of (run o.defs n n (first_branch c ∷ [])) ] in a.found) ≡ Some p → IsAccepted o p

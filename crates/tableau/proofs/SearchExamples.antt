@@ -9,11 +9,11 @@ use Rattle.logic_core.proofs.Samples.{incremented}
 
 -- (u 0 (f0)) (s 1) (e 4 3 v1) (c 2 5), in four turns
 four_turns : answer incremented 4 ≡ record { verdict = proved; found = Some (proof (by_unfold 0 (call 0 no_trees) ∷ by_split 1 ∷ by_replace 4 3 (free 1) ∷ []) (by_close 2 5)) }
-unfolding first step
+unfolding first step answer
 four_turns = refl
 
 three_turns : answer incremented 3 ≡ record { verdict = turns; found = None }
-unfolding first step
+unfolding first step answer
 three_turns = refl
 
 -- `var x: int; assume x > 0; x := x + 1; assert x > 2;`
@@ -34,5 +34,5 @@ too_much = record {
 }
 
 not_proved : answer too_much 1000000 ≡ record { verdict = «open»; found = None }
-unfolding first step
+unfolding first step answer
 not_proved = refl

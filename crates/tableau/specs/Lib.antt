@@ -10,3 +10,4 @@ pub mod Applied
 pub mod Search
 pub mod View
 pub mod RunView
+pub mod Settled

@@ -1,5 +1,5 @@
 -- The search: a step applies the first rule that can be applied, on the top branch; the verdict, and the proof made of the steps' nodes.
-use Rattle.std.specs.Prelude.{◌≡◌, ℕ, zero, suc, ◌+◌, ◌-◌, nat_lt, true, false, Option, Some, None, List, [], ◌∷◌, ◌++◌, length, drop, slice_get}
+use Rattle.std.specs.Prelude.{◌≡◌, ℕ, zero, suc, ◌+◌, ◌-◌, nat_lt, Bool, true, false, is_some, Option, Some, None, List, [], ◌∷◌, ◌++◌, length, drop, slice_get}
 use Rattle.logic_core.specs.Def.{Def, Obligation}
 use Rattle.proof_core.specs.Proof.{Step, Proof, proof, by_close, by_cases}
 use Rattle.proof_core.specs.View.{proofs_of}
@@ -29,6 +29,10 @@ pub data Verdict : Type 0 where
   «open» : Verdict
   turns : Verdict
   wide : Verdict
+
+abbrev pub is_proved : Verdict → Bool
+is_proved proved = true
+is_proved v = false
 
 -- the verdict, and what the proof needs of the moves
 pub record Run : Type 0 where
@@ -98,7 +102,7 @@ found_by v ms = None
 abbrev pub answer_of : Run → Answer
 answer_of r = record { verdict = r.verdict; found = found_by r.verdict r.moves }
 
-abbrev pub answer : Obligation → ℕ → Answer
+unfoldable pub answer : Obligation → ℕ → Answer
 answer o n = elim (start o) [
   | None ↦ record { verdict = wide; found = None }
   | Some c ↦ answer_of (run o.defs n n (first_branch c ∷ []))
@@ -107,3 +111,7 @@ answer o n = elim (start o) [
 -- the proof that is found for a well-sorted obligation is accepted
 abbrev pub FindsAccepted : Type 0
 FindsAccepted = (o : Obligation) (n : ℕ) (p : Proof) → IsWellSorted o → (answer o n).found ≡ Some p → IsAccepted o p
+
+-- there is a proof exactly where the verdict is proved
+abbrev pub FindsWhereProved : Type 0
+FindsWhereProved = (o : Obligation) (n : ℕ) → is_some (answer o n).found ≡ is_proved (answer o n).verdict
