@@ -1,4 +1,4 @@
-// Definitions and signatures.
+// Definitions, and signatures, over which terms stand.
 ghost use Rattle.std.specs.Prelude.{◌≡◌, [], ◌∷◌, ◌++◌, IsTrue, IfOk, OnOk, OnErr};
 ghost use Rattle.logic_core.specs.Sorts.{bodies_sorted};
 
@@ -9,14 +9,16 @@ use crate::term::Term;
 use std::alloc::{AllocError, Global};
 use std::marker::Model;
 
-/// A definition: the sorts of its parameters, its own sort, whether it is logical (its body has a
-/// quantifier or applies a logical definition), and its body, in which the last parameter is
-/// `Bound(0)`.
+/// A definition, whose applications stand for its body.
 #[derive(Drop)]
 pub struct Def {
+    /// The sorts of the parameters.
     pub params: Sequence<Sort>,
+    /// The sort of its applications.
     pub sort: Sort,
+    /// Whether the body has a quantifier or applies a logical definition.
     pub logical: bool,
+    /// The body, in which `Bound(0)` is the last parameter.
     pub body: Term,
 }
 

@@ -1,5 +1,4 @@
 // Why a normal form can't be given.
-
 ghost use Rattle.std.specs.Prelude.{◌≡◌};
 
 use std::alloc::{AllocError, AllocFailed};

@@ -1,4 +1,4 @@
-// Where a term occurs in another.
+// Whether a term occurs in another.
 ghost use Rattle.std.specs.Prelude.{◌≡◌};
 ghost use Rattle.logic_core.specs.View.{trees_of, parts_of, patterns_of, each_items};
 ghost use Rattle.logic_core.specs.Same.{same_term};
@@ -33,6 +33,7 @@ impl Term {
         }
     }
 
+    // Whether it occurs in any of the terms.
     #[cycle(occurs)]
     fn occurs_in_any(&self, terms: &[Term]) -> bool
         ensures { result ≡ has_any (same_term self.now) (trees_of terms.now) }
@@ -45,6 +46,7 @@ impl Term {
         false
     }
 
+    // Whether it occurs in any of the atoms.
     #[cycle(occurs)]
     fn occurs_in_part(&self, parts: &[(i128, Term)]) -> bool
         ensures { result ≡ has_part (same_term self.now) (parts_of parts.now) }
@@ -57,6 +59,7 @@ impl Term {
         false
     }
 
+    // Whether it occurs in any of the patterns.
     #[cycle(occurs)]
     fn occurs_in_pattern(&self, patterns: &[Vec<Term>]) -> bool
         ensures { result ≡ has_pattern (same_term self.now) (patterns_of (each_items patterns.now)) }

@@ -1,4 +1,4 @@
-// Terms with a part replaced.
+// Terms with every occurrence of a term replaced. The result need not be in normal form.
 ghost use Rattle.std.specs.Prelude.{◌≡◌, IfOk};
 ghost use Rattle.logic_core.specs.View.{trees_of, parts_of, patterns_of, each_items};
 ghost use Rattle.logic_core.specs.Same.{same_term};

@@ -1,4 +1,4 @@
-// Whether two sorts or two terms are the same.
+// Whether two sorts or two terms are the same: the same constructs with the same numbers.
 ghost use Rattle.std.specs.Prelude.{◌≡◌};
 ghost use Rattle.logic_core.specs.View.{trees_of, parts_of, patterns_of, each_items};
 ghost use Rattle.logic_core.specs.Same.{same_kind, same_kinds, same_term, same_trees, same_parts, same_patterns};

@@ -1,4 +1,6 @@
-// The sort of a term, where it is well sorted.
+// The sort of a term, where it is well sorted: each construct has parts of the sorts that it is
+// for, a Call has the definition's parameters, both branches of an If and both sides of an Eq have
+// one sort, and triggers are well sorted, of any sorts.
 ghost use Rattle.std.specs.Prelude.{◌≡◌, ◌++◌, ◌&&◌, reverse, IfOk, slice_get, Some};
 ghost use Rattle.logic_core.specs.Tree.{int, boolean};
 ghost use Rattle.logic_core.specs.View.{trees_of, parts_of, patterns_of, each_items};
@@ -52,7 +54,11 @@ fn sort_at(alloc: Global, sorts: &[Sort], number: u64) -> Result<Option<Sort>, A
 }
 
 /// The sorts of the bound variables in reach of a binder's body: the binder's last variable first.
-fn within_binder(alloc: Global, sorts: &[Sort], bound: &[Sort]) -> Result<Vec<Sort>, AllocError>
+pub(crate) fn within_binder(
+    alloc: Global,
+    sorts: &[Sort],
+    bound: &[Sort],
+) -> Result<Vec<Sort>, AllocError>
     ensures { IfOk result (λ v. v.items ≡ reverse sorts.now ++ bound.now) }
 {
     let mut reach = copy_sorts(alloc, sorts)?;
@@ -217,6 +223,7 @@ fn are(
     Ok(sorts.len() == terms.len())
 }
 
+/// Whether the terms are well sorted formulas.
 #[cycle(sorts)]
 fn are_formulas(
     alloc: Global,
@@ -234,6 +241,7 @@ fn are_formulas(
     Ok(true)
 }
 
+/// Whether the atoms are well sorted, of sort Int.
 #[cycle(sorts)]
 fn are_ints(
     alloc: Global,
@@ -269,6 +277,7 @@ fn have_sorts(
     Ok(true)
 }
 
+/// Whether the patterns' terms are well sorted, of any sorts.
 #[cycle(sorts)]
 fn have_sorts_in(
     alloc: Global,

@@ -1,4 +1,6 @@
-// The normal form of sums and products.
+// The normal form of sums and products. A sum is made from its constant by adding its parts, left
+// to right: a Sum in a part is scaled and its parts are taken, a number goes to the constant, equal
+// atoms join, and an atom whose coefficient becomes zero drops. Atoms stand in falling order.
 ghost use Rattle.std.specs.Prelude.{◌≡◌, ◌≤◌, ◌<◌, ◌+◌, ℤ, pos, take, drop, vec_len, slice_index_or, option_map, IfOk};
 ghost use Rattle.logic_core.specs.Tree.{Tree, linear};
 ghost use Rattle.logic_core.specs.View.{parts_of};

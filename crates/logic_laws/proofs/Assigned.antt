@@ -57,7 +57,7 @@ module _ (frees : List Value) (defs : List Def) where
   some_value : (t : Tree) (b : List Value) → ((r : Value) → Is t b r → ⊥) → ⊥
   some_value t b go = gives frees (calls_of frees defs) has keep t b go
 
-  same_by : (t u : Tree) (b b' : List Value) → ((r : Value) → Is t b r → Is u b' r) → Same (Of t b) (Of u b')
+  pub same_by : (t u : Tree) (b b' : List Value) → ((r : Value) → Is t b r → Is u b' r) → Same (Of t b) (Of u b')
   same_by t u b b' f = same_values frees (calls_of frees defs) has keep frees (calls_of frees defs) has keep t u b b' f
 
   -- from what both say: one value, and one truth
@@ -70,10 +70,10 @@ module _ (frees : List Value) (defs : List Def) where
   pub holds_stable : (t : Tree) (b : List Value) → Stable (HoldsThere frees defs t b)
   holds_stable t b = kept t b (λ v. IsTrue (holds v)) (λ v. true_stable (holds v))
 
-  value_is : (t : Tree) (b : List Value) (r : Value) → Is t b r → ValueIs frees defs t b r
+  pub value_is : (t : Tree) (b : List Value) (r : Value) → Is t b r → ValueIs frees defs t b r
   value_is t b r g = (says t b r g (λ v. v ≡ r) (λ v. value_stable v r)).1 refl
 
-  is_value : (t : Tree) (b : List Value) (r w : Value) → Is t b r → ValueIs frees defs t b w → r ≡ w
+  pub is_value : (t : Tree) (b : List Value) (r w : Value) → Is t b r → ValueIs frees defs t b w → r ≡ w
   is_value t b r w g h = (says t b r g (λ v. v ≡ w) (λ v. value_stable v w)).0 h
 
   pub value_exists : (t : Tree) (b : List Value) → ((w : Value) → ValueIs frees defs t b w → ⊥) → ⊥
@@ -101,7 +101,7 @@ module _ (vars : List Kind) (defs : List Def) (frees : List Value) (assigned : I
   abbrev says_of : Tree → List Value → Said → Type 0
   says_of t b P = With frees (calls_of frees defs) t b P
 
-  call_sorts : CallsHaveSorts defs (calls_of frees defs)
+  pub call_sorts : CallsHaveSorts defs (calls_of frees defs)
   call_sorts = defined_sorts vars frees assigned.1 defs assigned.0
 
   -- the value of a well-sorted term is of its sort

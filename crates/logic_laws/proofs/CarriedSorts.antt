@@ -1,4 +1,5 @@
 -- Where the parts of a term are changed and keep their sorts, the term keeps its own; also over other variables, definitions and binders.
+-- Here f, g and h carry the sorts of the parts, s is the sort of the term, p the sorts of its parts.
 use Rattle.std.proofs.Common.{◌≡◌, refl, sym, subst, ℕ, ℤ, true, ◌&&◌, Some, List, [], ◌∷◌, ◌++◌, reverse, slice_get}
 use Rattle.logic_core.specs.Tree.{Kind, int, boolean, map, Tree, linear, mul, read, write, choose, call, negation, all, some, equal, at_most, for_all, Trees, no_trees, tree, Parts, part, Patterns, pattern}
 use Rattle.logic_core.specs.Def.{Def}

@@ -39,7 +39,7 @@ gcd_within_divides (suc turns) a b h = gcd_by (nat_eq b 0) turns a b refl h (λ 
     below : (b ≡ 0 → ⊥) → a % b < turns
     below ne = omega arith
 
-gcd_divides : (a b : ℕ) → Divides (gcd a b) a × Divides (gcd a b) b
+pub gcd_divides : (a b : ℕ) → Divides (gcd a b) a × Divides (gcd a b) b
 gcd_divides a b = gcd_within_divides (b + 1) a b (omega arith)
 
 -- the natural number g divides the integer k
@@ -54,7 +54,7 @@ abbrev pub DividesParts : ℕ → Parts → Type 0
 DividesParts g no_parts = Unit {0}
 DividesParts g (part k t ps) = DividesInt g k × DividesParts g ps
 
-divides_parts : (ps : Parts) (d : ℕ) → Divides d (parts_gcd ps) → DividesParts d ps
+pub divides_parts : (ps : Parts) (d : ℕ) → Divides d (parts_gcd ps) → DividesParts d ps
 divides_parts no_parts d h = tt
 divides_parts (part k t ps) d h = let g = gcd_divides (parts_gcd ps) (unsigned_abs k) in
     (divides_int d k (divides_through d (gcd (parts_gcd ps) (unsigned_abs k)) (unsigned_abs k) h g.1), divides_parts ps d (divides_through d (gcd (parts_gcd ps) (unsigned_abs k)) (parts_gcd ps) h g.0))
@@ -68,7 +68,7 @@ floor_is (pos n) g h = (n % g, omega arith, let e : n ≡ g * (n / g) + n % g = 
 floor_is (negsuc n) g h = (g - 1 - n % g, omega arith, let e : n ≡ g * (n / g) + n % g = omega arith in let l : n % g < g = omega arith in omega (arith, ints))
 
 -- less than g is no multiple of g but 0
-no_multiple : (g : ℕ) (z : ℤ) (r : ℕ) → pos g *ℤ z ≡ pos r → r < g → r ≡ 0
+pub no_multiple : (g : ℕ) (z : ℤ) (r : ℕ) → pos g *ℤ z ≡ pos r → r < g → r ≡ 0
 no_multiple g (pos zero) r e l = omega (arith, ints)
 no_multiple g (pos (suc a)) r e l = absurd (let f : g * suc a ≡ r = omega (arith, ints) in omega arith)
 no_multiple g (negsuc a) r e l = omega (arith, ints)

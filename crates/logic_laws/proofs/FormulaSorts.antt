@@ -1,4 +1,5 @@
 -- Junctions, negations and equations of well-sorted terms are formulas.
+-- Here s is the sort of a term, h that the terms of a list are formulas, e what the computation gives; p and q are its steps, f the sorts of the parts.
 use Rattle.std.proofs.Common.{◌≡◌, refl, sym, subst, pos, negsuc, Bool, true, false, ◌&&◌, not, if◌then◌else◌, Some, option_map, List, ◌++◌, reverse, int_eq}
 use Rattle.logic_core.specs.Tree.{Kind, int, boolean, map, Tree, num, truth, choose, negation, all, some, equal, at_most, for_all, exists, Trees, no_trees, tree, Patterns}
 use Rattle.logic_core.specs.Def.{Def}
@@ -19,14 +20,14 @@ module _ (vars : List Kind) (defs : List Def) where
   pub first_formula : (t : Tree) (ts : Trees) (b : List Kind) → are_formulas vars defs b (tree t ts) ≡ true → (sort_of vars defs b t ≡ Some boolean) × (are_formulas vars defs b ts ≡ true)
   first_formula t ts b h = let p = both_true (is boolean (sort_of vars defs b t)) (are_formulas vars defs b ts) h in (is_sort boolean (sort_of vars defs b t) p.0, p.1)
 
-  append_formulas : (ts us : Trees) (b : List Kind) → are_formulas vars defs b ts ≡ true → are_formulas vars defs b us ≡ true → are_formulas vars defs b (append ts us) ≡ true
+  pub append_formulas : (ts us : Trees) (b : List Kind) → are_formulas vars defs b ts ≡ true → are_formulas vars defs b us ≡ true → are_formulas vars defs b (append ts us) ≡ true
   append_formulas no_trees us b h k = k
   append_formulas (tree t ts) us b h k = let f = first_formula t ts b h in one_more_formula t (append ts us) b f.0 (append_formulas ts us b f.1 k)
 
   pub parts_of_all : (ts : Trees) (b : List Kind) → sort_of vars defs b (all ts) ≡ Some boolean → are_formulas vars defs b ts ≡ true
   parts_of_all ts b s = (when_some (are_formulas vars defs b ts) boolean boolean s).0
 
-  with_conjunct_formulas : (t : Tree) (ts : Trees) (b : List Kind) → sort_of vars defs b t ≡ Some boolean → are_formulas vars defs b ts ≡ true → are_formulas vars defs b (with_conjunct t ts) ≡ true
+  pub with_conjunct_formulas : (t : Tree) (ts : Trees) (b : List Kind) → sort_of vars defs b t ≡ Some boolean → are_formulas vars defs b ts ≡ true → are_formulas vars defs b (with_conjunct t ts) ≡ true
   with_conjunct_formulas (all us) ts b s h = append_formulas us ts b (parts_of_all us b s) h
   with_conjunct_formulas (truth true) ts b s h = h
   with_conjunct_formulas t ts b s h = one_more_formula t ts b s h
@@ -35,7 +36,7 @@ module _ (vars : List Kind) (defs : List Def) where
   conjuncts_formulas no_trees b h = refl
   conjuncts_formulas (tree t ts) b h = let f = first_formula t ts b h in with_conjunct_formulas t (conjuncts ts) b f.0 (conjuncts_formulas ts b f.1)
 
-  all_of_sort : (ts : Trees) (b : List Kind) → are_formulas vars defs b ts ≡ true → sort_of vars defs b (all_of ts) ≡ Some boolean
+  pub all_of_sort : (ts : Trees) (b : List Kind) → are_formulas vars defs b ts ≡ true → sort_of vars defs b (all_of ts) ≡ Some boolean
   all_of_sort no_trees b h = refl
   all_of_sort (tree t no_trees) b h = (first_formula t no_trees b h).0
   all_of_sort (tree t (tree u us)) b h = when_true (are_formulas vars defs b (tree t (tree u us))) (Some boolean) h
@@ -43,7 +44,7 @@ module _ (vars : List Kind) (defs : List Def) where
   pub conjunction_sort : (ts : Trees) (b : List Kind) → are_formulas vars defs b ts ≡ true → sort_of vars defs b (conjunction ts) ≡ Some boolean
   conjunction_sort ts b h = cond_has (λ u. sort_of vars defs b u ≡ Some boolean) (has_truth false (conjuncts ts)) (truth false) (all_of (conjuncts ts)) (λ _. refl) (λ _. all_of_sort (conjuncts ts) b (conjuncts_formulas ts b h))
 
-  with_disjunct_formulas : (t : Tree) (ts : Trees) (b : List Kind) → sort_of vars defs b t ≡ Some boolean → are_formulas vars defs b ts ≡ true → are_formulas vars defs b (with_disjunct t ts) ≡ true
+  pub with_disjunct_formulas : (t : Tree) (ts : Trees) (b : List Kind) → sort_of vars defs b t ≡ Some boolean → are_formulas vars defs b ts ≡ true → are_formulas vars defs b (with_disjunct t ts) ≡ true
   with_disjunct_formulas (some us) ts b s h = append_formulas us ts b (parts_of_all us b s) h
   with_disjunct_formulas (truth false) ts b s h = h
   with_disjunct_formulas t ts b s h = one_more_formula t ts b s h
@@ -52,7 +53,7 @@ module _ (vars : List Kind) (defs : List Def) where
   disjuncts_formulas no_trees b h = refl
   disjuncts_formulas (tree t ts) b h = let f = first_formula t ts b h in with_disjunct_formulas t (disjuncts ts) b f.0 (disjuncts_formulas ts b f.1)
 
-  some_of_sort : (ts : Trees) (b : List Kind) → are_formulas vars defs b ts ≡ true → sort_of vars defs b (some_of ts) ≡ Some boolean
+  pub some_of_sort : (ts : Trees) (b : List Kind) → are_formulas vars defs b ts ≡ true → sort_of vars defs b (some_of ts) ≡ Some boolean
   some_of_sort no_trees b h = refl
   some_of_sort (tree t no_trees) b h = (first_formula t no_trees b h).0
   some_of_sort (tree t (tree u us)) b h = when_true (are_formulas vars defs b (tree t (tree u us))) (Some boolean) h
@@ -123,7 +124,7 @@ module _ (vars : List Kind) (defs : List Def) where
       let f : sort_of vars defs b p.0 ≡ Some int = cond_some (λ v. sort_of vars defs b v ≡ Some int) (has_negative_lead d) (affine (negsuc 0) d (pos 0)) (Some d) p.0 p.1 (λ _ q. affine_sort vars defs (negsuc 0) d (pos 0) p.0 b s q) (λ _ q. some_has (λ v. sort_of vars defs b v ≡ Some int) d p.0 q s) in
       subst (λ x. sort_of vars defs b x ≡ Some boolean) p.2 (equal_sort p.0 (num (pos 0)) b int f refl)
 
-  equals_zero_sort : (d u : Tree) (b : List Kind) → sort_of vars defs b d ≡ Some int → equals_zero d ≡ Some u → sort_of vars defs b u ≡ Some boolean
+  pub equals_zero_sort : (d u : Tree) (b : List Kind) → sort_of vars defs b d ≡ Some int → equals_zero d ≡ Some u → sort_of vars defs b u ≡ Some boolean
   equals_zero_sort (num n) u b s e = some_has (λ x. sort_of vars defs b x ≡ Some boolean) (truth (int_eq n (pos 0))) u e refl
   equals_zero_sort d u b s e = zero_equation_sort d u b s e
 
@@ -138,11 +139,11 @@ module _ (vars : List Kind) (defs : List Def) where
   equivalence_with_sort (truth c) x u b sx sy e = side_sort c x u b sx e
   equivalence_with_sort y x u b sx sy e = ordered_equal_sort x y u b boolean sx sy e
 
-  equivalence_sort : (x y u : Tree) (b : List Kind) → sort_of vars defs b x ≡ Some boolean → sort_of vars defs b y ≡ Some boolean → equivalence x y ≡ Some u → sort_of vars defs b u ≡ Some boolean
+  pub equivalence_sort : (x y u : Tree) (b : List Kind) → sort_of vars defs b x ≡ Some boolean → sort_of vars defs b y ≡ Some boolean → equivalence x y ≡ Some u → sort_of vars defs b u ≡ Some boolean
   equivalence_sort (truth c) y u b sx sy e = side_sort c y u b sy e
   equivalence_sort x y u b sx sy e = equivalence_with_sort y x u b sx sy e
 
-  equation_of_sort : (k : Kind) (x y u : Tree) (b : List Kind) → sort_of vars defs b x ≡ Some k → sort_of vars defs b y ≡ Some k → equation_of (Some k) x y ≡ Some u → sort_of vars defs b u ≡ Some boolean
+  pub equation_of_sort : (k : Kind) (x y u : Tree) (b : List Kind) → sort_of vars defs b x ≡ Some k → sort_of vars defs b y ≡ Some k → equation_of (Some k) x y ≡ Some u → sort_of vars defs b u ≡ Some boolean
   equation_of_sort int x y u b sx sy e = let p = bind_some (difference x y) (λ d. equals_zero d) u e in equals_zero_sort p.0 u b (difference_sort vars defs x y p.0 b sx sy p.1) p.2
   equation_of_sort boolean x y u b sx sy e = equivalence_sort x y u b sx sy e
   equation_of_sort (map k) x y u b sx sy e = ordered_equal_sort x y u b (map k) sx sy e
@@ -151,7 +152,7 @@ module _ (vars : List Kind) (defs : List Def) where
   equation_sort k x y u b sx sy e = cond_some (λ v. sort_of vars defs b v ≡ Some boolean) (same_term x y) (Some (truth true)) (equation_of (Some k) x y) u e
       (λ _ q. some_has (λ v. sort_of vars defs b v ≡ Some boolean) (truth true) u q refl) (λ _ q. equation_of_sort k x y u b sx sy q)
 
-  zero_at_most_sort : (d : Tree) (b : List Kind) → sort_of vars defs b d ≡ Some int → sort_of vars defs b (zero_at_most d) ≡ Some boolean
+  pub zero_at_most_sort : (d : Tree) (b : List Kind) → sort_of vars defs b d ≡ Some int → sort_of vars defs b (zero_at_most d) ≡ Some boolean
   zero_at_most_sort (num n) b s = refl
   zero_at_most_sort d b s = at_most_sort vars defs (num (pos 0)) d b refl s
 

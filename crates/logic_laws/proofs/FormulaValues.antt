@@ -1,4 +1,5 @@
 -- The normal form of junctions, negations, equations and choices keeps their values.
+-- Here s and t are sorts, f that the values for the bound variables fit, g and h the values of the parts, e what the computation gives; p and q are its steps.
 use Rattle.std.proofs.Common.{◌≡◌, ◌∙◌, refl, sym, ap, subst, ℕ, ℤ, pos, negsuc, ◌+ℤ◌, ◌*ℤ◌, int_le, int_eq, Bool, true, false, ◌&&◌, ◌||◌, not, cond, if◌then◌else◌, Some, option_map, IsTrue, List, ◌++◌, reverse, inl, inr}
 use Rattle.std.proofs.lemmas.Bool.Decides.{Decides-int_eq}
 use Rattle.logic_core.specs.Tree.{Kind, int, boolean, map, Tree, num, truth, choose, negation, all, some, equal, at_most, for_all, exists, Trees, no_trees, tree, Patterns}
@@ -26,7 +27,7 @@ use Rattle.logic_laws.proofs.Gives.{Decided, AllHold, NoneHolds, Gives, GivesEve
 use Rattle.logic_laws.proofs.ValueSorts.{CallsHaveSorts, gives_sort}
 use Rattle.logic_laws.proofs.SumValues.{affine_gives, difference_gives}
 
-truth_found : (c : Bool) (t : Tree) → is_truth c t ≡ true → t ≡ truth c
+pub truth_found : (c : Bool) (t : Tree) → is_truth c t ≡ true → t ≡ truth c
 truth_found true (truth true) h = refl
 truth_found true (truth false) h = absurd (cc)
 truth_found false (truth true) h = absurd (cc)
@@ -48,7 +49,7 @@ if_cond false P x y h = h
 
 module _ (vars : List Kind) (defs : List Def) (frees : List Value) (calls : Calls) (has_call : (f : ℕ) (vs : List Value) → HasOne (calls f vs)) (keeps_call : (f : ℕ) (vs : List Value) → Keeps (calls f vs)) (fits : are_of vars frees ≡ true) (call_sorts : CallsHaveSorts defs calls) where
   -- a formula's value is a truth value
-  is_flag : (t : Tree) (bs : List Kind) (b : List Value) (r : Value) → sort_of vars defs bs t ≡ Some boolean → are_of bs b ≡ true → Gives frees calls t b r → flag (holds r) ≡ r
+  pub is_flag : (t : Tree) (bs : List Kind) (b : List Value) (r : Value) → sort_of vars defs bs t ≡ Some boolean → are_of bs b ≡ true → Gives frees calls t b r → flag (holds r) ≡ r
   is_flag t bs b r s f g = let w = of_boolean r (gives_sort vars defs frees calls has_call fits call_sorts t bs b boolean r s f g) in ap (λ x. flag (holds x)) w.1 ∙ sym w.1
 
   append_every : (ts us : Trees) (b : List Value) (h g : Bool) → GivesEvery frees calls ts b h → GivesEvery frees calls us b g → GivesEvery frees calls (append ts us) b (h && g)
@@ -60,7 +61,7 @@ module _ (vars : List Kind) (defs : List Def) (frees : List Value) (calls : Call
   with_conjunct_gives (truth true) ts b v g e k = subst (λ x. GivesEvery frees calls ts b (holds x && g)) (sym e) k
   with_conjunct_gives t ts b v g e k = (v, g, e, k, refl)
 
-  conjuncts_gives : (ts : Trees) (b : List Value) (h : Bool) → GivesEvery frees calls ts b h → GivesEvery frees calls (conjuncts ts) b h
+  pub conjuncts_gives : (ts : Trees) (b : List Value) (h : Bool) → GivesEvery frees calls ts b h → GivesEvery frees calls (conjuncts ts) b h
   conjuncts_gives no_trees b h e = e
   conjuncts_gives (tree t ts) b h e = subst (GivesEvery frees calls (with_conjunct t (conjuncts ts)) b) (sym e.4) (with_conjunct_gives t (conjuncts ts) b e.0 e.1 e.2 (conjuncts_gives ts b e.1 e.3))
 
@@ -89,7 +90,7 @@ module _ (vars : List Kind) (defs : List Def) (frees : List Value) (calls : Call
   with_disjunct_gives (truth false) ts b v g e k = subst (λ x. GivesAny frees calls ts b (holds x || g)) (sym e) k
   with_disjunct_gives t ts b v g e k = (v, g, e, k, refl)
 
-  disjuncts_gives : (ts : Trees) (b : List Value) (h : Bool) → GivesAny frees calls ts b h → GivesAny frees calls (disjuncts ts) b h
+  pub disjuncts_gives : (ts : Trees) (b : List Value) (h : Bool) → GivesAny frees calls ts b h → GivesAny frees calls (disjuncts ts) b h
   disjuncts_gives no_trees b h e = e
   disjuncts_gives (tree t ts) b h e = subst (GivesAny frees calls (with_disjunct t (disjuncts ts)) b) (sym e.4) (with_disjunct_gives t (disjuncts ts) b e.0 e.1 e.2 (disjuncts_gives ts b e.1 e.3))
 
@@ -110,13 +111,13 @@ module _ (vars : List Kind) (defs : List Def) (frees : List Value) (calls : Call
       (λ e. ap flag (true_found (disjuncts ts) b h e (disjuncts_gives ts b h g))) (λ _. some_of_gives (disjuncts ts) bs b h (disjuncts_formulas vars defs ts bs s) f (disjuncts_gives ts b h g))
 
   -- a formula holds where its value is true
-  holds_from : (t : Tree) (b : List Value) (v : Value) → Gives frees calls t b v → holds v ≡ true → Holds frees calls t b
+  pub holds_from : (t : Tree) (b : List Value) (v : Value) → Gives frees calls t b v → holds v ≡ true → Holds frees calls t b
   holds_from t b v g h = (said frees calls has_call keeps_call t b v g (λ u. IsTrue (holds u)) (λ u. true_stable (holds u))).1 h
 
-  from_holds : (t : Tree) (b : List Value) (v : Value) → Gives frees calls t b v → Holds frees calls t b → holds v ≡ true
+  pub from_holds : (t : Tree) (b : List Value) (v : Value) → Gives frees calls t b v → Holds frees calls t b → holds v ≡ true
   from_holds t b v g h = (said frees calls has_call keeps_call t b v g (λ u. IsTrue (holds u)) (λ u. true_stable (holds u))).0 h
 
-  holds_stable : (t : Tree) (b : List Value) → ((Holds frees calls t b → ⊥) → ⊥) → Holds frees calls t b
+  pub holds_stable : (t : Tree) (b : List Value) → ((Holds frees calls t b → ⊥) → ⊥) → Holds frees calls t b
   holds_stable t b n = keeps frees calls keeps_call t b (λ u. IsTrue (holds u)) (λ u. true_stable (holds u)) n
 
   clash : (c : Bool) → c ≡ true → not c ≡ true → ⊥
@@ -144,11 +145,11 @@ module _ (vars : List Kind) (defs : List Def) (frees : List Value) (calls : Call
   fails_unless : (t u : Tree) (b : List Value) → Opposite t u b → (Holds frees calls t b → ⊥) → Holds frees calls u b
   fails_unless t u b o n = holds_stable u b (λ k. gives frees calls has_call keeps_call t b (λ v g. k (holds_from u b (flag (not (holds v))) (o v g) (not_true (holds v) (λ h. n (holds_from t b v g h))))))
 
-  not_for_all_gives : (ss : List Kind) (t u : Tree) (b : List Value) (r : Value) → ((vs : List Value) → are_of ss vs ≡ true → Opposite t u (reverse vs ++ b)) → Decided (AllHold frees calls ss t b) r → Decided (¬ NoneHolds frees calls ss u b) (flag (not (holds r)))
+  pub not_for_all_gives : (ss : List Kind) (t u : Tree) (b : List Value) (r : Value) → ((vs : List Value) → are_of ss vs ≡ true → Opposite t u (reverse vs ++ b)) → Decided (AllHold frees calls ss t b) r → Decided (¬ NoneHolds frees calls ss u b) (flag (not (holds r)))
   not_for_all_gives ss t u b r o (inl a) = inr ((λ n. n (λ vs f. not_both t u (reverse vs ++ b) (o vs f) (a.0 vs f))), ap (λ x. flag (not (holds x))) a.1)
   not_for_all_gives ss t u b r o (inr a) = inl ((λ n. a.0 (λ vs f. holds_unless t u (reverse vs ++ b) (o vs f) (n vs f))), ap (λ x. flag (not (holds x))) a.1)
 
-  not_exists_gives : (ss : List Kind) (t u : Tree) (b : List Value) (r : Value) → ((vs : List Value) → are_of ss vs ≡ true → Opposite t u (reverse vs ++ b)) → Decided (¬ NoneHolds frees calls ss t b) r → Decided (AllHold frees calls ss u b) (flag (not (holds r)))
+  pub not_exists_gives : (ss : List Kind) (t u : Tree) (b : List Value) (r : Value) → ((vs : List Value) → are_of ss vs ≡ true → Opposite t u (reverse vs ++ b)) → Decided (¬ NoneHolds frees calls ss t b) r → Decided (AllHold frees calls ss u b) (flag (not (holds r)))
   not_exists_gives ss t u b r o (inl a) = inr ((λ n. a.0 (λ vs f h. not_both t u (reverse vs ++ b) (o vs f) h (n vs f))), ap (λ x. flag (not (holds x))) a.1)
   not_exists_gives ss t u b r o (inr a) = inl ((λ vs f. fails_unless t u (reverse vs ++ b) (o vs f) (λ h. a.0 (λ none. none vs f h))), ap (λ x. flag (not (holds x))) a.1)
 
@@ -185,14 +186,14 @@ module _ (vars : List Kind) (defs : List Def) (frees : List Value) (calls : Call
         (λ vs h v i. negated_gives t p.0 (reverse ss ++ bs) (reverse vs ++ b) v (parts_of_quantifier vars defs ss ps t bs boolean s).1 (are_of_bound ss bs vs b h f) p.1 i) g)
     negated_gives t u bs b r s f e g = some_has (λ x. Gives frees calls x b (flag (not (holds r)))) (negation t) u e (r, g, refl)
 
-    negated_every : (ts us : Trees) (bs : List Kind) (b : List Value) (h : Bool) → are_formulas vars defs bs ts ≡ true → are_of bs b ≡ true → negated_each ts ≡ Some us → GivesEvery frees calls ts b h → GivesAny frees calls us b (not h)
+    pub negated_every : (ts us : Trees) (bs : List Kind) (b : List Value) (h : Bool) → are_formulas vars defs bs ts ≡ true → are_of bs b ≡ true → negated_each ts ≡ Some us → GivesEvery frees calls ts b h → GivesAny frees calls us b (not h)
     negated_every no_trees us bs b h s f e g = some_has (λ x. GivesAny frees calls x b (not h)) no_trees us e (ap not g)
     negated_every (tree t ts) us bs b h s f e g = let i = first_formula vars defs t ts bs s in
         let p = bind_some (negated t) (λ u. negated_each ts >>= λ vs. Some (tree u vs)) us e in
         let q = bind_some (negated_each ts) (λ vs. Some (tree p.0 vs)) us p.2 in
         some_has (λ x. GivesAny frees calls x b (not h)) (tree p.0 q.0) us q.2 (flag (not (holds g.0)), not g.1, negated_gives t p.0 bs b g.0 i.0 f p.1 g.2, negated_every ts q.0 bs b g.1 i.1 f q.1 g.3, ap not g.4 ∙ B.not_and (holds g.0) g.1)
 
-    negated_any : (ts us : Trees) (bs : List Kind) (b : List Value) (h : Bool) → are_formulas vars defs bs ts ≡ true → are_of bs b ≡ true → negated_each ts ≡ Some us → GivesAny frees calls ts b h → GivesEvery frees calls us b (not h)
+    pub negated_any : (ts us : Trees) (bs : List Kind) (b : List Value) (h : Bool) → are_formulas vars defs bs ts ≡ true → are_of bs b ≡ true → negated_each ts ≡ Some us → GivesAny frees calls ts b h → GivesEvery frees calls us b (not h)
     negated_any no_trees us bs b h s f e g = some_has (λ x. GivesEvery frees calls x b (not h)) no_trees us e (ap not g)
     negated_any (tree t ts) us bs b h s f e g = let i = first_formula vars defs t ts bs s in
         let p = bind_some (negated t) (λ u. negated_each ts >>= λ vs. Some (tree u vs)) us e in
@@ -213,11 +214,11 @@ module _ (vars : List Kind) (defs : List Def) (frees : List Value) (calls : Call
       ))
       (λ _ q. some_has (λ x. Gives frees calls (equal x (num (pos 0))) b (flag (int_eq m (pos 0)))) d p.0 q (whole m, whole (pos 0), g, refl, refl)))
 
-  equals_zero_gives : (d u : Tree) (bs : List Kind) (b : List Value) (m : ℤ) → sort_of vars defs bs d ≡ Some int → are_of bs b ≡ true → Gives frees calls d b (whole m) → equals_zero d ≡ Some u → Gives frees calls u b (flag (int_eq m (pos 0)))
+  pub equals_zero_gives : (d u : Tree) (bs : List Kind) (b : List Value) (m : ℤ) → sort_of vars defs bs d ≡ Some int → are_of bs b ≡ true → Gives frees calls d b (whole m) → equals_zero d ≡ Some u → Gives frees calls u b (flag (int_eq m (pos 0)))
   equals_zero_gives (num n) u bs b m s f g e = some_has (λ x. Gives frees calls x b (flag (int_eq m (pos 0)))) (truth (int_eq n (pos 0))) u e (ap (λ x. flag (int_eq (int_of x) (pos 0))) g)
   equals_zero_gives d u bs b m s f g e = zero_equation_gives d u bs b m s f g e
 
-  ordered_equal_gives : (x y u : Tree) (b : List Value) (v w : Value) → Gives frees calls x b v → Gives frees calls y b w → Some (equal (in_order x y).0 (in_order x y).1) ≡ Some u → Gives frees calls u b (flag (same v w))
+  pub ordered_equal_gives : (x y u : Tree) (b : List Value) (v w : Value) → Gives frees calls x b v → Gives frees calls y b w → Some (equal (in_order x y).0 (in_order x y).1) ≡ Some u → Gives frees calls u b (flag (same v w))
   ordered_equal_gives x y u b v w g h e = some_has (λ t. Gives frees calls t b (flag (same v w))) (equal (in_order x y).0 (in_order x y).1) u e
       (in_order_has (λ p. Gives frees calls (equal p.0 p.1) b (flag (same v w))) x y (v, w, g, h, refl) (w, v, h, g, ap flag (same_swap v w)))
 
@@ -237,11 +238,11 @@ module _ (vars : List Kind) (defs : List Def) (frees : List Value) (calls : Call
   equivalence_with_gives (truth c) x u bs b v w s f g h e = subst (Gives frees calls u b) (ap flag (same_swap (flag c) v) ∙ ap (λ z. flag (same v z)) (sym h)) (side_gives c x u bs b v s f g e)
   equivalence_with_gives y x u bs b v w s f g h e = ordered_equal_gives x y u b v w g h e
 
-  equivalence_gives : (x y u : Tree) (bs : List Kind) (b : List Value) (v w : Value) → sort_of vars defs bs x ≡ Some boolean → sort_of vars defs bs y ≡ Some boolean → are_of bs b ≡ true → Gives frees calls x b v → Gives frees calls y b w → equivalence x y ≡ Some u → Gives frees calls u b (flag (same v w))
+  pub equivalence_gives : (x y u : Tree) (bs : List Kind) (b : List Value) (v w : Value) → sort_of vars defs bs x ≡ Some boolean → sort_of vars defs bs y ≡ Some boolean → are_of bs b ≡ true → Gives frees calls x b v → Gives frees calls y b w → equivalence x y ≡ Some u → Gives frees calls u b (flag (same v w))
   equivalence_gives (truth c) y u bs b v w s t f g h e = subst (Gives frees calls u b) (ap (λ z. flag (same z w)) (sym g)) (side_gives c y u bs b w t f h e)
   equivalence_gives x y u bs b v w s t f g h e = equivalence_with_gives y x u bs b v w s f g h e
 
-  equation_of_gives : (k : Kind) (x y u : Tree) (bs : List Kind) (b : List Value) (v w : Value) → sort_of vars defs bs x ≡ Some k → sort_of vars defs bs y ≡ Some k → are_of bs b ≡ true → Gives frees calls x b v → Gives frees calls y b w → equation_of (Some k) x y ≡ Some u → Gives frees calls u b (flag (same v w))
+  pub equation_of_gives : (k : Kind) (x y u : Tree) (bs : List Kind) (b : List Value) (v w : Value) → sort_of vars defs bs x ≡ Some k → sort_of vars defs bs y ≡ Some k → are_of bs b ≡ true → Gives frees calls x b v → Gives frees calls y b w → equation_of (Some k) x y ≡ Some u → Gives frees calls u b (flag (same v w))
   equation_of_gives int x y u bs b v w s t f g h e =
       let p = bind_some (difference x y) (λ d. equals_zero d) u e in
       let i = of_int v (gives_sort vars defs frees calls has_call fits call_sorts x bs b int v s f g) in
@@ -257,7 +258,7 @@ module _ (vars : List Kind) (defs : List Def) (frees : List Value) (calls : Call
       (λ p q. some_has (λ z. Gives frees calls z b (flag (same v w))) (truth true) u q (ap flag (equal_same v w (gives_one frees calls has_call keeps_call y b v w (subst (λ z. Gives frees calls z b v) (same_is_equal x y p) g) h))))
       (λ _ q. equation_of_gives k x y u bs b v w s t f g h q)
 
-  zero_at_most_gives : (d : Tree) (b : List Value) (m : ℤ) → Gives frees calls d b (whole m) → Gives frees calls (zero_at_most d) b (flag (int_le (pos 0) m))
+  pub zero_at_most_gives : (d : Tree) (b : List Value) (m : ℤ) → Gives frees calls d b (whole m) → Gives frees calls (zero_at_most d) b (flag (int_le (pos 0) m))
   zero_at_most_gives (num n) b m g = ap (λ x. flag (int_le (pos 0) (int_of x))) g
   zero_at_most_gives d b m g = (whole (pos 0), whole m, refl, g, refl)
 

@@ -1,4 +1,5 @@
 -- The value that a term has, as a relation: the values of its parts are named, so that laws are shown step by step. Where a contradiction is to be shown, each term has one.
+-- Here g is the values of the parts of a term, and go the rest of a proof of a contradiction.
 use Rattle.std.proofs.Common.{◌≡◌, refl, sym, subst, ℕ, ℤ, pos, ◌+ℤ◌, ◌*ℤ◌, int_le, Bool, true, false, ◌&&◌, ◌||◌, not, IsTrue, List, [], ◌∷◌, ◌++◌, reverse, ◌⊎◌, inl, inr}
 use Rattle.logic_core.specs.Tree.{Kind, Tree, num, truth, free, bound, linear, mul, read, write, choose, call, negation, all, some, equal, at_most, for_all, exists, Trees, no_trees, tree, Parts, no_parts, part}
 use Rattle.logic_core.specs.Value.{Value, whole, flag, int_of, holds, same, look, put, are_of, at}
@@ -158,39 +159,39 @@ module _ (frees : List Value) (calls : Calls) (has_call : (f : ℕ) (vs : List V
   mutual
     -- where a contradiction is to be shown, a term has a value
     pub gives : (t : Tree) (b : List Value) → ((r : Value) → Gives frees calls t b r → ⊥) → ⊥
-    gives (num n) b k = k (whole n) refl
-    gives (truth x) b k = k (flag x) refl
-    gives (free v) b k = k (at frees v) refl
-    gives (bound v) b k = k (at b v) refl
-    gives (linear ps c) b k = gives_sum ps b (λ n g. k (whole (n +ℤ c)) (n, g, refl))
-    gives (mul x y) b k = gives x b (λ v g. gives y b (λ w h. k (whole (int_of v *ℤ int_of w)) (v, w, g, h, refl)))
-    gives (read x y) b k = gives x b (λ v g. gives y b (λ w h. k (look v (int_of w)) (v, w, g, h, refl)))
-    gives (write m i x) b k = gives m b (λ v g. gives i b (λ w h. gives x b (λ u j. k (put v (int_of w) u) (v, w, u, g, h, j, refl))))
-    gives (choose c x y) b k = gives c b (λ v g. if_one (holds v) (Gives frees calls x b) (Gives frees calls y b) (gives x b) (gives y b) (λ r h. k r (v, g, h)))
-    gives (call f ts) b k = gives_each ts b (λ vs g. has_call f vs (λ r i. k r (vs, g, (i (λ v. v ≡ r)).1 refl)))
-    gives (negation x) b k = gives x b (λ v g. k (flag (not (holds v))) (v, g, refl))
-    gives (all ts) b k = gives_every ts b (λ h g. k (flag h) (h, g, refl))
-    gives (some ts) b k = gives_any ts b (λ h g. k (flag h) (h, g, refl))
-    gives (equal x y) b k = gives x b (λ v g. gives y b (λ w h. k (flag (same v w)) (v, w, g, h, refl)))
-    gives (at_most x y) b k = gives x b (λ v g. gives y b (λ w h. k (flag (int_le (int_of v) (int_of w))) (v, w, g, h, refl)))
-    gives (for_all ss ps t) b k = decides_one (AllHold frees calls ss t b) k
-    gives (exists ss ps t) b k = decides_one (¬ NoneHolds frees calls ss t b) k
+    gives (num n) b go = go (whole n) refl
+    gives (truth x) b go = go (flag x) refl
+    gives (free v) b go = go (at frees v) refl
+    gives (bound v) b go = go (at b v) refl
+    gives (linear ps c) b go = gives_sum ps b (λ n g. go (whole (n +ℤ c)) (n, g, refl))
+    gives (mul x y) b go = gives x b (λ v g. gives y b (λ w h. go (whole (int_of v *ℤ int_of w)) (v, w, g, h, refl)))
+    gives (read x y) b go = gives x b (λ v g. gives y b (λ w h. go (look v (int_of w)) (v, w, g, h, refl)))
+    gives (write m i x) b go = gives m b (λ v g. gives i b (λ w h. gives x b (λ u j. go (put v (int_of w) u) (v, w, u, g, h, j, refl))))
+    gives (choose c x y) b go = gives c b (λ v g. if_one (holds v) (Gives frees calls x b) (Gives frees calls y b) (gives x b) (gives y b) (λ r h. go r (v, g, h)))
+    gives (call f ts) b go = gives_each ts b (λ vs g. has_call f vs (λ r i. go r (vs, g, (i (λ v. v ≡ r)).1 refl)))
+    gives (negation x) b go = gives x b (λ v g. go (flag (not (holds v))) (v, g, refl))
+    gives (all ts) b go = gives_every ts b (λ h g. go (flag h) (h, g, refl))
+    gives (some ts) b go = gives_any ts b (λ h g. go (flag h) (h, g, refl))
+    gives (equal x y) b go = gives x b (λ v g. gives y b (λ w h. go (flag (same v w)) (v, w, g, h, refl)))
+    gives (at_most x y) b go = gives x b (λ v g. gives y b (λ w h. go (flag (int_le (int_of v) (int_of w))) (v, w, g, h, refl)))
+    gives (for_all ss ps t) b go = decides_one (AllHold frees calls ss t b) go
+    gives (exists ss ps t) b go = decides_one (¬ NoneHolds frees calls ss t b) go
 
     pub gives_each : (ts : Trees) (b : List Value) → ((vs : List Value) → GivesEach frees calls ts b vs → ⊥) → ⊥
-    gives_each no_trees b k = k [] refl
-    gives_each (tree t ts) b k = gives t b (λ v g. gives_each ts b (λ vs h. k (v ∷ vs) (v, vs, g, h, refl)))
+    gives_each no_trees b go = go [] refl
+    gives_each (tree t ts) b go = gives t b (λ v g. gives_each ts b (λ vs h. go (v ∷ vs) (v, vs, g, h, refl)))
 
-    gives_every : (ts : Trees) (b : List Value) → ((h : Bool) → GivesEvery frees calls ts b h → ⊥) → ⊥
-    gives_every no_trees b k = k true refl
-    gives_every (tree t ts) b k = gives t b (λ v g. gives_every ts b (λ h j. k (holds v && h) (v, h, g, j, refl)))
+    pub gives_every : (ts : Trees) (b : List Value) → ((h : Bool) → GivesEvery frees calls ts b h → ⊥) → ⊥
+    gives_every no_trees b go = go true refl
+    gives_every (tree t ts) b go = gives t b (λ v g. gives_every ts b (λ h j. go (holds v && h) (v, h, g, j, refl)))
 
-    gives_any : (ts : Trees) (b : List Value) → ((h : Bool) → GivesAny frees calls ts b h → ⊥) → ⊥
-    gives_any no_trees b k = k false refl
-    gives_any (tree t ts) b k = gives t b (λ v g. gives_any ts b (λ h j. k (holds v || h) (v, h, g, j, refl)))
+    pub gives_any : (ts : Trees) (b : List Value) → ((h : Bool) → GivesAny frees calls ts b h → ⊥) → ⊥
+    gives_any no_trees b go = go false refl
+    gives_any (tree t ts) b go = gives t b (λ v g. gives_any ts b (λ h j. go (holds v || h) (v, h, g, j, refl)))
 
-    gives_sum : (ps : Parts) (b : List Value) → ((n : ℤ) → GivesSum frees calls ps b n → ⊥) → ⊥
-    gives_sum no_parts b k = k (pos 0) refl
-    gives_sum (part c t ps) b k = gives t b (λ v g. gives_sum ps b (λ n h. k ((c *ℤ int_of v) +ℤ n) (v, n, g, h, refl)))
+    pub gives_sum : (ps : Parts) (b : List Value) → ((n : ℤ) → GivesSum frees calls ps b n → ⊥) → ⊥
+    gives_sum no_parts b go = go (pos 0) refl
+    gives_sum (part c t ps) b go = gives t b (λ v g. gives_sum ps b (λ n h. go ((c *ℤ int_of v) +ℤ n) (v, n, g, h, refl)))
 
   -- a term has one value
   pub gives_one : (t : Tree) (b : List Value) (v w : Value) → Gives frees calls t b v → Gives frees calls t b w → v ≡ w

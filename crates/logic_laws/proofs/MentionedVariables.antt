@@ -1,10 +1,10 @@
 -- A term has one value for all values of the variables that neither it nor a definition mentions.
-use Rattle.std.proofs.Common.{◌≡◌, ◌∙◌, refl, sym, ap, subst, ℕ, zero, suc, ◌+◌, pos, ℤ, nat_eq, eqb-true, eq-eqb, Bool, true, false, ◌||◌, IsTrue, List, [], ◌∷◌, ◌++◌, reverse}
+use Rattle.std.proofs.Common.{◌≡◌, ◌∙◌, refl, ℕ, ◌+◌, pos, ℤ, nat_eq, eq-eqb, Bool, true, false, ◌||◌, IsTrue, List, [], ◌∷◌, ◌++◌, reverse}
 use Rattle.std.specs.List.{list_any}
-use Rattle.logic_core.specs.Tree.{Kind, Tree, num, truth, free, bound, linear, mul, read, write, choose, call, negation, all, some, equal, at_most, for_all, exists, Trees, no_trees, tree, Parts, no_parts, part, Patterns}
+use Rattle.logic_core.specs.Tree.{Tree, num, truth, free, bound, linear, mul, read, write, choose, call, negation, all, some, equal, at_most, for_all, exists, Trees, no_trees, tree, Parts, no_parts, part, Patterns}
 use Rattle.logic_core.specs.Def.{Def}
-use Rattle.logic_core.specs.Value.{Value, whole, holds, are_of, at}
-use Rattle.logic_core.specs.Meaning.{If, With, Holds}
+use Rattle.logic_core.specs.Value.{Value, whole, holds, at}
+use Rattle.logic_core.specs.Meaning.{With, Holds}
 use Rattle.logic_core.specs.Valid.{Calls, with_def, calls_from, calls_of}
 use Rattle.logic_core.specs.Same.{same_term}
 use Rattle.logic_core.specs.Subterm.{has_any, has_part, has_pattern, occurs}
@@ -77,12 +77,12 @@ module _ (frees frees' : List Value) where
   in_body ps t a = on_second (λ v. has_pattern (same_term (free v)) ps) (λ v. occurs (free v) t) a
 
   module _ (calls : Calls) (has_call : (f : ℕ) (vs : List Value) → HasOne (calls f vs)) (keeps_call : (f : ℕ) (vs : List Value) → Keeps (calls f vs))
-           (calls' : Calls) (has_call' : (f : ℕ) (vs : List Value) → HasOne (calls' f vs)) (keeps_call' : (f : ℕ) (vs : List Value) → Keeps (calls' f vs)) (same_calls : AllCalls calls calls') where
+      (calls' : Calls) (has_call' : (f : ℕ) (vs : List Value) → HasOne (calls' f vs)) (keeps_call' : (f : ℕ) (vs : List Value) → Keeps (calls' f vs)) (same_calls : AllCalls calls calls') where
     holds_alike : (t : Tree) (b : List Value) → ((r : Value) → Gives frees calls t b r → Gives frees' calls' t b r) → (Holds frees calls t b → Holds frees' calls' t b) × (Holds frees' calls' t b → Holds frees calls t b)
     holds_alike t b f = same_values frees calls has_call keeps_call frees' calls' has_call' keeps_call' t t b b f (λ v. IsTrue (holds v)) (λ v. true_stable (holds v))
 
     mutual
-      gives_mentioned : (t : Tree) (b : List Value) (r : Value) → AgreeIn t → Gives frees calls t b r → Gives frees' calls' t b r
+      pub gives_mentioned : (t : Tree) (b : List Value) (r : Value) → AgreeIn t → Gives frees calls t b r → Gives frees' calls' t b r
       gives_mentioned (num n) b r a g = g
       gives_mentioned (truth x) b r a g = g
       gives_mentioned (free v) b r a g = g ∙ a v (eq-eqb v v refl)
@@ -136,12 +136,12 @@ module _ (frees frees' : List Value) where
       (λ f vs. keeps_if (nat_eq f n) (With frees' calls' d.body (reverse vs)) (calls' f vs) (keeps frees' calls' keep' d.body (reverse vs)) (keep' f vs))
       (on_second (λ v. occurs (free v) d.body) (λ v. list_any (λ c. occurs (free v) c.body) ds) a)
       (λ f vs r. if_map (nat_eq f n) (With frees calls d.body (reverse vs) (λ v. v ≡ r)) (calls f vs (λ v. v ≡ r)) (With frees' calls' d.body (reverse vs) (λ v. v ≡ r)) (calls' f vs (λ v. v ≡ r))
-        (same_mentioned calls has keep calls' has' keep' same d.body (reverse vs) (on_first (λ v. occurs (free v) d.body) (λ v. list_any (λ c. occurs (free v) c.body) ds) a) (λ v. v ≡ r) (λ v. value_stable v r)).0
-        (same f vs r))
+      (same_mentioned calls has keep calls' has' keep' same d.body (reverse vs) (on_first (λ v. occurs (free v) d.body) (λ v. list_any (λ c. occurs (free v) c.body) ds) a) (λ v. v ≡ r) (λ v. value_stable v r)).0
+      (same f vs r))
 
   -- a term says the same where both agree on the variables that it and the definitions mention
   pub same_where_mentioned : (defs : List Def) (t : Tree) (b : List Value) → ((v : ℕ) → mentions defs t v ≡ true → at frees v ≡ at frees' v) → Same (With frees (calls_of frees defs) t b) (With frees' (calls_of frees' defs) t b)
   same_where_mentioned defs t b a = same_mentioned (calls_of frees defs) (has_defined frees defs) (keeps_defined frees defs) (calls_of frees' defs) (has_defined frees' defs) (keeps_defined frees' defs)
       (calls_mentioned defs 0 (λ f args P. P (whole (pos 0))) (λ f args P. P (whole (pos 0))) (λ f vs. one (whole (pos 0))) (λ f vs P s. s (whole (pos 0))) (λ f vs. one (whole (pos 0))) (λ f vs P s. s (whole (pos 0)))
-        (on_second (λ v. occurs (free v) t) (λ v. list_any (λ d. occurs (free v) d.body) defs) a) (λ f vs r h. h))
+      (on_second (λ v. occurs (free v) t) (λ v. list_any (λ d. occurs (free v) d.body) defs) a) (λ f vs r h. h))
       t b (on_first (λ v. occurs (free v) t) (λ v. list_any (λ d. occurs (free v) d.body) defs) a)

@@ -1,4 +1,5 @@
 -- A normal form has the sort of its term.
+-- Here e is what the normal form is made of, s the sort of the term; p, q, o are the steps of the normal form, f and g the sorts of the parts.
 use Rattle.std.proofs.Common.{◌≡◌, ℕ, refl, sym, subst, Bool, true, ◌&&◌, Option, Some, None, option_map, List, [], ◌∷◌, ◌++◌, reverse, slice_get}
 use Rattle.logic_core.specs.Tree.{Kind, int, boolean, map, Tree, num, truth, free, bound, linear, mul, read, write, choose, call, negation, all, some, equal, at_most, for_all, exists, Trees, no_trees, tree, Parts, no_parts, part, Patterns, no_patterns, pattern}
 use Rattle.logic_core.specs.Def.{Def}
@@ -21,7 +22,7 @@ module _ (vars : List Kind) (defs : List Def) where
       (is_sort int (sort_of vars defs b x) p.0, is_sort int (sort_of vars defs b y) p.1, w.1)
 
   -- a table's sort is the map's over the range
-  range_map : (s k : Kind) → range s ≡ Some k → s ≡ map k
+  pub range_map : (s k : Kind) → range s ≡ Some k → s ≡ map k
   range_map int k e = absurd (cc)
   range_map boolean k e = absurd (cc)
   range_map (map j) k e = cc

@@ -1,4 +1,5 @@
 -- A normal form has the value of its term.
+-- Here e is what the normal form is made of, s the sort of the term, f that the values for the bound variables fit, g the values of the parts; p, q and o are the steps of the normal form, i the sorts of the parts.
 use Rattle.std.proofs.Common.{◌≡◌, ◌∙◌, refl, sym, ap, subst, ℕ, ℤ, ◌+ℤ◌, ◌*ℤ◌, Bool, true, Some, option_map, IsTrue, List, [], ◌∷◌, ◌++◌, reverse}
 use Rattle.logic_core.specs.Tree.{Kind, int, boolean, map, Tree, num, truth, free, bound, linear, mul, read, write, choose, call, negation, all, some, equal, at_most, for_all, exists, Trees, no_trees, tree, Parts, no_parts, part}
 use Rattle.logic_core.specs.Def.{Def}
@@ -111,7 +112,7 @@ module _ (vars : List Kind) (defs : List Def) (frees : List Value) (calls : Call
         subst (λ x. Gives frees calls x b r) q.2 (exists_gives vars defs frees calls has_call keeps_call fits call_sorts q.0 ss p.0 b r
         (decided_some ss (λ vs. Holds frees calls t (reverse vs ++ b)) (λ vs. Holds frees calls q.0 (reverse vs ++ b)) r (λ vs h. holds_alike t q.0 (reverse vs ++ b) (λ v w. normal_gives t q.0 (reverse ss ++ bs) (reverse vs ++ b) boolean v q.1 i (are_of_bound ss bs vs b h f) w)) g))
 
-    normal_gives_each : (ts us : Trees) (bs : List Kind) (b : List Value) (ks : List Kind) (vs : List Value) → normal_each vars defs bs ts ≡ Some us → are vars defs bs ks ts ≡ true → are_of bs b ≡ true → GivesEach frees calls ts b vs → GivesEach frees calls us b vs
+    pub normal_gives_each : (ts us : Trees) (bs : List Kind) (b : List Value) (ks : List Kind) (vs : List Value) → normal_each vars defs bs ts ≡ Some us → are vars defs bs ks ts ≡ true → are_of bs b ≡ true → GivesEach frees calls ts b vs → GivesEach frees calls us b vs
     normal_gives_each no_trees us bs b ks vs e s f g = some_has (λ x. GivesEach frees calls x b vs) no_trees us e g
     normal_gives_each (tree t ts) us bs b [] vs e s f g = absurd (cc)
     normal_gives_each (tree t ts) us bs b (k ∷ ks) vs e s f g =
@@ -120,7 +121,7 @@ module _ (vars : List Kind) (defs : List Def) (frees : List Value) (calls : Call
         let i = first_of_sort vars defs k ks t ts bs s in
         some_has (λ x. GivesEach frees calls x b vs) (tree p.0 q.0) us q.2 (g.0, g.1, normal_gives t p.0 bs b k g.0 p.1 i.0 f g.2, normal_gives_each ts q.0 bs b ks g.1 q.1 i.1 f g.3, g.4)
 
-    normal_gives_every : (ts us : Trees) (bs : List Kind) (b : List Value) (h : Bool) → normal_each vars defs bs ts ≡ Some us → are_formulas vars defs bs ts ≡ true → are_of bs b ≡ true → GivesEvery frees calls ts b h → GivesEvery frees calls us b h
+    pub normal_gives_every : (ts us : Trees) (bs : List Kind) (b : List Value) (h : Bool) → normal_each vars defs bs ts ≡ Some us → are_formulas vars defs bs ts ≡ true → are_of bs b ≡ true → GivesEvery frees calls ts b h → GivesEvery frees calls us b h
     normal_gives_every no_trees us bs b h e s f g = some_has (λ x. GivesEvery frees calls x b h) no_trees us e g
     normal_gives_every (tree t ts) us bs b h e s f g =
         let p = bind_some (normal vars defs bs t) (λ u. normal_each vars defs bs ts >>= λ us. Some (tree u us)) us e in
@@ -128,7 +129,7 @@ module _ (vars : List Kind) (defs : List Def) (frees : List Value) (calls : Call
         let i = first_formula vars defs t ts bs s in
         some_has (λ x. GivesEvery frees calls x b h) (tree p.0 q.0) us q.2 (g.0, g.1, normal_gives t p.0 bs b boolean g.0 p.1 i.0 f g.2, normal_gives_every ts q.0 bs b g.1 q.1 i.1 f g.3, g.4)
 
-    normal_gives_any : (ts us : Trees) (bs : List Kind) (b : List Value) (h : Bool) → normal_each vars defs bs ts ≡ Some us → are_formulas vars defs bs ts ≡ true → are_of bs b ≡ true → GivesAny frees calls ts b h → GivesAny frees calls us b h
+    pub normal_gives_any : (ts us : Trees) (bs : List Kind) (b : List Value) (h : Bool) → normal_each vars defs bs ts ≡ Some us → are_formulas vars defs bs ts ≡ true → are_of bs b ≡ true → GivesAny frees calls ts b h → GivesAny frees calls us b h
     normal_gives_any no_trees us bs b h e s f g = some_has (λ x. GivesAny frees calls x b h) no_trees us e g
     normal_gives_any (tree t ts) us bs b h e s f g =
         let p = bind_some (normal vars defs bs t) (λ u. normal_each vars defs bs ts >>= λ us. Some (tree u us)) us e in
@@ -137,7 +138,7 @@ module _ (vars : List Kind) (defs : List Def) (frees : List Value) (calls : Call
         some_has (λ x. GivesAny frees calls x b h) (tree p.0 q.0) us q.2 (g.0, g.1, normal_gives t p.0 bs b boolean g.0 p.1 i.0 f g.2, normal_gives_any ts q.0 bs b g.1 q.1 i.1 f g.3, g.4)
 
     -- the parts of a Sum join one that has the value m
-    normal_sum_gives : (ps : Parts) (s q : Linear) (bs : List Kind) (b : List Value) (n m : ℤ) → normal_sum vars defs bs ps s ≡ Some q → are_ints vars defs bs ps ≡ true → are_of bs b ≡ true → GivesSum frees calls ps b n → linear_is s b m → linear_is q b (n +ℤ m)
+    pub normal_sum_gives : (ps : Parts) (s q : Linear) (bs : List Kind) (b : List Value) (n m : ℤ) → normal_sum vars defs bs ps s ≡ Some q → are_ints vars defs bs ps ≡ true → are_of bs b ≡ true → GivesSum frees calls ps b n → linear_is s b m → linear_is q b (n +ℤ m)
     normal_sum_gives no_parts s q bs b n m e i f g h = some_has (λ x. linear_is x b (n +ℤ m)) s q e (h.0, h.1, ap (λ x. x +ℤ m) g ∙ Z.zero_plus m ∙ h.2)
     normal_sum_gives (part k t ps) s q bs b n m e i f g h =
         let p = bind_some (normal vars defs bs t) (λ u. add_term k u s >>= λ r. normal_sum vars defs bs ps r) q e in

@@ -49,7 +49,7 @@ module _ (frees : List Value) (calls : Calls) (has_call : (f : ℕ) (vs : List V
       replace_gives (exists ss ps t) b r g = node (exists ss ps t) (exists ss (replace_patterns picks new ps) (replace picks new t)) b r g
           (decided_some ss (λ vs. Holds frees calls t (reverse vs ++ b)) (λ vs. Holds frees calls (replace picks new t) (reverse vs ++ b)) r (λ vs h. holds_too t (replace picks new t) (reverse vs ++ b) (replace_gives t (reverse vs ++ b))) g)
 
-      replace_each_gives : (ts : Trees) (b vs : List Value) → GivesEach frees calls ts b vs → GivesEach frees calls (replace_each picks new ts) b vs
+      pub replace_each_gives : (ts : Trees) (b vs : List Value) → GivesEach frees calls ts b vs → GivesEach frees calls (replace_each picks new ts) b vs
       replace_each_gives no_trees b vs g = g
       replace_each_gives (tree t ts) b vs g = (g.0, g.1, replace_gives t b g.0 g.2, replace_each_gives ts b g.1 g.3, g.4)
 
@@ -70,7 +70,7 @@ module _ (frees : List Value) (calls : Calls) (has_call : (f : ℕ) (vs : List V
     pub closed_gives : (t : Tree) (b b' : List Value) (k : Kind) (r : Value) → sort_of vars defs [] t ≡ Some k → Gives frees calls t b r → Gives frees calls t b' r
     closed_gives t b b' k r s g = gives_over vars defs frees calls has_call keeps_call frees calls has_call keeps_call (agree_itself vars frees) (λ f d vs r e h. h) t [] b b' k r (agree_none b b') s g
 
-    replaced_gives : (old new : Tree) (j : Kind) (v : Value) → sort_of vars defs [] old ≡ Some j → sort_of vars defs [] new ≡ Some j → Gives frees calls old [] v → Gives frees calls new [] v → (t : Tree) (b : List Value) (r : Value) → Gives frees calls t b r → Gives frees calls (replaced old new t) b r
+    pub replaced_gives : (old new : Tree) (j : Kind) (v : Value) → sort_of vars defs [] old ≡ Some j → sort_of vars defs [] new ≡ Some j → Gives frees calls old [] v → Gives frees calls new [] v → (t : Tree) (b : List Value) (r : Value) → Gives frees calls t b r → Gives frees calls (replaced old new t) b r
     replaced_gives old new j v so sn go gn t b r g = replace_gives (same_term old) new
         (λ u c x p h. let q : v ≡ x = gives_one frees calls has_call keeps_call u c v x (subst (λ z. Gives frees calls z c v) (same_is_equal old u p) (closed_gives old [] c j v so go)) h in
         subst (Gives frees calls new c) q (closed_gives new [] c j v sn gn)) t b r g

@@ -53,14 +53,14 @@ module _ (vars : List Kind) (defs : List Def) (vars' : List Kind) (defs' : List 
     formulas_over no_trees b b' w = λ s. refl
     formulas_over (tree t ts) b b' w = carries_formula vars defs vars' defs' b b' t t ts ts (sort_over t b b' w) (formulas_over ts b b' w)
 
-    ints_over : (ps : Parts) (b b' : List Kind) → Within b b' → CarriesInts vars defs vars' defs' b b' ps ps
+    pub ints_over : (ps : Parts) (b b' : List Kind) → Within b b' → CarriesInts vars defs vars' defs' b b' ps ps
     ints_over no_parts b b' w = λ s. refl
     ints_over (part c t ps) b b' w = carries_int vars defs vars' defs' b b' c t t ps ps (sort_over t b b' w) (ints_over ps b b' w)
 
-    have_over : (ts : Trees) (b b' : List Kind) → Within b b' → CarriesSorts vars defs vars' defs' b b' ts ts
+    pub have_over : (ts : Trees) (b b' : List Kind) → Within b b' → CarriesSorts vars defs vars' defs' b b' ts ts
     have_over no_trees b b' w = λ s. refl
     have_over (tree t ts) b b' w = carries_sort vars defs vars' defs' b b' t t ts ts (sort_over t b b' w) (have_over ts b b' w)
 
-    patterns_over : (ps : Patterns) (b b' : List Kind) → Within b b' → CarriesPatterns vars defs vars' defs' b b' ps ps
+    pub patterns_over : (ps : Patterns) (b b' : List Kind) → Within b b' → CarriesPatterns vars defs vars' defs' b b' ps ps
     patterns_over no_patterns b b' w = λ s. refl
     patterns_over (pattern ts ps) b b' w = carries_pattern vars defs vars' defs' b b' ts ts ps ps (have_over ts b b' w) (patterns_over ps b b' w)

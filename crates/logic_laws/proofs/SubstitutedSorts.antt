@@ -1,4 +1,5 @@
 -- A body whose binder is taken away keeps its sort, where the closed terms have the sorts of the binder's variables.
+-- Here d is how many binders were passed, of the sorts cs, and e that these are as many.
 use Rattle.std.proofs.Common.{◌≡◌, sym, subst, ℕ, zero, suc, ◌+◌, ◌-◌, ◌<◌, ◌≤◌, nat_lt, unwrap_or, Some, List, [], ◌∷◌, ◌++◌, reverse, slice_get, length, length-append, append_assoc, arith, ltb-true, ltb-false}
 use Rattle.std.proofs.lemmas.List.{length-reverse}
 use Rattle.logic_core.specs.Tree.{Kind, Tree, num, truth, free, bound, linear, mul, read, write, choose, call, negation, all, some, equal, at_most, for_all, exists, Trees, no_trees, tree, Parts, no_parts, part, Patterns, no_patterns, pattern}

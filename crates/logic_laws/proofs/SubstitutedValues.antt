@@ -1,4 +1,5 @@
 -- A body whose binder is taken away has the value that it has with the values of the terms for the binder's variables.
+-- Here d is how many binders were passed, of the sorts cs with the values c; e that these are as many, f that the values fit, s the sort of the term, g the values of the parts, p their sorts.
 use Rattle.std.proofs.Common.{◌≡◌, ◌∙◌, refl, sym, ap, subst, ℕ, zero, suc, ◌+◌, ◌-◌, ◌≤◌, ℤ, Bool, true, nat_lt, unwrap_or, Some, IsTrue, List, [], ◌∷◌, ◌++◌, reverse, slice_get, length, append_assoc, arith, ltb-true, ltb-false}
 use Rattle.logic_core.specs.Tree.{Kind, int, boolean, map, Tree, num, truth, free, bound, linear, mul, read, write, choose, call, negation, all, some, equal, at_most, for_all, exists, Trees, no_trees, tree, Parts, no_parts, part}
 use Rattle.logic_core.specs.Def.{Def}
@@ -37,11 +38,11 @@ substituted_sort vars defs ks ts body k s h = put_within_sort vars defs (reverse
 
 module _ (vars : List Kind) (defs : List Def) (frees : List Value) (calls : Calls) (has_call : (f : ℕ) (vs : List Value) → HasOne (calls f vs)) (keeps_call : (f : ℕ) (vs : List Value) → Keeps (calls f vs)) where
   -- the terms have these values, one by one
-  values_paired : (ts : Trees) (vs : List Value) → GivesEach frees calls ts [] vs → Paired (λ u v. Gives frees calls u [] v) (listed ts) vs
+  pub values_paired : (ts : Trees) (vs : List Value) → GivesEach frees calls ts [] vs → Paired (λ u v. Gives frees calls u [] v) (listed ts) vs
   values_paired no_trees vs g = subst (Paired (λ u v. Gives frees calls u [] v) []) (sym g) tt
   values_paired (tree t ts) vs g = subst (Paired (λ u v. Gives frees calls u [] v) (t ∷ listed ts)) (sym g.4) (g.2, values_paired ts g.1 g.3)
 
-  value_at : (us : List Tree) (ws : List Value) (n : ℕ) (u : Tree) → Paired (λ u v. Gives frees calls u [] v) us ws → slice_get us n ≡ Some u → Gives frees calls u [] (at ws n)
+  pub value_at : (us : List Tree) (ws : List Value) (n : ℕ) (u : Tree) → Paired (λ u v. Gives frees calls u [] v) us ws → slice_get us n ≡ Some u → Gives frees calls u [] (at ws n)
   value_at [] ws n u p e = absurd (cc)
   value_at (x ∷ us) [] n u p e = absurd p
   value_at (x ∷ us) (w ∷ ws) zero u p e = let q : x ≡ u = cc in subst (λ z. Gives frees calls z [] w) q p.0
@@ -99,7 +100,7 @@ module _ (vars : List Kind) (defs : List Def) (frees : List Value) (calls : Call
           (holds_deeper t (put_within terms (d + length ss) t) ss cs c (λ vs v h. put_within_gives t (d + length ss) (reverse ss ++ cs) (reverse vs ++ c) boolean v (deeper d ss cs e) (are_of_append (reverse ss) cs (reverse vs) c (are_of_reverse ss vs h) f)
           (subst (λ bs. sort_of vars defs bs t ≡ Some boolean) (sym (append_assoc (reverse ss) cs ks)) p.1))) g
 
-      put_each_gives : (ts : Trees) (d : ℕ) (cs : List Kind) (c : List Value) (js : List Kind) (vs : List Value) → d ≡ length cs → are_of cs c ≡ true → are vars defs (cs ++ ks) js ts ≡ true → GivesEach frees calls ts (c ++ ws) vs → GivesEach frees calls (put_each terms d ts) c vs
+      pub put_each_gives : (ts : Trees) (d : ℕ) (cs : List Kind) (c : List Value) (js : List Kind) (vs : List Value) → d ≡ length cs → are_of cs c ≡ true → are vars defs (cs ++ ks) js ts ≡ true → GivesEach frees calls ts (c ++ ws) vs → GivesEach frees calls (put_each terms d ts) c vs
       put_each_gives no_trees d cs c js vs e f s g = g
       put_each_gives (tree t ts) d cs c [] vs e f s g = absurd (cc)
       put_each_gives (tree t ts) d cs c (j ∷ js) vs e f s g = let p = first_of_sort vars defs j js t ts (cs ++ ks) s in (g.0, g.1, put_within_gives t d cs c j g.0 e f p.0 g.2, put_each_gives ts d cs c js g.1 e f p.1 g.3, g.4)

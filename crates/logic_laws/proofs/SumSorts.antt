@@ -1,4 +1,5 @@
 -- Sums and products of numbers are numbers.
+-- Here s is a sort, h that the atoms so far are numbers, e what the computation gives; p and q are its steps, f the sorts of the first part and of the rest.
 use Rattle.std.proofs.Common.{◌≡◌, refl, sym, subst, ℤ, pos, negsuc, ◌+ℤ◌, ◌*ℤ◌, true, ◌&&◌, Some, None, option_map, List, int_eq, Ordering, Less, Equal, Greater}
 use Rattle.logic_core.specs.Tree.{Kind, int, boolean, Tree, num, linear, mul, at_most, Parts, no_parts, part}
 use Rattle.logic_core.specs.Def.{Def}
@@ -31,10 +32,10 @@ number_is k n s r h =
     (let a = checked_is (k *ℤ n) p.0 p.1 in let b = checked_is (s.rest +ℤ p.0) q.0 q.1 in (refl, cc))
 
 module _ (vars : List Kind) (defs : List Def) where
-  one_more_int : (k : ℤ) (t : Tree) (ps : Parts) (b : List Kind) → sort_of vars defs b t ≡ Some int → are_ints vars defs b ps ≡ true → are_ints vars defs b (part k t ps) ≡ true
+  pub one_more_int : (k : ℤ) (t : Tree) (ps : Parts) (b : List Kind) → sort_of vars defs b t ≡ Some int → are_ints vars defs b ps ≡ true → are_ints vars defs b (part k t ps) ≡ true
   one_more_int k t ps b s h = all_true (is int (sort_of vars defs b t)) (are_ints vars defs b ps) (sort_is int (sort_of vars defs b t) s) h
 
-  with_part_ints : (k : ℤ) (t : Tree) (ps : Parts) (b : List Kind) → sort_of vars defs b t ≡ Some int → are_ints vars defs b ps ≡ true → are_ints vars defs b (with_part k t ps) ≡ true
+  pub with_part_ints : (k : ℤ) (t : Tree) (ps : Parts) (b : List Kind) → sort_of vars defs b t ≡ Some int → are_ints vars defs b ps ≡ true → are_ints vars defs b (with_part k t ps) ≡ true
   with_part_ints k t ps b s h = cond_has (λ qs. are_ints vars defs b qs ≡ true) (int_eq k (pos 0)) ps (part k t ps) (λ _. h) (λ _. one_more_int k t ps b s h)
 
   pub first_int : (k : ℤ) (t : Tree) (ps : Parts) (b : List Kind) → are_ints vars defs b (part k t ps) ≡ true → (sort_of vars defs b t ≡ Some int) × (are_ints vars defs b ps ≡ true)

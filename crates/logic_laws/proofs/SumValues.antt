@@ -1,4 +1,5 @@
 -- The normal form of sums and products keeps their values.
+-- Here i is a sort, f that the values for the bound variables fit, g and h the values of terms and sums, e what the computation gives; p and q are its steps.
 use Rattle.std.proofs.Common.{◌≡◌, ◌∙◌, refl, sym, ap, subst, ℕ, ℤ, pos, negsuc, ◌+ℤ◌, ◌*ℤ◌, true, ◌&&◌, Some, option_map, List, int_eq, Ordering, Less, Equal, Greater}
 use Rattle.std.proofs.lemmas.Bool.Decides.{Decides-int_eq}
 use Rattle.logic_core.specs.Tree.{Kind, int, Tree, num, linear, mul, Parts, no_parts, part}
@@ -41,11 +42,11 @@ module _ (vars : List Kind) (defs : List Def) (frees : List Value) (calls : Call
       let p = map_some (λ rs. part j u rs) (add_atom k t ps) qs e in
       subst (λ rs. GivesSum frees calls rs b ((k *ℤ int_of v) +ℤ n)) p.2 (h.0, (k *ℤ int_of v) +ℤ h.1, h.2, ih p.0 h.1 h.3 p.1, ap (λ x. (k *ℤ int_of v) +ℤ x) h.4 ∙ Z.plus_plus_swap (k *ℤ int_of v) (j *ℤ int_of h.0) h.1)
 
-  atom_gives : (ps : Parts) (k : ℤ) (t : Tree) (qs : Parts) (b : List Value) (v : Value) (n : ℤ) → Gives frees calls t b v → GivesSum frees calls ps b n → add_atom k t ps ≡ Some qs → GivesSum frees calls qs b ((k *ℤ int_of v) +ℤ n)
+  pub atom_gives : (ps : Parts) (k : ℤ) (t : Tree) (qs : Parts) (b : List Value) (v : Value) (n : ℤ) → Gives frees calls t b v → GivesSum frees calls ps b n → add_atom k t ps ≡ Some qs → GivesSum frees calls qs b ((k *ℤ int_of v) +ℤ n)
   atom_gives no_parts k t qs b v n g h e = some_has (λ rs. GivesSum frees calls rs b ((k *ℤ int_of v) +ℤ n)) (with_part k t no_parts) qs e (with_part_gives k t no_parts b v n g h)
   atom_gives (part j u ps) k t qs b v n g h e = atom_by k t j u ps qs b v n (order t u) refl g h (λ rs m i x. atom_gives ps k t rs b v m g i x) e
 
-  parts_gives : (ps : Parts) (k : ℤ) (s r : Linear) (b : List Value) (n m : ℤ) → GivesSum frees calls ps b n → GivesLinear s b m → add_parts k ps s ≡ Some r → GivesLinear r b ((k *ℤ n) +ℤ m)
+  pub parts_gives : (ps : Parts) (k : ℤ) (s r : Linear) (b : List Value) (n m : ℤ) → GivesSum frees calls ps b n → GivesLinear s b m → add_parts k ps s ≡ Some r → GivesLinear r b ((k *ℤ n) +ℤ m)
   parts_gives no_parts k s r b n m h g e = some_has (λ x. GivesLinear x b ((k *ℤ n) +ℤ m)) s r e (g.0, g.1, ap (λ x. (k *ℤ x) +ℤ m) h ∙ Z.times_zero k m ∙ g.2)
   parts_gives (part j t ps) k s r b n m h g e =
       let p = bind_some (checked_mul k j) (λ n. add_atom n t s.parts >>= λ qs. add_parts k ps (record { parts = qs; rest = s.rest })) r e in
@@ -55,7 +56,7 @@ module _ (vars : List Kind) (defs : List Def) (frees : List Value) (calls : Call
       ((p.0 *ℤ int_of h.0) +ℤ g.0, a, ap (λ x. (p.0 *ℤ int_of h.0) +ℤ x) g.2 ∙ Z.plus_plus (p.0 *ℤ int_of h.0) g.0 s.rest) q.2 in
       (i.0, i.1, ap (λ x. (k *ℤ x) +ℤ m) h.4 ∙ Z.scaled_part k j p.0 (int_of h.0) h.1 m (checked_is (k *ℤ j) p.0 p.1) ∙ i.2)
 
-  number_gives : (k n : ℤ) (s r : Linear) (b : List Value) (m : ℤ) → GivesLinear s b m → add_number k n s ≡ Some r → GivesLinear r b ((k *ℤ n) +ℤ m)
+  pub number_gives : (k n : ℤ) (s r : Linear) (b : List Value) (m : ℤ) → GivesLinear s b m → add_number k n s ≡ Some r → GivesLinear r b ((k *ℤ n) +ℤ m)
   number_gives k n s r b m g e = let f = number_is k n s r e in
       (g.0, subst (λ qs. GivesSum frees calls qs b g.0) (sym f.0) g.1, ap (λ x. (k *ℤ n) +ℤ x) g.2 ∙ Z.constant_last (k *ℤ n) g.0 s.rest ∙ ap (λ x. g.0 +ℤ x) (sym f.1))
 

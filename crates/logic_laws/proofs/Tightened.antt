@@ -1,4 +1,5 @@
 -- Tightening keeps sorts and values.
+-- Here s is the sort of a term, f that the values for the bound variables fit, g the values of its parts, l that the divisor is above 0, r the divided sum with its value.
 use Rattle.std.proofs.Common.{◌≡◌, ◌∙◌, refl, sym, ap, subst, ℕ, ◌<◌, ◌%◌, nat_lt, nat_eq, eqb-true, false-eqb, ltb-true, ℤ, pos, ◌+ℤ◌, ◌*ℤ◌, unsigned_abs, int_le, int_eq, Bool, true, false, not, if◌then◌else◌, Some, List, arith}
 use Rattle.logic_core.specs.Tree.{Kind, int, boolean, Tree, num, truth, linear, negation, equal, at_most, Parts, no_parts, part}
 use Rattle.logic_core.specs.Def.{Def}
@@ -31,7 +32,7 @@ module _ (vars : List Kind) (defs : List Def) where
   zero_below_sort : (d : Tree) (b : List Kind) → sort_of vars defs b d ≡ Some int → sort_of vars defs b (at_most (num (pos 0)) d) ≡ Some boolean
   zero_below_sort d b s = at_most_sort vars defs (num (pos 0)) d b refl s
 
-  tight_at_most_sort : (d : Tree) (b : List Kind) → sort_of vars defs b d ≡ Some int → sort_of vars defs b (tight_at_most d) ≡ Some boolean
+  pub tight_at_most_sort : (d : Tree) (b : List Kind) → sort_of vars defs b d ≡ Some int → sort_of vars defs b (tight_at_most d) ≡ Some boolean
   tight_at_most_sort (linear ps c) b s = cond_has (λ x. sort_of vars defs b x ≡ Some boolean) (nat_lt 1 (parts_gcd ps)) (at_most (num (pos 0)) (tight_sum (parts_gcd ps) ps c)) (at_most (num (pos 0)) (linear ps c))
       (λ _. zero_below_sort (tight_sum (parts_gcd ps) ps c) b (tight_sum_sort (parts_gcd ps) ps c b s)) (λ _. zero_below_sort (linear ps c) b s)
   tight_at_most_sort d b s = zero_below_sort d b s
@@ -39,7 +40,7 @@ module _ (vars : List Kind) (defs : List Def) where
   at_zero_sort : (d : Tree) (b : List Kind) → sort_of vars defs b d ≡ Some int → sort_of vars defs b (equal d (num (pos 0))) ≡ Some boolean
   at_zero_sort d b s = equal_sort vars defs d (num (pos 0)) b int s refl
 
-  tight_equal_sort : (d : Tree) (b : List Kind) → sort_of vars defs b d ≡ Some int → sort_of vars defs b (tight_equal d) ≡ Some boolean
+  pub tight_equal_sort : (d : Tree) (b : List Kind) → sort_of vars defs b d ≡ Some int → sort_of vars defs b (tight_equal d) ≡ Some boolean
   tight_equal_sort (linear ps c) b s = cond_has (λ x. sort_of vars defs b x ≡ Some boolean) (nat_lt 1 (parts_gcd ps)) (if nat_eq (unsigned_abs c % parts_gcd ps) 0 then equal (tight_sum (parts_gcd ps) ps c) (num (pos 0)) else truth false) (equal (linear ps c) (num (pos 0)))
       (λ _. cond_has (λ x. sort_of vars defs b x ≡ Some boolean) (nat_eq (unsigned_abs c % parts_gcd ps) 0) (equal (tight_sum (parts_gcd ps) ps c) (num (pos 0))) (truth false)
       (λ _. at_zero_sort (tight_sum (parts_gcd ps) ps c) b (tight_sum_sort (parts_gcd ps) ps c b s)) (λ _. refl)) (λ _. at_zero_sort (linear ps c) b s)
@@ -78,7 +79,7 @@ module _ (vars : List Kind) (defs : List Def) where
     zero_below : (d : Tree) (b : List Value) (n : ℤ) → Gives frees calls d b (whole n) → Gives frees calls (at_most (num (pos 0)) d) b (flag (int_le (pos 0) n))
     zero_below d b n g = (whole (pos 0), whole n, refl, g, refl)
 
-    tight_at_most_gives : (d : Tree) (bs : List Kind) (b : List Value) (v : Value) → sort_of vars defs bs d ≡ Some int → are_of bs b ≡ true → Gives frees calls d b v → Gives frees calls (tight_at_most d) b (flag (int_le (pos 0) (int_of v)))
+    pub tight_at_most_gives : (d : Tree) (bs : List Kind) (b : List Value) (v : Value) → sort_of vars defs bs d ≡ Some int → are_of bs b ≡ true → Gives frees calls d b v → Gives frees calls (tight_at_most d) b (flag (int_le (pos 0) (int_of v)))
     tight_at_most_gives (linear ps c) bs b v s f g = cond_has (λ x. Gives frees calls x b (flag (int_le (pos 0) (int_of v)))) (nat_lt 1 (parts_gcd ps)) (at_most (num (pos 0)) (tight_sum (parts_gcd ps) ps c)) (at_most (num (pos 0)) (linear ps c))
         (λ e. let l : 0 < parts_gcd ps = (let q = ltb-true 1 (parts_gcd ps) e in omega arith) in
         let r = divided_gives ps (parts_gcd ps) b g.0 l (parts_divided ps) g.1 in
@@ -88,7 +89,7 @@ module _ (vars : List Kind) (defs : List Def) where
         (λ _. (whole (pos 0), v, refl, g, refl))
     tight_at_most_gives d bs b v s f g = (whole (pos 0), v, refl, g, refl)
 
-    tight_equal_gives : (d : Tree) (bs : List Kind) (b : List Value) (v : Value) → sort_of vars defs bs d ≡ Some int → are_of bs b ≡ true → Gives frees calls d b v → Gives frees calls (tight_equal d) b (flag (same v (whole (pos 0))))
+    pub tight_equal_gives : (d : Tree) (bs : List Kind) (b : List Value) (v : Value) → sort_of vars defs bs d ≡ Some int → are_of bs b ≡ true → Gives frees calls d b v → Gives frees calls (tight_equal d) b (flag (same v (whole (pos 0))))
     tight_equal_gives (linear ps c) bs b v s f g = cond_has (λ x. Gives frees calls x b (flag (same v (whole (pos 0))))) (nat_lt 1 (parts_gcd ps)) (if nat_eq (unsigned_abs c % parts_gcd ps) 0 then equal (tight_sum (parts_gcd ps) ps c) (num (pos 0)) else truth false) (equal (linear ps c) (num (pos 0)))
         (λ e. let l : 0 < parts_gcd ps = (let q = ltb-true 1 (parts_gcd ps) e in omega arith) in
         let r = divided_gives ps (parts_gcd ps) b g.0 l (parts_divided ps) g.1 in

@@ -1,4 +1,5 @@
 -- A call of a definition says what its body says at the values of the arguments, and the variables that no body mentions don't matter.
+-- Here e is that the definitions below are n, s that the bodies are well sorted.
 use Rattle.std.proofs.Common.{◌≡◌, ◌∙◌, refl, sym, subst, ℕ, ◌+◌, ◌<◌, ◌≤◌, pos, nat_eq, eqb-true, eq-eqb, Bool, true, false, Some, List, [], ◌∷◌, ◌++◌, reverse, slice_get, length, length-append, ◌⊎◌, inl, inr, ⊎_elim, arith, append_assoc, append-nil}
 use Rattle.std.proofs.lemmas.Option.{slice_get_within}
 use Rattle.logic_core.specs.Tree.{Kind}
@@ -40,16 +41,16 @@ module _ (frees : List Value) where
   one_more_keeps : (n : ℕ) (d : Def) (calls : Calls) → ((f : ℕ) (vs : List Value) → Keeps (calls f vs)) → (f : ℕ) (vs : List Value) → Keeps (with_def frees n d calls f vs)
   one_more_keeps n d calls h f vs = keeps_if (nat_eq f n) (With frees calls d.body (reverse vs)) (calls f vs) (keeps frees calls h d.body (reverse vs)) (h f vs)
 
-  has_from : (ds : List Def) (n : ℕ) (calls : Calls) → ((f : ℕ) (vs : List Value) → HasOne (calls f vs)) → (f : ℕ) (vs : List Value) → HasOne (calls_from frees n ds calls f vs)
+  pub has_from : (ds : List Def) (n : ℕ) (calls : Calls) → ((f : ℕ) (vs : List Value) → HasOne (calls f vs)) → (f : ℕ) (vs : List Value) → HasOne (calls_from frees n ds calls f vs)
   has_from [] n calls h = h
   has_from (d ∷ ds) n calls h = has_from ds (n + 1) (with_def frees n d calls) (one_more_has n d calls h)
 
-  keeps_from : (ds : List Def) (n : ℕ) (calls : Calls) → ((f : ℕ) (vs : List Value) → Keeps (calls f vs)) → (f : ℕ) (vs : List Value) → Keeps (calls_from frees n ds calls f vs)
+  pub keeps_from : (ds : List Def) (n : ℕ) (calls : Calls) → ((f : ℕ) (vs : List Value) → Keeps (calls f vs)) → (f : ℕ) (vs : List Value) → Keeps (calls_from frees n ds calls f vs)
   keeps_from [] n calls h = h
   keeps_from (d ∷ ds) n calls h = keeps_from ds (n + 1) (with_def frees n d calls) (one_more_keeps n d calls h)
 
   -- later definitions leave the calls of lower numbers as they are
-  lower_stays : (ds : List Def) (n : ℕ) (calls : Calls) (f : ℕ) (vs : List Value) (P : Said) → f < n → (calls_from frees n ds calls f vs P → calls f vs P) × (calls f vs P → calls_from frees n ds calls f vs P)
+  pub lower_stays : (ds : List Def) (n : ℕ) (calls : Calls) (f : ℕ) (vs : List Value) (P : Said) → f < n → (calls_from frees n ds calls f vs P → calls f vs P) × (calls f vs P → calls_from frees n ds calls f vs P)
   lower_stays [] n calls f vs P h = ((λ a. a), (λ a. a))
   lower_stays (d ∷ ds) n calls f vs P h = let i = lower_stays ds (n + 1) (with_def frees n d calls) f vs P (omega arith) in
       ⊎_elim (λ p. absurd (let q = p.1 in omega arith))

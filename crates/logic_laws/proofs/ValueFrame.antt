@@ -1,4 +1,5 @@
 -- What a term doesn't mention doesn't matter: variables, binders and definitions beyond those over which it is well sorted.
+-- Here a is that the values for the bound variables agree, s the sort of the term, g the values of the parts, p their sorts.
 use Rattle.std.proofs.Common.{◌≡◌, ◌∙◌, refl, sym, ap, ℕ, zero, suc, ◌-◌, ◌<◌, ◌≤◌, ℤ, Bool, true, Some, IsTrue, List, [], ◌∷◌, ◌++◌, reverse, slice_get, length, arith}
 use Rattle.logic_core.specs.Tree.{Kind, int, boolean, map, Tree, num, truth, free, bound, linear, mul, read, write, choose, call, negation, all, some, equal, at_most, for_all, exists, Trees, no_trees, tree, Parts, no_parts, part}
 use Rattle.logic_core.specs.Def.{Def}
@@ -86,20 +87,20 @@ module _ (vars : List Kind) (below : List Def) (frees : List Value) (calls : Cal
         decided_some ss (λ vs. Holds frees calls t (reverse vs ++ b)) (λ vs. Holds frees' calls' t (reverse vs ++ b')) r
         (λ vs h. holds_over t (reverse vs ++ b) (reverse vs ++ b') (λ v w. gives_over t (reverse ss ++ bs) (reverse vs ++ b) (reverse vs ++ b') boolean v (agree_after (reverse ss) bs (reverse vs) b b' (are_of_reverse ss vs h) a) p.1 w)) g
 
-    each_over : (ts : Trees) (bs : List Kind) (b b' : List Value) (ks : List Kind) (vs : List Value) → Agree bs b b' → are vars below bs ks ts ≡ true → GivesEach frees calls ts b vs → GivesEach frees' calls' ts b' vs
+    pub each_over : (ts : Trees) (bs : List Kind) (b b' : List Value) (ks : List Kind) (vs : List Value) → Agree bs b b' → are vars below bs ks ts ≡ true → GivesEach frees calls ts b vs → GivesEach frees' calls' ts b' vs
     each_over no_trees bs b b' ks vs a s g = g
     each_over (tree t ts) bs b b' [] vs a s g = absurd (cc)
     each_over (tree t ts) bs b b' (k ∷ ks) vs a s g = let p = first_of_sort vars below k ks t ts bs s in (g.0, g.1, gives_over t bs b b' k g.0 a p.0 g.2, each_over ts bs b b' ks g.1 a p.1 g.3, g.4)
 
-    every_over : (ts : Trees) (bs : List Kind) (b b' : List Value) (h : Bool) → Agree bs b b' → are_formulas vars below bs ts ≡ true → GivesEvery frees calls ts b h → GivesEvery frees' calls' ts b' h
+    pub every_over : (ts : Trees) (bs : List Kind) (b b' : List Value) (h : Bool) → Agree bs b b' → are_formulas vars below bs ts ≡ true → GivesEvery frees calls ts b h → GivesEvery frees' calls' ts b' h
     every_over no_trees bs b b' h a s g = g
     every_over (tree t ts) bs b b' h a s g = let p = first_formula vars below t ts bs s in (g.0, g.1, gives_over t bs b b' boolean g.0 a p.0 g.2, every_over ts bs b b' g.1 a p.1 g.3, g.4)
 
-    any_over : (ts : Trees) (bs : List Kind) (b b' : List Value) (h : Bool) → Agree bs b b' → are_formulas vars below bs ts ≡ true → GivesAny frees calls ts b h → GivesAny frees' calls' ts b' h
+    pub any_over : (ts : Trees) (bs : List Kind) (b b' : List Value) (h : Bool) → Agree bs b b' → are_formulas vars below bs ts ≡ true → GivesAny frees calls ts b h → GivesAny frees' calls' ts b' h
     any_over no_trees bs b b' h a s g = g
     any_over (tree t ts) bs b b' h a s g = let p = first_formula vars below t ts bs s in (g.0, g.1, gives_over t bs b b' boolean g.0 a p.0 g.2, any_over ts bs b b' g.1 a p.1 g.3, g.4)
 
-    sum_over : (ps : Parts) (bs : List Kind) (b b' : List Value) (n : ℤ) → Agree bs b b' → are_ints vars below bs ps ≡ true → GivesSum frees calls ps b n → GivesSum frees' calls' ps b' n
+    pub sum_over : (ps : Parts) (bs : List Kind) (b b' : List Value) (n : ℤ) → Agree bs b b' → are_ints vars below bs ps ≡ true → GivesSum frees calls ps b n → GivesSum frees' calls' ps b' n
     sum_over no_parts bs b b' n a s g = g
     sum_over (part c t ps) bs b b' n a s g = let p = first_int vars below c t ps bs s in (g.0, g.1, gives_over t bs b b' int g.0 a p.0 g.2, sum_over ps bs b b' g.1 a p.1 g.3, g.4)
 

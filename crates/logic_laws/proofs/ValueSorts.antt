@@ -1,4 +1,5 @@
 -- A term's value is of its sort.
+-- Here s is the sort of the term, h that the values for the bound variables fit, g the values of the parts, f their sorts.
 use Rattle.std.proofs.Common.{◌≡◌, refl, sym, subst, ℕ, ◌+ℤ◌, ◌*ℤ◌, int_le, Bool, true, false, ◌&&◌, not, Some, IsTrue, List, [], ◌∷◌, ◌++◌, reverse, slice_get, inl, inr}
 use Rattle.logic_core.specs.Tree.{Kind, int, boolean, map, Tree, num, truth, free, bound, linear, mul, read, write, choose, call, negation, all, some, equal, at_most, for_all, exists, Trees, no_trees, tree}
 use Rattle.logic_core.specs.Def.{Def}

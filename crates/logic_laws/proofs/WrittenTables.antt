@@ -26,7 +26,7 @@ less_is_other : (i j : ℤ) → int_lt i j ≡ true → int_eq i j ≡ false
 less_is_other i j h = grind (arith, ints)
 
 -- below all entries stands the default
-look_below : (k : Kind) (d : Value) (es : Entries) (i : ℤ) → above i es ≡ true → are_entries k d es ≡ true → look_in d es i ≡ d
+pub look_below : (k : Kind) (d : Value) (es : Entries) (i : ℤ) → above i es ≡ true → are_entries k d es ≡ true → look_in d es i ≡ d
 look_below k d no_entries i a g = refl
 look_below k d (entry j v es) i a g = let p = parts_of_entry k d j v es g in
     cond_false (int_eq i j) v (look_in d es i) (less_is_other i j a) ∙ look_below k d es i (above_less i j es a p.2) p.3
@@ -37,7 +37,7 @@ look_kept k d i x es a g = cond_has (λ fs. look_in d fs i ≡ x) (same x d) es 
 look_kept_other : (d : Value) (i : ℤ) (x : Value) (es : Entries) (j : ℤ) → int_eq j i ≡ false → look_in d (kept d i x es) j ≡ look_in d es j
 look_kept_other d i x es j o = cond_has (λ fs. look_in d fs j ≡ look_in d es j) (same x d) es (entry i x es) (λ _. refl) (λ _. cond_false (int_eq j i) x (look_in d es j) o)
 
-look_in_put : (k : Kind) (d : Value) (es : Entries) (i : ℤ) (x : Value) → are_entries k d es ≡ true → look_in d (put_in d es i x) i ≡ x
+pub look_in_put : (k : Kind) (d : Value) (es : Entries) (i : ℤ) (x : Value) → are_entries k d es ≡ true → look_in d (put_in d es i x) i ≡ x
 look_in_put k d no_entries i x g = look_kept k d i x no_entries refl refl
 look_in_put k d (entry j w es) i x g = let p = parts_of_entry k d j w es g in
     cond_has (λ fs. look_in d fs i ≡ x) (int_eq i j) (kept d i x es) (cond (int_lt i j) (kept d i x (entry j w es)) (entry j w (put_in d es i x)))
@@ -49,7 +49,7 @@ cond_ap : {A : Type 0} (c : Bool) (x y z : A) → y ≡ z → cond c x y ≡ con
 cond_ap true x y z e = refl
 cond_ap false x y z e = e
 
-look_in_put_other : (d : Value) (es : Entries) (i : ℤ) (x : Value) (n : ℤ) → int_eq n i ≡ false → look_in d (put_in d es i x) n ≡ look_in d es n
+pub look_in_put_other : (d : Value) (es : Entries) (i : ℤ) (x : Value) (n : ℤ) → int_eq n i ≡ false → look_in d (put_in d es i x) n ≡ look_in d es n
 look_in_put_other d no_entries i x n o = look_kept_other d i x no_entries n o
 look_in_put_other d (entry j w es) i x n o =
     cond_has (λ fs. look_in d fs n ≡ look_in d (entry j w es) n) (int_eq i j) (kept d i x es) (cond (int_lt i j) (kept d i x (entry j w es)) (entry j w (put_in d es i x)))
@@ -108,7 +108,7 @@ order_of false i j o e = inr (above_other i j o e)
 no_lower_entry : (k : Kind) (d : Value) (i : ℤ) (v : Value) (es fs : Entries) → are_entries k d (entry i v es) ≡ true → are_entries k d fs ≡ true → above i fs ≡ true → look_in d (entry i v es) i ≡ look_in d fs i → ⊥
 no_lower_entry k d i v es fs g h a e = not_default v d (parts_of_entry k d i v es g).1 (sym (cond_true (int_eq i i) v (look_in d es i) (itself i)) ∙ e ∙ look_below k d fs i a h)
 
-entries_by_reads : (k : Kind) (d : Value) (es fs : Entries) → are_entries k d es ≡ true → are_entries k d fs ≡ true → ((n : ℤ) → look_in d es n ≡ look_in d fs n) → es ≡ fs
+pub entries_by_reads : (k : Kind) (d : Value) (es fs : Entries) → are_entries k d es ≡ true → are_entries k d fs ≡ true → ((n : ℤ) → look_in d es n ≡ look_in d fs n) → es ≡ fs
 entries_by_reads k d no_entries no_entries g h e = refl
 entries_by_reads k d no_entries (entry j w fs) g h e = absurd (no_lower_entry k d j w fs no_entries h g refl (sym (e j)))
 entries_by_reads k d (entry i v es) no_entries g h e = absurd (no_lower_entry k d i v es no_entries g h refl (e i))

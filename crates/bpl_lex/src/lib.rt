@@ -1,0 +1,18 @@
+// The tokens of a program's text: where it can be cut into blanks, comments and tokens, each the
+// longest that begins at its place, and else the first byte at which none of them begins.
+#![tactic(auto)]
+
+mod bytes;
+pub mod faults;
+pub mod kinds;
+pub mod lexing;
+mod pieces;
+mod signs;
+mod words;
+
+pub use faults::LexFault;
+pub use kinds::{Token, TokenKind};
+pub use lexing::tokens;
+
+#[cfg(test)]
+mod tests;

@@ -1,0 +1,17 @@
+use Rattle.std.proofs.Common.{◌∙◌, ap, refl, Some, arith}
+use Rattle.std.proofs.lemmas.Grind.{common_steps}
+use Rattle.logic_core.specs.Tree.{no_trees}
+use Rattle.logic_core.specs.View.{trees_of}
+use Rattle.logic_core.specs.Before.{tree_before}
+use Rattle.logic_core.specs.Junction.{negated_each}
+use Rattle.logic_core.proofs.Made.{given_more, given_all, trees_before_none}
+use Rattle.logic_core.proofs.negation.+negated.Goals as goal
+
+pub negated_each-loop-term-preserved : goal.negated_each-loop-term-preserved
+negated_each-loop-term-preserved t c = record {
+  made = given_more tree_before (λ ts. negated_each (trees_of ts)) c.args.terms.now _ _ c.loop-term.term-index _ _ _ c.loop-term-test.true c.term-item.is c.in_ok-push.ensures.items c.loop-term.invariant.made (rw c.in_ok-negated.ensures refl);
+  less = grind (arith, common_steps);
+}
+
+pub negated_each-returns : goal.negated_each-returns
+negated_each-returns t c = given_all tree_before (λ ts. negated_each (trees_of ts)) c.args.terms.now _ c.loop-term.term-index _ no_trees c.loop-term-test.false refl c.loop-term.invariant.made ∙ ap Some (trees_before_none c.loop-term.parts.items)

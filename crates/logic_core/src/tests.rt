@@ -1,0 +1,5 @@
+// Normal forms, orders, sizes and sorts of small terms, worked out by hand from the rules.
+mod arithmetic;
+mod build;
+mod formulas;
+mod parts;
