@@ -12,7 +12,7 @@ ghost use Rattle.tableau.specs.View.{made_of};
 
 use crate::branch::Made;
 use crate::fact::{Fact, is_there, is_truth};
-use crate::pending::normal;
+use logic_core::normal::normal;
 use logic_core::def::Signature;
 use logic_core::fault::NormalFault;
 use logic_core::replace::replace;

@@ -4,7 +4,7 @@ ghost use Rattle.logic_core.specs.Junction.{is_truth, negated};
 ghost use Rattle.proof_core.specs.Ends.{is_negation_of};
 ghost use Rattle.tableau.specs.Branch.{is_there};
 
-use crate::pending::negated;
+use logic_core::negation::negated;
 use logic_core::fault::NormalFault;
 use logic_core::term::{Node, Term};
 use std::alloc::{AllocError, Global};

@@ -1,25 +1,33 @@
-// The search for a proof.
+//! The search for a proof of an obligation: branches of facts, on which a step applies the first rule
+//! that can be applied, until a fact and its Not stand on each. The answer is a verdict and, where it
+//! is Proved, a proof that is accepted.
 #![tactic(auto)]
 
-pub mod assembly;
-pub mod branch;
-pub mod change;
-pub mod closing;
-pub mod ended;
+// Facts, branches, and what a step makes of them.
 pub mod fact;
-pub mod flattening;
-pub mod laws;
+pub mod branch;
+pub mod played;
+pub mod change;
+
+// The rules.
+pub mod closing;
 pub mod oldest;
+pub mod flattening;
 pub mod oriented;
 pub mod outside;
-pub mod partial;
-pub mod pending;
-pub mod played;
 pub mod rewriting;
-pub mod run;
-pub mod search;
-pub mod settled;
-pub mod splitting;
-pub mod start;
-pub mod step;
 pub mod unfolding;
+pub mod splitting;
+
+// The search, and the proof of its moves.
+pub mod step;
+pub mod ended;
+pub mod run;
+pub mod partial;
+pub mod assembly;
+pub mod start;
+pub mod settled;
+pub mod search;
+
+// Laws of the search.
+pub mod laws;

@@ -3,7 +3,6 @@ ghost use Rattle.std.specs.Prelude.{◌≡◌, ◌&&◌, ◌||◌, not, nat_eq, 
 ghost use Rattle.logic_core.specs.Wide.{when};
 ghost use Rattle.std.specs.Option.{option_copied};
 ghost use Rattle.logic_core.specs.Subterm.{has_quantifier, has_any, has_part, is_quantifier};
-ghost use Rattle.logic_core.specs.Junction.{is_zero};
 ghost use Rattle.logic_core.specs.View.{trees_of, parts_of};
 ghost use Rattle.proof_core.specs.Says.{sum_of};
 ghost use Rattle.tableau.specs.Oriented.{is_variable, is_application, is_one, is_minus_one, parts_with, greater_number, solvable_among, simple_lead, linear_left, defines, defined, greater_side, equation_left, left_side};
@@ -29,16 +28,6 @@ fn is_application(term: &Term) -> bool
 {
     match &term.node {
         Node::Read(_, _) | Node::Call(_, _) => true,
-        _ => false,
-    }
-}
-
-/// Whether the term is the number zero.
-fn is_zero(term: &Term) -> bool
-    ensures { result ≡ is_zero term.now }
-{
-    match &term.node {
-        Node::Num(n) => *n == 0,
         _ => false,
     }
 }
@@ -245,7 +234,7 @@ fn equation_left<'a>(
 ) -> Result<Option<&'a Term>, AllocError>
     ensures { IfOk result (λ l. option_copied l ≡ equation_left signature.now.vars signature.now.defs a.now b.now) }
 {
-    if is_zero(b) {
+    if b.is_zero() {
         return Ok(linear_left(a));
     }
     match defined(a, b) {

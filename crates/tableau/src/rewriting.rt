@@ -12,7 +12,7 @@ use crate::branch::{Branch, Made};
 use crate::change::{change_by, replaced_form};
 use crate::fact::Fact;
 use crate::oriented::left_side;
-use crate::pending::says;
+use proof_core::says::says;
 use crate::played::Move;
 use logic_core::def::Signature;
 use logic_core::fault::NormalFault;
