@@ -10,6 +10,8 @@ mod formula;
 mod naming;
 pub mod reading;
 pub mod report;
+#[cfg(test)]
+mod searches;
 pub mod soundness;
 pub mod status;
 #[cfg(test)]

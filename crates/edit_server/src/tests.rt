@@ -110,6 +110,93 @@ fn a_text_that_is_not_read_is_refused(rt: HostRuntime) -> Result<(), Fail> {
     Ok(())
 }
 
+/// Texts just inside the first form, with what is written for them.
+const INSIDE: [(&str, &str); 16] = [
+    ("// nothing but comments\n/* at all */", ""),
+    ("procedure P(){}", "P correct\n"),
+    ("procedure asserted() { }", "asserted correct\n"),
+    ("procedure P() { var x, y: int; x := y; }", "P correct\n"),
+    (
+        "procedure P() { var x: int; var X: int; x := X; }",
+        "P correct\n",
+    ),
+    ("procedure P() { /* assert 1 == 2; */ }", "P correct\n"),
+    (
+        "procedure P() { assert 170141183460469231731687303715884105727 > 0; }",
+        "P 1:17 assert proved\nP correct\n",
+    ),
+    (
+        "procedure P() { assert 0007 == 7; }",
+        "P 1:17 assert proved\nP correct\n",
+    ),
+    (
+        "procedure P() { assert 1 < 2 && 2 < 3; }",
+        "P 1:17 assert proved\nP correct\n",
+    ),
+    (
+        "procedure P() { assert 1 - 2 == 0 - 1; }",
+        "P 1:17 assert proved\nP correct\n",
+    ),
+    (
+        "procedure P() { assert 1 + 2 - 3 <= 0; }",
+        "P 1:17 assert proved\nP correct\n",
+    ),
+    (
+        "procedure P() { assert 1 == 1; } // procedure Q() { }",
+        "P 1:17 assert proved\nP correct\n",
+    ),
+    (
+        "procedure P() { assume 1 == 2; assert 1 == 2; }",
+        "P 1:32 assert proved\nP correct\n",
+    ),
+    (
+        "procedure P() { assert 2 > 1; assert 1 >= 1; }",
+        "P 1:17 assert proved\nP 1:31 assert proved\nP correct\n",
+    ),
+    (
+        "\n\n  procedure P() {\n\tassert 1 != 2; }",
+        "P 2:2 assert proved\nP correct\n",
+    ),
+    (
+        "procedure P() { var x: int; x := 1; assert x == 1; x := 2; assert x == 2; }",
+        "P 1:37 assert proved\nP 1:60 assert proved\nP correct\n",
+    ),
+];
+
+/// Texts just outside the first form.
+const OUTSIDE: [&str; 18] = [
+    "@",
+    "procedure P(",
+    "procedure assert() { }",
+    "procedure P() { var x, : int; }",
+    "procedure P() { var x: int; var x: int; }",
+    "procedure P() { var x: int; x := X; }",
+    "procedure P() { /* assert 1 == 2; }",
+    "procedure P() { assert 170141183460469231731687303715884105728 > 0; }",
+    "procedure P() { assert 7a == 7; }",
+    "procedure P() { assert 1 < 2 < 3; }",
+    "procedure P() { assert 1 - 2 == -1; }",
+    "procedure P() { assert 1 + 2 - <= 0; }",
+    "procedure P() { assert 1 == 1; } procedure Q() { }",
+    "procedure P() { assume ; assert 1 == 2; }",
+    "procedure P() { assert 2 > 1; assert 1 >= 1 }",
+    "procedure P() { assert (1 != 2); }",
+    "procedure P() { x := 1; var x: int; }",
+    "procedure P(x: int) { }",
+];
+
+#[test]
+fn texts_at_the_edge_of_the_form(rt: HostRuntime) -> Result<(), Fail> {
+    for (text, output) in INSIDE {
+        assert!(rt; checks(&rt, text, output, Status::Done)?, "{text}");
+    }
+    let line = "fault Unbuilt - 0:0 input\n";
+    for text in OUTSIDE {
+        assert!(rt; checks(&rt, text, line, Status::Refused)?, "{text}");
+    }
+    Ok(())
+}
+
 #[test]
 fn words_that_are_not_check_are_refused(rt: HostRuntime) -> Result<(), Fail> {
     let line = "fault Usage - 0:0 -\n";
