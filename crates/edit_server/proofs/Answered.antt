@@ -1,9 +1,9 @@
 -- What is written for a text is the answer to it.
-use Rattle.std.proofs.Common.{◌≡◌, ◌∙◌, ℕ, List, Option, Result, Ok, Err, IfOk, refl, sym, ap}
+use Rattle.std.proofs.Common.{◌≡◌, ◌∙◌, ℕ, inl, inr, List, Option, Result, Ok, Err, IfOk, refl, sym, ap}
 use Rattle.edit_server.specs.FirstForm.{Procedure}
 use Rattle.edit_server.specs.Spelling.{Spells}
 use Rattle.edit_server.specs.Execution.{IsSafe}
-use Rattle.edit_server.specs.Report.{text_of, last_line}
+use Rattle.edit_server.specs.Report.{text_of}
 use Rattle.edit_server.specs.Check.{IsAnswer, report_on, status_on, verdicts, refusal, correct_line}
 use Rattle.edit_server.specs.declared.status.Status.{Status}
 use Rattle.edit_server.specs.declared.status.Status.TheVariants.{Refused}
@@ -13,6 +13,7 @@ use Rattle.edit_server.proofs.CorrectIsSafe.{correct_is_safe}
 -- of a text that spells this program
 pub reported : (text written : List ℕ) (status : Status) (program : Option Procedure) → Spells text program → written ≡ text_of (report_on program) → status ≡ status_on program → IsAnswer text written status
 reported text written status program spelled w s = record {
+  decided = inl (program, spelled);
   reported = λ other spells. let same : program ≡ other = one_program text program other spelled spells in
       (w ∙ ap (λ o. text_of (report_on o)) same, s ∙ ap status_on same);
   refused = λ none. absurd (none program spelled);
@@ -22,6 +23,7 @@ reported text written status program spelled w s = record {
 -- of a text that spells none
 pub refused : (text : List ℕ) → ((program : Option Procedure) → Spells text program → ⊥) → IsAnswer text refusal Refused
 refused text none = record {
+  decided = inr none;
   reported = λ program spells. absurd (none program spells);
   refused = λ h. (refl, refl);
   correct = λ p spells line. correct_is_safe p line;

@@ -1,5 +1,6 @@
--- A procedure whose report says that it is correct is safe: each of its goals has an accepted proof, so it is valid.
-use Rattle.std.proofs.Common.{◌≡◌, ◌∙◌, ℕ, zero, suc, arith, Bool, true, false, cond, ◌&&◌, Option, Some, None, is_some, List, [], ◌∷◌, ◌++◌, IsTrue, All, codes, map, refl, sym, ap, subst}
+-- A procedure of whose report a line says that it is correct is safe: each of its goals has an accepted proof, so it is valid.
+use Rattle.std.proofs.Common.{◌≡◌, ◌∙◌, ◌<◌, ℕ, zero, suc, arith, nat_eq, Bool, true, false, cond, ◌&&◌, ◌||◌, Option, Some, None, is_some, List, [], ◌∷◌, ◌++◌, length, slice_index_or, Contains, IsTrue, All, codes, decimal, map, refl, sym, ap, subst}
+use Rattle.bv_base.specs.declared.place.Place.{Place}
 use Rattle.std.specs.List.{list_all, AllByRecursion}
 use Rattle.proof_core.specs.Proof.{Proof}
 use Rattle.proof_core.specs.Soundness as proofs
@@ -13,8 +14,8 @@ use Rattle.tableau.specs.Search.{answer, Verdict, proved, «open», turns, wide}
 use Rattle.edit_server.specs.FirstForm.{Procedure}
 use Rattle.edit_server.specs.Execution.{IsSafe}
 use Rattle.edit_server.specs.Conditions.{Goal, goals_of}
-use Rattle.edit_server.specs.Report.{is_correct, is_proved, last_line, last_words}
-use Rattle.edit_server.specs.Check.{turns as allowed, verdict_on, verdicts, correct_line}
+use Rattle.edit_server.specs.Report.{is_correct, is_proved, goal_line, goal_lines, verdict_text, last_line, last_words}
+use Rattle.edit_server.specs.Check.{turns as allowed, verdict_on, verdicts, report_on, correct_line}
 use Rattle.obligation_text.specs.WellSorted.{IsWellSorted}
 use Rattle.edit_server.proofs.GoalsSorted.{goals_are_well_sorted}
 use Rattle.edit_server.proofs.FailuresRefuted.{valid_goals_are_safe}
@@ -53,5 +54,53 @@ each_valid [] ws h k d lt = absurd (omega (arith, lt))
 each_valid (g ∷ gs) ws h zero d lt = proved_is_valid g.obligation allowed (ws 0 g (omega arith)) (is_proved_is (verdict_on g) (both_true (is_proved (verdict_on g)) (list_all is_proved (map verdict_on gs)) h).0)
 each_valid (g ∷ gs) ws h (suc k) d lt = each_valid gs (λ j e l. ws (suc j) e (omega (arith, l))) (both_true (is_proved (verdict_on g)) (list_all is_proved (map verdict_on gs)) h).1 k d (omega (arith, lt))
 
-pub correct_is_safe : (p : Procedure) → last_line p.name (verdicts p) ≡ correct_line p → IsSafe p
-correct_is_safe p line = valid_goals_are_safe p (each_valid (goals_of p) (goals_are_well_sorted p) (ends_correct (is_correct (verdicts p)) (cancel p.name (last_words (verdicts p)) (codes " correct") line)))
+-- where the last line says that it is correct
+ends_so : (p : Procedure) → last_line p.name (verdicts p) ≡ correct_line p → IsSafe p
+ends_so p line = valid_goals_are_safe p (each_valid (goals_of p) (goals_are_well_sorted p) (ends_correct (is_correct (verdicts p)) (cancel p.name (last_words (verdicts p)) (codes " correct") line)))
+
+-- a colon stands in a goal's line behind the name, and none in the words of a correct procedure
+
+has_colon : List ℕ → Bool
+has_colon [] = false
+has_colon (c ∷ cs) = nat_eq c 58 || has_colon cs
+
+either_true : (a : Bool) → (a || true) ≡ true
+either_true true = refl
+either_true false = refl
+
+in_front : (xs ys : List ℕ) → has_colon xs ≡ true → has_colon (xs ++ ys) ≡ true
+in_front [] ys h = absurd (cc)
+in_front (x ∷ xs) ys h = by_first (nat_eq x 58) h
+  where
+    by_first : (b : Bool) → (b || has_colon xs) ≡ true → (b || has_colon (xs ++ ys)) ≡ true
+    by_first true e = refl
+    by_first false e = in_front xs ys e
+
+in_back : (xs ys : List ℕ) → has_colon ys ≡ true → has_colon (xs ++ ys) ≡ true
+in_back [] ys h = h
+in_back (x ∷ xs) ys h = rw (in_back xs ys h) either_true (nat_eq x 58)
+
+assoc : (xs ys zs : List ℕ) → (xs ++ ys) ++ zs ≡ xs ++ (ys ++ zs)
+assoc [] ys zs = refl
+assoc (x ∷ xs) ys zs = ap (λ l. x ∷ l) (assoc xs ys zs)
+
+-- a goal's line is no line that says so
+goal_says_other : (name : List ℕ) (at : Place) (v : Verdict) → goal_line name at v ≡ name ++ codes " correct" → ⊥
+goal_says_other name at v e =
+    let behind : List ℕ = codes " " ++ decimal at.line ++ codes ":" ++ decimal at.col ++ codes " assert" in
+    let words : behind ++ (codes " " ++ verdict_text v) ≡ codes " correct" = cancel name (behind ++ (codes " " ++ verdict_text v)) (codes " correct") (sym (assoc name behind (codes " " ++ verdict_text v)) ∙ e) in
+    let has : has_colon (behind ++ (codes " " ++ verdict_text v)) ≡ true = in_front behind (codes " " ++ verdict_text v) (in_back (decimal at.line) (codes ":" ++ decimal at.col ++ codes " assert") refl) in
+    let none : has_colon (behind ++ (codes " " ++ verdict_text v)) ≡ false = ap has_colon words in
+    cc
+
+-- so it is the last line that does
+last_says_it : (name last : List ℕ) (ats : List Place) (vs : List Verdict) (k : ℕ) → k < length (goal_lines name ats vs ++ last ∷ []) → slice_index_or (goal_lines name ats vs ++ last ∷ []) k (name ++ codes " correct") ≡ name ++ codes " correct" → last ≡ name ++ codes " correct"
+last_says_it name last [] vs zero within e = e
+last_says_it name last [] vs (suc k) within e = absurd (omega (arith, within))
+last_says_it name last (at ∷ ats) [] zero within e = e
+last_says_it name last (at ∷ ats) [] (suc k) within e = absurd (omega (arith, within))
+last_says_it name last (at ∷ ats) (v ∷ vs) zero within e = absurd (goal_says_other name at v e)
+last_says_it name last (at ∷ ats) (v ∷ vs) (suc k) within e = last_says_it name last ats vs k (omega (arith, within)) e
+
+pub correct_is_safe : (p : Procedure) → Contains (report_on (Some p)) (correct_line p) → IsSafe p
+correct_is_safe p within = ends_so p (last_says_it p.name (last_line p.name (verdicts p)) (map (λ g. g.place) (goals_of p)) (verdicts p) within.0 within.1 within.2)

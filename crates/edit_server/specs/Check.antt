@@ -1,5 +1,5 @@
 -- What `check` answers to a text: the report on the procedure that it spells, or one line where it spells no program that is read.
-use Rattle.std.specs.Prelude.{◌≡◌, ℕ, IsTrue, List, [], ◌++◌, codes, map, Option, Some, None, if◌then◌else◌}
+use Rattle.std.specs.Prelude.{◌≡◌, ◌⊎◌, ℕ, IsTrue, List, [], ◌++◌, codes, map, Contains, Option, Some, None, if◌then◌else◌}
 use Rattle.tableau.specs.Search.{answer}
 use Rattle.edit_server.specs.FirstForm.{Procedure}
 use Rattle.edit_server.specs.Spelling.{Spells}
@@ -39,7 +39,9 @@ correct_line p = p.name ++ codes " correct"
 
 -- what is written for a text, and the status
 pub record IsAnswer (text written : List ℕ) (status : Status) : Type 0 where
+  -- the text spells a program or none: one of the next two fields speaks of it
+  pub decided : ((program : Option Procedure) × Spells text program) ⊎ ((program : Option Procedure) → ¬ Spells text program)
   pub reported : (program : Option Procedure) → Spells text program → (written ≡ text_of (report_on program)) × (status ≡ status_on program)
   pub refused : ((program : Option Procedure) → ¬ Spells text program) → (written ≡ refusal) × (status ≡ Refused)
-  -- where the report ends with the line that the procedure is correct, no execution of it fails
-  pub correct : (p : Procedure) → Spells text (Some p) → last_line p.name (verdicts p) ≡ correct_line p → IsSafe p
+  -- where a line of the report says that the procedure is correct, no execution of it fails
+  pub correct : (p : Procedure) → Spells text (Some p) → Contains (report_on (Some p)) (correct_line p) → IsSafe p

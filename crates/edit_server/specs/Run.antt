@@ -29,6 +29,10 @@ pub record Answered (left left' held held' : Option (List ℕ)) (status : Status
 abbrev pub IsFull : Option (List ℕ) → Option (List ℕ) → Type 0
 IsFull left left' = (taken : List ℕ) × (length taken ≡ total + 1) × Takes left left' taken
 
+-- no more than the total was taken
+abbrev pub IsWithin : Option (List ℕ) → Option (List ℕ) → Type 0
+IsWithin left left' = (taken : List ℕ) × (length taken ≤ total) × Takes left left' taken
+
 -- some front of what was to be written was written
 abbrev pub WroteFront : Option (List ℕ) → Option (List ℕ) → List ℕ → Type 0
 WroteFront held held' written = (n : ℕ) × (n < length written) × Adds held held' (take n written)

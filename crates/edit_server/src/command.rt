@@ -2,7 +2,7 @@
 ghost use Rattle.std.specs.Prelude.{◌≡◌, ◌⊎◌, ◌<◌, length, map, string_bytes, IfSome};
 ghost use Rattle.bv_base.specs.Known.{Adds, HasRisen};
 ghost use Rattle.edit_server.specs.Exit.{IsAnswering, IsSilent};
-ghost use Rattle.edit_server.specs.Run.{Answered, Broken, IsCheck, IsFull, WroteFront, total, usage_line};
+ghost use Rattle.edit_server.specs.Run.{Answered, Broken, IsCheck, IsFull, IsWithin, WroteFront, total, usage_line};
 
 use crate::check::answer_to;
 use crate::status::Status;
@@ -35,6 +35,7 @@ fn check<S: Source, K: Sink>(alloc: Global, source: &mut S, sink: &mut K) -> Sta
     ensures write_fault { result ≡ Status.WriteFault → HasRisen (K.faults sink.old) (K.faults sink.new) }
     ensures front { result ≡ Status.WriteFault → Broken (S.left source.old) (S.left source.new) (K.held sink.old) (K.held sink.new) }
     ensures full { result ≡ Status.SessionFull → IsFull (S.left source.old) (S.left source.new) }
+    ensures within { ¬ (result ≡ Status.SessionFull) → IsWithin (S.left source.old) (S.left source.new) }
 {
     let text = match read_all(alloc, source, TOTAL) {
         Ok(text) => text,
@@ -56,11 +57,11 @@ fn check<S: Source, K: Sink>(alloc: Global, source: &mut S, sink: &mut K) -> Sta
 ///
 /// `Usage` comes exactly where the words are not the one word `check`; then nothing is read.
 /// `ReadFault` and `WriteFault` come only where the source's or the sink's count of faults rose in
-/// this call, `SessionFull` only where more than 16,777,216 bytes were there. `Memory` is the one
-/// free answer. `Done`, `NotAll` and `Refused` come only where the input was read to its end and
-/// the whole answer was written: the report on the procedure that the input spells, or the line of
-/// a text that isn't read. Where the report says that the procedure is correct, no execution of
-/// it fails an assertion.
+/// this call, `SessionFull` exactly where 16,777,216 bytes were taken and a further one was read.
+/// `Memory` is the one free answer. `Done`, `NotAll` and `Refused` come only where the input was
+/// read to its end and the whole answer was written: the report on the procedure that the input
+/// spells, or the line of a text that isn't read. Where the report says that the procedure is
+/// correct, no execution of it fails an assertion.
 pub fn run<R: AllocGlobal, S: Source, K: Sink>(
     rt: &R,
     words: &[String],
@@ -78,6 +79,7 @@ pub fn run<R: AllocGlobal, S: Source, K: Sink>(
     ensures usage_front { result ≡ Status.WriteFault → ¬ IsCheck (map string_bytes words.now) → WroteFront (K.held sink.old) (K.held sink.new) usage_line }
     ensures answer_front { result ≡ Status.WriteFault → IsCheck (map string_bytes words.now) → Broken (S.left source.old) (S.left source.new) (K.held sink.old) (K.held sink.new) }
     ensures full { result ≡ Status.SessionFull → IsFull (S.left source.old) (S.left source.new) }
+    ensures within { IsCheck (map string_bytes words.now) → ¬ (result ≡ Status.SessionFull) → IsWithin (S.left source.old) (S.left source.new) }
 {
     if is_check(words) {
         check(rt.alloc(), source, sink)
