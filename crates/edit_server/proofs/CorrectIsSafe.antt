@@ -1,5 +1,5 @@
 -- A procedure of whose report a line says that it is correct is safe: each of its goals has an accepted proof, so it is valid.
-use Rattle.std.proofs.Common.{◌≡◌, ◌∙◌, ◌<◌, ℕ, zero, suc, arith, nat_eq, Bool, true, false, cond, ◌&&◌, ◌||◌, Option, Some, None, is_some, List, [], ◌∷◌, ◌++◌, length, slice_index_or, Contains, IsTrue, All, codes, decimal, map, refl, sym, ap, subst}
+use Rattle.std.proofs.Common.{◌≡◌, ◌∙◌, ◌<◌, ◌+◌, ℕ, zero, suc, arith, nat_eq, Bool, true, false, cond, ◌&&◌, Option, Some, None, is_some, List, [], ◌∷◌, ◌++◌, length, slice_index_or, Contains, IsTrue, All, codes, decimal, map, refl, sym, ap, subst}
 use Rattle.bv_base.specs.declared.place.Place.{Place}
 use Rattle.std.specs.List.{list_all, AllByRecursion}
 use Rattle.proof_core.specs.Proof.{Proof}
@@ -58,40 +58,35 @@ each_valid (g ∷ gs) ws h (suc k) d lt = each_valid gs (λ j e l. ws (suc j) e 
 ends_so : (p : Procedure) → last_line p.name (verdicts p) ≡ correct_line p → IsSafe p
 ends_so p line = valid_goals_are_safe p (each_valid (goals_of p) (goals_are_well_sorted p) (ends_correct (is_correct (verdicts p)) (cancel p.name (last_words (verdicts p)) (codes " correct") line)))
 
--- a colon stands in a goal's line behind the name, and none in the words of a correct procedure
+-- a colon stands in a goal's line, besides those of the name, and none in the words of a correct procedure
 
-has_colon : List ℕ → Bool
-has_colon [] = false
-has_colon (c ∷ cs) = nat_eq c 58 || has_colon cs
+abbrev colons : List ℕ → ℕ
+colons [] = 0
+colons (c ∷ cs) = cond (nat_eq c 58) 1 0 + colons cs
 
-either_true : (a : Bool) → (a || true) ≡ true
-either_true true = refl
-either_true false = refl
-
-in_front : (xs ys : List ℕ) → has_colon xs ≡ true → has_colon (xs ++ ys) ≡ true
-in_front [] ys h = absurd (cc)
-in_front (x ∷ xs) ys h = by_first (nat_eq x 58) h
-  where
-    by_first : (b : Bool) → (b || has_colon xs) ≡ true → (b || has_colon (xs ++ ys)) ≡ true
-    by_first true e = refl
-    by_first false e = in_front xs ys e
-
-in_back : (xs ys : List ℕ) → has_colon ys ≡ true → has_colon (xs ++ ys) ≡ true
-in_back [] ys h = h
-in_back (x ∷ xs) ys h = rw (in_back xs ys h) either_true (nat_eq x 58)
-
-assoc : (xs ys zs : List ℕ) → (xs ++ ys) ++ zs ≡ xs ++ (ys ++ zs)
-assoc [] ys zs = refl
-assoc (x ∷ xs) ys zs = ap (λ l. x ∷ l) (assoc xs ys zs)
+colons_append : (xs ys : List ℕ) → colons (xs ++ ys) ≡ colons xs + colons ys
+colons_append [] ys = omega arith
+colons_append (x ∷ xs) ys = let rest = colons_append xs ys in omega (arith, rest)
 
 -- a goal's line is no line that says so
 goal_says_other : (name : List ℕ) (at : Place) (v : Verdict) → goal_line name at v ≡ name ++ codes " correct" → ⊥
 goal_says_other name at v e =
-    let behind : List ℕ = codes " " ++ decimal at.line ++ codes ":" ++ decimal at.col ++ codes " assert" in
-    let words : behind ++ (codes " " ++ verdict_text v) ≡ codes " correct" = cancel name (behind ++ (codes " " ++ verdict_text v)) (codes " correct") (sym (assoc name behind (codes " " ++ verdict_text v)) ∙ e) in
-    let has : has_colon (behind ++ (codes " " ++ verdict_text v)) ≡ true = in_front behind (codes " " ++ verdict_text v) (in_back (decimal at.line) (codes ":" ++ decimal at.col ++ codes " assert") refl) in
-    let none : has_colon (behind ++ (codes " " ++ verdict_text v)) ≡ false = ap has_colon words in
-    cc
+    let named = name ++ codes " " in
+    let lined = named ++ decimal at.line in
+    let parted = lined ++ codes ":" in
+    let placed = parted ++ decimal at.col in
+    let headed = placed ++ codes " assert" in
+    let spaced = headed ++ codes " " in
+    let c1 : colons named ≡ colons name + colons (codes " ") = colons_append name (codes " ") in
+    let c2 : colons lined ≡ colons named + colons (decimal at.line) = colons_append named (decimal at.line) in
+    let c3 : colons parted ≡ colons lined + 1 = colons_append lined (codes ":") in
+    let c4 : colons placed ≡ colons parted + colons (decimal at.col) = colons_append parted (decimal at.col) in
+    let c5 : colons headed ≡ colons placed + colons (codes " assert") = colons_append placed (codes " assert") in
+    let c6 : colons spaced ≡ colons headed + colons (codes " ") = colons_append headed (codes " ") in
+    let c7 : colons (goal_line name at v) ≡ colons spaced + colons (verdict_text v) = colons_append spaced (verdict_text v) in
+    let none : colons (name ++ codes " correct") ≡ colons name + 0 = colons_append name (codes " correct") in
+    let same : colons (goal_line name at v) ≡ colons (name ++ codes " correct") = ap colons e in
+    omega (arith, c1, c2, c3, c4, c5, c6, c7, none, same)
 
 -- so it is the last line that does
 last_says_it : (name last : List ℕ) (ats : List Place) (vs : List Verdict) (k : ℕ) → k < length (goal_lines name ats vs ++ last ∷ []) → slice_index_or (goal_lines name ats vs ++ last ∷ []) k (name ++ codes " correct") ≡ name ++ codes " correct" → last ≡ name ++ codes " correct"
