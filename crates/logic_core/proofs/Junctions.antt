@@ -1,6 +1,6 @@
 -- Of an And or an Or with several parts, and of one that takes its parts in.
-use Rattle.std.proofs.Common.{◌≡◌, refl, ap, ◌<◌, true, false, Option, None, List, [], ◌∷◌, ◌++◌, length, arith}
-use Rattle.logic_core.specs.Tree.{Tree, num, truth, free, bound, linear, mul, read, write, choose, call, negation, all, some, equal, at_most, for_all, exists, Trees, tree}
+use Rattle.std.proofs.Common.{◌≡◌, refl, ap, ◌<◌, true, false, None, List, [], ◌∷◌, ◌++◌, length, arith}
+use Rattle.logic_core.specs.Tree.{Tree, truth, all, some, Trees, tree}
 use Rattle.logic_core.specs.View.{trees_of}
 use Rattle.logic_core.specs.Before.{before, tree_before}
 use Rattle.logic_core.specs.Junction.{is_truth, as_all, as_some, append, with_conjunct, all_of, with_disjunct, some_of}

@@ -1,7 +1,6 @@
 -- Parts join a sum one after another.
-use Rattle.std.proofs.Common.{◌≡◌, ◌∙◌, refl, ap, ℤ, Option, Some, None, option_map, List, [], ◌∷◌}
+use Rattle.std.proofs.Common.{◌≡◌, refl, ℤ, Some, None, option_map}
 use Rattle.logic_core.specs.Tree.{Tree, Parts, part}
-use Rattle.logic_core.specs.View.{parts_of}
 use Rattle.logic_core.specs.Wide.{checked_mul, ◌>>=◌}
 use Rattle.logic_core.specs.Sum.{Linear, add_atom, add_part, add_parts}
 

@@ -1,5 +1,5 @@
 -- What a test picks occurs, and is replaced as a whole.
-use Rattle.std.specs.Prelude.{◌≡◌, refl, Bool, true, cond, ◌||◌}
+use Rattle.std.specs.Prelude.{◌≡◌, refl, Bool, true}
 use Rattle.logic_core.specs.Tree.{Tree, num, truth, free, bound, linear, mul, read, write, choose, call, negation, all, some, equal, at_most, for_all, exists}
 use Rattle.logic_core.specs.Replace.{replace}
 use Rattle.logic_core.specs.Subterm.{has}

@@ -1,5 +1,5 @@
 -- What an early return of a NormalFault says.
-use Rattle.std.proofs.Common.{◌≡◌, ◌∙◌, Option, Some, None, Result, Ok, Err}
+use Rattle.std.proofs.Common.{◌≡◌, Option, None, Result, Ok, Err}
 use Rattle.std.specs.Result.{IsErrAnd}
 use Rattle.logic_core.specs.declared.fault.NormalFault.{NormalFault}
 use Rattle.logic_core.specs.declared.fault.NormalFault.TheVariants.{Wide}

@@ -1,6 +1,5 @@
 -- Where a sum as a term stays a Sum.
-use Rattle.std.proofs.Common.{◌≡◌, refl, sym, ◌<◌, ◌&&◌, ℤ, pos, Bool, true, false, List, [], ◌∷◌, length, inl, inr, arith}
-use Rattle.std.specs.Prelude.{if◌then◌else◌}
+use Rattle.std.proofs.Common.{◌≡◌, refl, ◌<◌, ◌&&◌, ℤ, pos, false, List, [], ◌∷◌, length, inl, inr, arith}
 use Rattle.std.proofs.lemmas.Bool.{cases_Bool}
 use Rattle.std.proofs.lemmas.Bool.Decides.{Decides-int_eq}
 use Rattle.std.specs.Ordering.{int_eq}

@@ -1,10 +1,10 @@
 -- Parts put in, taken out and changed.
-use Rattle.std.proofs.Common.{◌≡◌, ◌∙◌, refl, sym, ap, ℕ, ◌+◌, ◌<◌, suc, ℤ, pos, Bool, true, false, List, [], ◌∷◌, ◌++◌, length, take, drop, set, inl, inr, add-one}
+use Rattle.std.proofs.Common.{◌≡◌, ◌∙◌, refl, sym, ap, ℕ, ◌+◌, ◌<◌, suc, ℤ, pos, false, List, [], ◌∷◌, ◌++◌, length, take, drop, set, inl, inr, add-one}
 use Rattle.std.proofs.lemmas.List.{take-append-drop, set_split}
 use Rattle.std.proofs.lemmas.Bool.{cases_Bool}
 use Rattle.std.proofs.lemmas.Bool.Decides.{Decides-int_eq}
 use Rattle.std.specs.Ordering.{int_eq}
-use Rattle.logic_core.specs.Tree.{Tree, Parts, part}
+use Rattle.logic_core.specs.Tree.{Tree, part}
 use Rattle.logic_core.specs.View.{parts_of}
 use Rattle.logic_core.specs.Before.{before, part_before}
 use Rattle.logic_core.specs.Sum.{with_part}

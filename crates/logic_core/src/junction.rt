@@ -11,8 +11,8 @@ use crate::term::{Node, Term};
 use std::alloc::{AllocError, Global};
 
 impl Term {
-    // Whether this is the truth value b.
-    fn is_truth(&self, b: bool) -> bool
+    /// Whether this is the truth value b.
+    pub fn is_truth(&self, b: bool) -> bool
         ensures { result ≡ is_truth b self.now }
     {
         match &self.node {

@@ -21,7 +21,7 @@ ghost use Rattle.logic_core.specs.Gives.{Gives, GivesAs};
 ghost use Rattle.logic_core.specs.Normal.{choice, quantified, has_negative_lead, equals_zero, zero_at_most, equivalence_with, equivalence, equation_of, equation, inequality, normal, normal_each, normal_sum, normal_patterns};
 
 use crate::copy::copy_sorts;
-use crate::def::Signature;
+use crate::def::{Def, Signature};
 use crate::fault::NormalFault;
 use crate::junction::{conjunction, disjunction};
 use crate::negation::negated;
@@ -92,8 +92,8 @@ fn equals_zero(alloc: Global, d: Term) -> Result<Term, NormalFault>
     }
 }
 
-// Le(0, d): of a Num its truth value.
-fn zero_at_most(alloc: Global, d: Term) -> Result<Term, AllocError>
+/// Le(0, d), for a normal d: of a Num its truth value.
+pub fn zero_at_most(alloc: Global, d: Term) -> Result<Term, AllocError>
     ensures { IfOk result (λ t. t ≡ zero_at_most d) }
 {
     match d.node {
@@ -210,10 +210,11 @@ impl Term {
     fn normal_under(
         &self,
         alloc: Global,
-        sig: &Signature,
+        vars: &[Sort],
+        defs: &[Def],
         bound: &[Sort],
     ) -> Result<Term, NormalFault>
-        ensures { Gives result (normal sig.now.vars sig.now.defs bound.now self.now) }
+        ensures { Gives result (normal vars.now defs.now bound.now self.now) }
     {
         match &self.node {
             Node::Num(n) => Ok(Term::new(Node::Num(*n))),
@@ -221,23 +222,23 @@ impl Term {
             Node::Free(v) => Ok(Term::new(Node::Free(*v))),
             Node::Bound(v) => Ok(Term::new(Node::Bound(*v))),
             Node::Sum(parts, c) => {
-                let sum = normal_sum(alloc, sig, bound, parts, Linear::constant(alloc, *c))?;
+                let sum = normal_sum(alloc, vars, defs, bound, parts, Linear::constant(alloc, *c))?;
                 Ok(sum.into_term())
             }
             Node::Mul(a, b) => {
-                let a = a.normal_under(alloc, sig, bound)?;
-                let b = b.normal_under(alloc, sig, bound)?;
+                let a = a.normal_under(alloc, vars, defs, bound)?;
+                let b = b.normal_under(alloc, vars, defs, bound)?;
                 product(alloc, a, b)
             }
             Node::Read(map, index) => {
-                let map = map.normal_under(alloc, sig, bound)?;
-                let index = index.normal_under(alloc, sig, bound)?;
+                let map = map.normal_under(alloc, vars, defs, bound)?;
+                let index = index.normal_under(alloc, vars, defs, bound)?;
                 Ok(Term::new(Node::Read(Box::new(alloc, map)?, Box::new(alloc, index)?)))
             }
             Node::Write(map, index, value) => {
-                let map = map.normal_under(alloc, sig, bound)?;
-                let index = index.normal_under(alloc, sig, bound)?;
-                let value = value.normal_under(alloc, sig, bound)?;
+                let map = map.normal_under(alloc, vars, defs, bound)?;
+                let index = index.normal_under(alloc, vars, defs, bound)?;
+                let value = value.normal_under(alloc, vars, defs, bound)?;
                 Ok(Term::new(Node::Write(
                     Box::new(alloc, map)?,
                     Box::new(alloc, index)?,
@@ -245,48 +246,48 @@ impl Term {
                 )))
             }
             Node::If(c, a, b) => {
-                let c = c.normal_under(alloc, sig, bound)?;
-                let a = a.normal_under(alloc, sig, bound)?;
-                let b = b.normal_under(alloc, sig, bound)?;
+                let c = c.normal_under(alloc, vars, defs, bound)?;
+                let a = a.normal_under(alloc, vars, defs, bound)?;
+                let b = b.normal_under(alloc, vars, defs, bound)?;
                 Ok(choice(alloc, c, a, b)?)
             }
             Node::Call(f, terms) => {
-                let terms = normal_each(alloc, sig, bound, terms)?;
+                let terms = normal_each(alloc, vars, defs, bound, terms)?;
                 Ok(Term::new(Node::Call(*f, terms)))
             }
             Node::Not(a) => {
-                let a = a.normal_under(alloc, sig, bound)?;
+                let a = a.normal_under(alloc, vars, defs, bound)?;
                 negated(alloc, &a)
             }
             Node::And(terms) => {
-                let terms = normal_each(alloc, sig, bound, terms)?;
+                let terms = normal_each(alloc, vars, defs, bound, terms)?;
                 Ok(conjunction(alloc, terms)?)
             }
             Node::Or(terms) => {
-                let terms = normal_each(alloc, sig, bound, terms)?;
+                let terms = normal_each(alloc, vars, defs, bound, terms)?;
                 Ok(disjunction(alloc, terms)?)
             }
             Node::Eq(a, b) => {
-                let sort = a.sort_of(alloc, sig, bound)?;
-                let a = a.normal_under(alloc, sig, bound)?;
-                let b = b.normal_under(alloc, sig, bound)?;
+                let sort = a.sort_over(alloc, vars, defs, bound)?;
+                let a = a.normal_under(alloc, vars, defs, bound)?;
+                let b = b.normal_under(alloc, vars, defs, bound)?;
                 equation(alloc, sort, a, b)
             }
             Node::Le(a, b) => {
-                let a = a.normal_under(alloc, sig, bound)?;
-                let b = b.normal_under(alloc, sig, bound)?;
+                let a = a.normal_under(alloc, vars, defs, bound)?;
+                let b = b.normal_under(alloc, vars, defs, bound)?;
                 inequality(alloc, a, b)
             }
             Node::ForAll(sorts, patterns, body) => {
                 let reach = within_binder(alloc, sorts, bound)?;
-                let patterns = normal_patterns(alloc, sig, reach.as_slice(), patterns)?;
-                let body = body.normal_under(alloc, sig, reach.as_slice())?;
+                let patterns = normal_patterns(alloc, vars, defs, reach.as_slice(), patterns)?;
+                let body = body.normal_under(alloc, vars, defs, reach.as_slice())?;
                 Ok(for_all(alloc, copy_sorts(alloc, sorts)?, patterns, body)?)
             }
             Node::Exists(sorts, patterns, body) => {
                 let reach = within_binder(alloc, sorts, bound)?;
-                let patterns = normal_patterns(alloc, sig, reach.as_slice(), patterns)?;
-                let body = body.normal_under(alloc, sig, reach.as_slice())?;
+                let patterns = normal_patterns(alloc, vars, defs, reach.as_slice(), patterns)?;
+                let body = body.normal_under(alloc, vars, defs, reach.as_slice())?;
                 Ok(exists(alloc, copy_sorts(alloc, sorts)?, patterns, body)?)
             }
         }
@@ -297,15 +298,16 @@ impl Term {
 #[cycle(normal)]
 fn normal_each(
     alloc: Global,
-    sig: &Signature,
+    vars: &[Sort],
+    defs: &[Def],
     bound: &[Sort],
     terms: &[Term],
 ) -> Result<Vec<Term>, NormalFault>
-    ensures { GivesAs (λ v. trees_of v.items) result (normal_each sig.now.vars sig.now.defs bound.now (trees_of terms.now)) }
+    ensures { GivesAs (λ v. trees_of v.items) result (normal_each vars.now defs.now bound.now (trees_of terms.now)) }
 {
     let mut done = Vec::new(alloc);
     for term in terms {
-        done.push(term.normal_under(alloc, sig, bound)?)?;
+        done.push(term.normal_under(alloc, vars, defs, bound)?)?;
     }
     Ok(done)
 }
@@ -314,16 +316,17 @@ fn normal_each(
 #[cycle(normal)]
 fn normal_sum(
     alloc: Global,
-    sig: &Signature,
+    vars: &[Sort],
+    defs: &[Def],
     bound: &[Sort],
     parts: &[(i128, Term)],
     sum: Linear,
 ) -> Result<Linear, NormalFault>
-    ensures { Gives result (normal_sum sig.now.vars sig.now.defs bound.now (parts_of parts.now) sum) }
+    ensures { Gives result (normal_sum vars.now defs.now bound.now (parts_of parts.now) sum) }
 {
     let mut sum = sum;
     for part in parts {
-        let atom = part.1.normal_under(alloc, sig, bound)?;
+        let atom = part.1.normal_under(alloc, vars, defs, bound)?;
         sum = sum.add_term(part.0, atom)?;
     }
     Ok(sum)
@@ -333,26 +336,39 @@ fn normal_sum(
 #[cycle(normal)]
 fn normal_patterns(
     alloc: Global,
-    sig: &Signature,
+    vars: &[Sort],
+    defs: &[Def],
     bound: &[Sort],
     patterns: &[Vec<Term>],
 ) -> Result<Vec<Vec<Term>>, NormalFault>
-    ensures { GivesAs (λ v. patterns_of (each_items v.items)) result (normal_patterns sig.now.vars sig.now.defs bound.now (patterns_of (each_items patterns.now))) }
+    ensures { GivesAs (λ v. patterns_of (each_items v.items)) result (normal_patterns vars.now defs.now bound.now (patterns_of (each_items patterns.now))) }
 {
     let mut done = Vec::new(alloc);
     for pattern in patterns {
-        done.push(normal_each(alloc, sig, bound, pattern)?)?;
+        done.push(normal_each(alloc, vars, defs, bound, pattern)?)?;
     }
     Ok(done)
 }
 
-/// The normal form of a term over this signature, made from the parts up. Sums have falling parts
-/// without zero coefficients, an equation or inequality of integers compares a difference with
-/// zero, Nots stand at atoms alone, and Ands and Ors are flat. Wide exactly where a coefficient or
-/// a constant on the way leaves 128 bits.
+/// The normal form of a term over these variables and definitions, made from the parts up. Sums have
+/// falling parts without zero coefficients, an equation or inequality of integers compares a
+/// difference with zero, Nots stand at atoms alone, and Ands and Ors are flat. Wide exactly where a
+/// coefficient or a constant on the way leaves 128 bits.
+pub fn normal_over(
+    alloc: Global,
+    t: &Term,
+    vars: &[Sort],
+    defs: &[Def],
+) -> Result<Term, NormalFault>
+    ensures { Gives result (normal vars.now defs.now [] t.now) }
+{
+    let unbound = Vec::new(alloc);
+    t.normal_under(alloc, vars, defs, unbound.as_slice())
+}
+
+/// The normal form of a term over this signature, as `normal_over` has it.
 pub fn normal(alloc: Global, t: &Term, sig: &Signature) -> Result<Term, NormalFault>
     ensures { Gives result (normal sig.now.vars sig.now.defs [] t.now) }
 {
-    let unbound = Vec::new(alloc);
-    t.normal_under(alloc, sig, unbound.as_slice())
+    normal_over(alloc, t, sig.vars(), sig.defs())
 }

@@ -8,7 +8,7 @@ ghost use Rattle.logic_core.specs.Wide.{when};
 ghost use Rattle.logic_core.specs.Sorts.{is, range, sort_of, are, are_formulas, are_ints, have_sorts, have_sorts_in};
 
 use crate::copy::copy_sorts;
-use crate::def::Signature;
+use crate::def::{Def, Signature};
 use crate::sort::{Sort, SortKind};
 use crate::term::{Node, Term};
 use std::alloc::{AllocError, Global};
@@ -70,91 +70,119 @@ pub(crate) fn within_binder(
 }
 
 impl Term {
-    /// The sort of the term, None exactly where it isn't well sorted. `bound` are the sorts of the
-    /// bound variables in reach, that of `Bound(0)` first.
-    #[cycle(sorts)]
+    /// The sort of the term over this signature, None exactly where it isn't well sorted. `bound` are
+    /// the sorts of the bound variables in reach, that of `Bound(0)` last.
     pub fn sort_of(
         &self,
         alloc: Global,
         sig: &Signature,
         bound: &[Sort],
     ) -> Result<Option<Sort>, AllocError>
-        ensures { IfOk result (λ s. s ≡ sort_of sig.now.vars sig.now.defs bound.now self.now) }
+        ensures { IfOk result (λ s. s ≡ sort_of sig.now.vars sig.now.defs (reverse bound.now) self.now) }
+    {
+        let mut reach = copy_sorts(alloc, bound)?;
+        reach.reverse();
+        self.sort_over(alloc, sig.vars(), sig.defs(), &reach)
+    }
+
+    /// The sort of the term over these variables and definitions, None exactly where it isn't well
+    /// sorted. `bound` are the sorts of the bound variables in reach, that of `Bound(0)` first.
+    #[cycle(sorts)]
+    pub fn sort_over(
+        &self,
+        alloc: Global,
+        vars: &[Sort],
+        defs: &[Def],
+        bound: &[Sort],
+    ) -> Result<Option<Sort>, AllocError>
+        ensures { IfOk result (λ s. s ≡ sort_of vars.now defs.now bound.now self.now) }
     {
         match &self.node {
             Node::Num(_) => Ok(Some(Sort::int())),
             Node::Truth(_) => Ok(Some(Sort::boolean())),
-            Node::Free(v) => sort_at(alloc, sig.vars(), *v),
+            Node::Free(v) => sort_at(alloc, vars, *v),
             Node::Bound(v) => sort_at(alloc, bound, *v),
-            Node::Sum(parts, _) => Ok(when(are_ints(alloc, sig, bound, parts)?, Sort::int())),
+            Node::Sum(parts, _) => Ok(when(
+                are_ints(alloc, vars, defs, bound, parts)?,
+                Sort::int(),
+            )),
             Node::Mul(a, b) => Ok(when(
-                a.has_sort(alloc, sig, bound, &Sort::int())?
-                    && b.has_sort(alloc, sig, bound, &Sort::int())?,
+                a.has_sort(alloc, vars, defs, bound, &Sort::int())?
+                    && b.has_sort(alloc, vars, defs, bound, &Sort::int())?,
                 Sort::int(),
             )),
             Node::Read(map, index) => {
-                let Some(sort) = map.sort_of(alloc, sig, bound)? else {
-                    return Ok(None);
-                };
-                let Some(held) = sort.range(alloc)? else {
-                    return Ok(None);
-                };
-                Ok(when(index.has_sort(alloc, sig, bound, &Sort::int())?, held))
-            }
-            Node::Write(map, index, value) => {
-                let Some(sort) = map.sort_of(alloc, sig, bound)? else {
+                let Some(sort) = map.sort_over(alloc, vars, defs, bound)? else {
                     return Ok(None);
                 };
                 let Some(held) = sort.range(alloc)? else {
                     return Ok(None);
                 };
                 Ok(when(
-                    index.has_sort(alloc, sig, bound, &Sort::int())?
-                        && value.has_sort(alloc, sig, bound, &held)?,
+                    index.has_sort(alloc, vars, defs, bound, &Sort::int())?,
+                    held,
+                ))
+            }
+            Node::Write(map, index, value) => {
+                let Some(sort) = map.sort_over(alloc, vars, defs, bound)? else {
+                    return Ok(None);
+                };
+                let Some(held) = sort.range(alloc)? else {
+                    return Ok(None);
+                };
+                Ok(when(
+                    index.has_sort(alloc, vars, defs, bound, &Sort::int())?
+                        && value.has_sort(alloc, vars, defs, bound, &held)?,
                     sort,
                 ))
             }
             Node::If(condition, a, b) => {
-                let Some(sort) = a.sort_of(alloc, sig, bound)? else {
+                let Some(sort) = a.sort_over(alloc, vars, defs, bound)? else {
                     return Ok(None);
                 };
                 Ok(when(
-                    condition.has_sort(alloc, sig, bound, &Sort::boolean())?
-                        && b.has_sort(alloc, sig, bound, &sort)?,
+                    condition.has_sort(alloc, vars, defs, bound, &Sort::boolean())?
+                        && b.has_sort(alloc, vars, defs, bound, &sort)?,
                     sort,
                 ))
             }
             Node::Call(f, terms) => {
-                let Some(def) = sig.defs().get(*f as usize) else {
+                let Some(def) = defs.get(*f as usize) else {
                     return Ok(None);
                 };
                 Ok(when(
-                    are(alloc, sig, bound, def.params.as_slice(), terms)?,
+                    are(alloc, vars, defs, bound, def.params.as_slice(), terms)?,
                     def.sort.copy(alloc)?,
                 ))
             }
             Node::Not(a) => Ok(when(
-                a.has_sort(alloc, sig, bound, &Sort::boolean())?,
+                a.has_sort(alloc, vars, defs, bound, &Sort::boolean())?,
                 Sort::boolean(),
             )),
             Node::And(terms) | Node::Or(terms) => {
-                Ok(when(are_formulas(alloc, sig, bound, terms)?, Sort::boolean()))
+                Ok(when(
+                    are_formulas(alloc, vars, defs, bound, terms)?,
+                    Sort::boolean(),
+                ))
             }
             Node::Eq(a, b) => {
-                let Some(sort) = a.sort_of(alloc, sig, bound)? else {
+                let Some(sort) = a.sort_over(alloc, vars, defs, bound)? else {
                     return Ok(None);
                 };
-                Ok(when(b.has_sort(alloc, sig, bound, &sort)?, Sort::boolean()))
+                Ok(when(
+                    b.has_sort(alloc, vars, defs, bound, &sort)?,
+                    Sort::boolean(),
+                ))
             }
             Node::Le(a, b) => Ok(when(
-                a.has_sort(alloc, sig, bound, &Sort::int())?
-                    && b.has_sort(alloc, sig, bound, &Sort::int())?,
+                a.has_sort(alloc, vars, defs, bound, &Sort::int())?
+                    && b.has_sort(alloc, vars, defs, bound, &Sort::int())?,
                 Sort::boolean(),
             )),
             Node::ForAll(sorts, patterns, body) | Node::Exists(sorts, patterns, body) => {
                 let reach = within_binder(alloc, sorts, bound)?;
                 Ok(when(
-                    is_quantified(alloc, sig, reach.as_slice(), patterns, body)?,
+                    is_quantified(alloc, vars, defs, reach.as_slice(), patterns, body)?,
                     Sort::boolean(),
                 ))
             }
@@ -166,13 +194,14 @@ impl Term {
     pub fn has_sort(
         &self,
         alloc: Global,
-        sig: &Signature,
+        vars: &[Sort],
+        defs: &[Def],
         bound: &[Sort],
         sort: &Sort,
     ) -> Result<bool, AllocError>
-        ensures { IfOk result (λ h. h ≡ is sort.now (sort_of sig.now.vars sig.now.defs bound.now self.now)) }
+        ensures { IfOk result (λ h. h ≡ is sort.now (sort_of vars.now defs.now bound.now self.now)) }
     {
-        match self.sort_of(alloc, sig, bound)? {
+        match self.sort_over(alloc, vars, defs, bound)? {
             Some(found) => Ok(found.equals(sort)),
             None => Ok(false),
         }
@@ -183,16 +212,17 @@ impl Term {
 #[cycle(sorts)]
 fn is_quantified(
     alloc: Global,
-    sig: &Signature,
+    vars: &[Sort],
+    defs: &[Def],
     reach: &[Sort],
     patterns: &[Vec<Term>],
     body: &Term,
 ) -> Result<bool, AllocError>
-    ensures { IfOk result (λ h. h ≡ have_sorts_in sig.now.vars sig.now.defs reach.now (patterns_of (each_items patterns.now)) && is boolean (sort_of sig.now.vars sig.now.defs reach.now body.now)) }
+    ensures { IfOk result (λ h. h ≡ have_sorts_in vars.now defs.now reach.now (patterns_of (each_items patterns.now)) && is boolean (sort_of vars.now defs.now reach.now body.now)) }
 {
     Ok(
-        have_sorts_in(alloc, sig, reach, patterns)?
-            && body.has_sort(alloc, sig, reach, &Sort::boolean())?,
+        have_sorts_in(alloc, vars, defs, reach, patterns)?
+            && body.has_sort(alloc, vars, defs, reach, &Sort::boolean())?,
     )
 }
 
@@ -205,18 +235,19 @@ fn when(holds: bool, sort: Sort) -> Option<Sort>
 
 /// Whether the terms have these sorts, and are as many.
 #[cycle(sorts)]
-fn are(
+pub fn are(
     alloc: Global,
-    sig: &Signature,
+    vars: &[Sort],
+    defs: &[Def],
     bound: &[Sort],
     sorts: &[Sort],
     terms: &[Term],
 ) -> Result<bool, AllocError>
-    ensures { IfOk result (λ h. h ≡ are sig.now.vars sig.now.defs bound.now sorts.now (trees_of terms.now)) }
+    ensures { IfOk result (λ h. h ≡ are vars.now defs.now bound.now sorts.now (trees_of terms.now)) }
 {
     let shared = sorts.len().min(terms.len());
     for i in 0..shared {
-        if !terms[i].has_sort(alloc, sig, bound, &sorts[i])? {
+        if !terms[i].has_sort(alloc, vars, defs, bound, &sorts[i])? {
             return Ok(false);
         }
     }
@@ -227,14 +258,15 @@ fn are(
 #[cycle(sorts)]
 fn are_formulas(
     alloc: Global,
-    sig: &Signature,
+    vars: &[Sort],
+    defs: &[Def],
     bound: &[Sort],
     terms: &[Term],
 ) -> Result<bool, AllocError>
-    ensures { IfOk result (λ h. h ≡ are_formulas sig.now.vars sig.now.defs bound.now (trees_of terms.now)) }
+    ensures { IfOk result (λ h. h ≡ are_formulas vars.now defs.now bound.now (trees_of terms.now)) }
 {
     for term in terms {
-        if !term.has_sort(alloc, sig, bound, &Sort::boolean())? {
+        if !term.has_sort(alloc, vars, defs, bound, &Sort::boolean())? {
             return Ok(false);
         }
     }
@@ -245,14 +277,15 @@ fn are_formulas(
 #[cycle(sorts)]
 fn are_ints(
     alloc: Global,
-    sig: &Signature,
+    vars: &[Sort],
+    defs: &[Def],
     bound: &[Sort],
     parts: &[(i128, Term)],
 ) -> Result<bool, AllocError>
-    ensures { IfOk result (λ h. h ≡ are_ints sig.now.vars sig.now.defs bound.now (parts_of parts.now)) }
+    ensures { IfOk result (λ h. h ≡ are_ints vars.now defs.now bound.now (parts_of parts.now)) }
 {
     for part in parts {
-        if !part.1.has_sort(alloc, sig, bound, &Sort::int())? {
+        if !part.1.has_sort(alloc, vars, defs, bound, &Sort::int())? {
             return Ok(false);
         }
     }
@@ -263,14 +296,15 @@ fn are_ints(
 #[cycle(sorts)]
 fn have_sorts(
     alloc: Global,
-    sig: &Signature,
+    vars: &[Sort],
+    defs: &[Def],
     bound: &[Sort],
     terms: &[Term],
 ) -> Result<bool, AllocError>
-    ensures { IfOk result (λ h. h ≡ have_sorts sig.now.vars sig.now.defs bound.now (trees_of terms.now)) }
+    ensures { IfOk result (λ h. h ≡ have_sorts vars.now defs.now bound.now (trees_of terms.now)) }
 {
     for term in terms {
-        if term.sort_of(alloc, sig, bound)?.is_none() {
+        if term.sort_over(alloc, vars, defs, bound)?.is_none() {
             return Ok(false);
         }
     }
@@ -281,14 +315,15 @@ fn have_sorts(
 #[cycle(sorts)]
 fn have_sorts_in(
     alloc: Global,
-    sig: &Signature,
+    vars: &[Sort],
+    defs: &[Def],
     bound: &[Sort],
     patterns: &[Vec<Term>],
 ) -> Result<bool, AllocError>
-    ensures { IfOk result (λ h. h ≡ have_sorts_in sig.now.vars sig.now.defs bound.now (patterns_of (each_items patterns.now))) }
+    ensures { IfOk result (λ h. h ≡ have_sorts_in vars.now defs.now bound.now (patterns_of (each_items patterns.now))) }
 {
     for pattern in patterns {
-        if !have_sorts(alloc, sig, bound, pattern)? {
+        if !have_sorts(alloc, vars, defs, bound, pattern)? {
             return Ok(false);
         }
     }

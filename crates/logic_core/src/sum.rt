@@ -16,12 +16,14 @@ use std::alloc::{AllocError, Global};
 use std::cmp::Ordering;
 use std::marker::Model;
 
-/// A sum under way: atoms with their coefficients, which aren't zero, in falling order of the
-/// atoms, and a constant.
+/// A sum: atoms with their coefficients, which aren't zero, in falling order of the atoms, and a
+/// constant.
 #[derive(Drop)]
 pub struct Linear {
-    parts: Vec<(i128, Term)>,
-    rest: i128,
+    /// The atoms with their coefficients.
+    pub parts: Vec<(i128, Term)>,
+    /// The constant.
+    pub rest: i128,
 }
 
 impl Model for Linear {
@@ -145,7 +147,12 @@ impl Linear {
     }
 
     // k times a Sum of these parts and this constant joins the sum.
-    fn add_sum(self, k: i128, parts: Vec<(i128, Term)>, c: i128) -> Result<Linear, NormalFault>
+    pub(crate) fn add_sum(
+        self,
+        k: i128,
+        parts: Vec<(i128, Term)>,
+        c: i128,
+    ) -> Result<Linear, NormalFault>
         ensures { Gives result (add_term k (linear (parts_of parts.items) c) self) }
     {
         let sum = self.add_parts(k, parts)?;

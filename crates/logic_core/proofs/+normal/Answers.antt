@@ -1,4 +1,4 @@
-use Rattle.std.proofs.Common.{◌≡◌, ◌∙◌, refl, sym, ap, Some, arith}
+use Rattle.std.proofs.Common.{◌∙◌, refl, sym, ap, Some, arith}
 use Rattle.std.proofs.lemmas.Grind.{common_steps}
 use Rattle.logic_core.specs.Tree.{no_trees, no_patterns}
 use Rattle.logic_core.specs.View.{trees_of, patterns_of, each_items}
@@ -9,18 +9,18 @@ use Rattle.logic_core.proofs.+normal.Goals as goal
 
 pub normal::normal_each-loop-term-preserved : goal.normal::normal_each-loop-term-preserved
 normal::normal_each-loop-term-preserved t c = record {
-  left = given_more tree_before (λ ys. normal_each c.args.sig.now.vars c.args.sig.now.defs c.args.bound.now (trees_of ys)) c.args.terms.now _ _ c.loop-term.term-index _ c.in_ok-normal_under.field-0 _ c.loop-term-test.true c.term-item.is c.in_ok-push.ensures.items c.loop-term.invariant.left (rw c.in_ok-normal_under.ensures refl);
+  left = given_more tree_before (λ ys. normal_each c.args.vars.now c.args.defs.now c.args.bound.now (trees_of ys)) c.args.terms.now _ _ c.loop-term.term-index _ c.in_ok-normal_under.field-0 _ c.loop-term-test.true c.term-item.is c.in_ok-push.ensures.items c.loop-term.invariant.left (rw c.in_ok-normal_under.ensures refl);
   less = grind (arith, common_steps);
 }
 
 pub normal::normal_each-returns : goal.normal::normal_each-returns
-normal::normal_each-returns t c = given_all tree_before (λ ys. normal_each c.args.sig.now.vars c.args.sig.now.defs c.args.bound.now (trees_of ys)) c.args.terms.now c.loop-term.done.items c.loop-term.term-index _ no_trees c.loop-term-test.false refl c.loop-term.invariant.left ∙ ap Some (trees_before_none c.loop-term.done.items)
+normal::normal_each-returns t c = given_all tree_before (λ ys. normal_each c.args.vars.now c.args.defs.now c.args.bound.now (trees_of ys)) c.args.terms.now c.loop-term.done.items c.loop-term.term-index _ no_trees c.loop-term-test.false refl c.loop-term.invariant.left ∙ ap Some (trees_before_none c.loop-term.done.items)
 
 pub normal::normal_patterns-loop-pattern-preserved : goal.normal::normal_patterns-loop-pattern-preserved
 normal::normal_patterns-loop-pattern-preserved t c = record {
-  left = given_more pattern_before (λ ys. normal_patterns c.args.sig.now.vars c.args.sig.now.defs c.args.bound.now (patterns_of (each_items ys))) c.args.patterns.now _ _ c.loop-pattern.pattern-index _ c.in_ok-normal_each.field-0 _ c.loop-pattern-test.true c.pattern-item.is c.in_ok-push.ensures.items c.loop-pattern.invariant.left (rw (sym c.deref.ensures.value, c.in_ok-normal_each.ensures) refl);
+  left = given_more pattern_before (λ ys. normal_patterns c.args.vars.now c.args.defs.now c.args.bound.now (patterns_of (each_items ys))) c.args.patterns.now _ _ c.loop-pattern.pattern-index _ c.in_ok-normal_each.field-0 _ c.loop-pattern-test.true c.pattern-item.is c.in_ok-push.ensures.items c.loop-pattern.invariant.left (rw (sym c.deref.ensures.value, c.in_ok-normal_each.ensures) refl);
   less = grind (arith, common_steps);
 }
 
 pub normal::normal_patterns-returns : goal.normal::normal_patterns-returns
-normal::normal_patterns-returns t c = given_all pattern_before (λ ys. normal_patterns c.args.sig.now.vars c.args.sig.now.defs c.args.bound.now (patterns_of (each_items ys))) c.args.patterns.now c.loop-pattern.done.items c.loop-pattern.pattern-index _ no_patterns c.loop-pattern-test.false refl c.loop-pattern.invariant.left ∙ ap Some (patterns_before_none c.loop-pattern.done.items)
+normal::normal_patterns-returns t c = given_all pattern_before (λ ys. normal_patterns c.args.vars.now c.args.defs.now c.args.bound.now (patterns_of (each_items ys))) c.args.patterns.now c.loop-pattern.done.items c.loop-pattern.pattern-index _ no_patterns c.loop-pattern-test.false refl c.loop-pattern.invariant.left ∙ ap Some (patterns_before_none c.loop-pattern.done.items)

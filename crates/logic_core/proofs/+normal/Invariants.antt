@@ -19,18 +19,18 @@ decreases-normal::normal_patterns l = 3 * patterns_nodes (patterns_of (each_item
 
 abbrev pub invariant-normal::normal_each-loop-term : goal.invariant-normal::normal_each-loop-term
 invariant-normal::normal_each-loop-term l = record {
-  left : option_map (before tree_before l.done.items) (normal_each l.sig.vars l.sig.defs l.bound (trees_of (drop l.term-index l.terms))) ≡ normal_each l.sig.vars l.sig.defs l.bound (trees_of l.terms);
+  left : option_map (before tree_before l.done.items) (normal_each l.vars l.defs l.bound (trees_of (drop l.term-index l.terms))) ≡ normal_each l.vars l.defs l.bound (trees_of l.terms);
   less : trees_nodes (trees_of (drop l.term-index l.terms)) ≤ trees_nodes (trees_of l.terms);
 }
 
 abbrev pub invariant-normal::normal_sum-loop-part : goal.invariant-normal::normal_sum-loop-part
 invariant-normal::normal_sum-loop-part l = record {
-  left : normal_sum l.sig.vars l.sig.defs l.bound (parts_of (drop l.part-index l.parts)) l.sum ≡ normal_sum l.sig.vars l.sig.defs l.bound (parts_of l.parts) l.initial.sum;
+  left : normal_sum l.vars l.defs l.bound (parts_of (drop l.part-index l.parts)) l.sum ≡ normal_sum l.vars l.defs l.bound (parts_of l.parts) l.initial.sum;
   less : parts_nodes (parts_of (drop l.part-index l.parts)) ≤ parts_nodes (parts_of l.parts);
 }
 
 abbrev pub invariant-normal::normal_patterns-loop-pattern : goal.invariant-normal::normal_patterns-loop-pattern
 invariant-normal::normal_patterns-loop-pattern l = record {
-  left : option_map (before pattern_before l.done.items) (normal_patterns l.sig.vars l.sig.defs l.bound (patterns_of (each_items (drop l.pattern-index l.patterns)))) ≡ normal_patterns l.sig.vars l.sig.defs l.bound (patterns_of (each_items l.patterns));
+  left : option_map (before pattern_before l.done.items) (normal_patterns l.vars l.defs l.bound (patterns_of (each_items (drop l.pattern-index l.patterns)))) ≡ normal_patterns l.vars l.defs l.bound (patterns_of (each_items l.patterns));
   less : patterns_nodes (patterns_of (each_items (drop l.pattern-index l.patterns))) ≤ patterns_nodes (patterns_of (each_items l.patterns));
 }

@@ -4,8 +4,8 @@ use Rattle.logic_core.specs.View.{trees_of, parts_of, patterns_of, each_items}
 use Rattle.logic_core.specs.Sorts.{are, are_formulas, are_ints, have_sorts, have_sorts_in}
 use Rattle.logic_core.proofs.+sorts.Given as goal
 
-abbrev pub decreases-term::Term::sort_of : goal.decreases-term::Term::sort_of
-decreases-term::Term::sort_of l = 5 * nodes l.self.now
+abbrev pub decreases-term::Term::sort_over : goal.decreases-term::Term::sort_over
+decreases-term::Term::sort_over l = 5 * nodes l.self.now
 
 abbrev pub decreases-term::Term::has_sort : goal.decreases-term::Term::has_sort
 decreases-term::Term::has_sort l = 5 * nodes l.self.now + 1
@@ -30,30 +30,30 @@ decreases-sorts::is_quantified l = 5 * (patterns_nodes (patterns_of (each_items 
 
 abbrev pub invariant-sorts::are-loop-i : goal.invariant-sorts::are-loop-i
 invariant-sorts::are-loop-i l = record {
-  same : are l.sig.vars l.sig.defs l.bound (drop l.i l.sorts) (trees_of (drop l.i l.terms)) ≡ are l.sig.vars l.sig.defs l.bound l.sorts (trees_of l.terms);
+  same : are l.vars l.defs l.bound (drop l.i l.sorts) (trees_of (drop l.i l.terms)) ≡ are l.vars l.defs l.bound l.sorts (trees_of l.terms);
   less : trees_nodes (trees_of (drop l.i l.terms)) ≤ trees_nodes (trees_of l.terms);
 }
 
 abbrev pub invariant-sorts::are_formulas-loop-term : goal.invariant-sorts::are_formulas-loop-term
 invariant-sorts::are_formulas-loop-term l = record {
-  same : are_formulas l.sig.vars l.sig.defs l.bound (trees_of (drop l.term-index l.terms)) ≡ are_formulas l.sig.vars l.sig.defs l.bound (trees_of l.terms);
+  same : are_formulas l.vars l.defs l.bound (trees_of (drop l.term-index l.terms)) ≡ are_formulas l.vars l.defs l.bound (trees_of l.terms);
   less : trees_nodes (trees_of (drop l.term-index l.terms)) ≤ trees_nodes (trees_of l.terms);
 }
 
 abbrev pub invariant-sorts::are_ints-loop-part : goal.invariant-sorts::are_ints-loop-part
 invariant-sorts::are_ints-loop-part l = record {
-  same : are_ints l.sig.vars l.sig.defs l.bound (parts_of (drop l.part-index l.parts)) ≡ are_ints l.sig.vars l.sig.defs l.bound (parts_of l.parts);
+  same : are_ints l.vars l.defs l.bound (parts_of (drop l.part-index l.parts)) ≡ are_ints l.vars l.defs l.bound (parts_of l.parts);
   less : parts_nodes (parts_of (drop l.part-index l.parts)) ≤ parts_nodes (parts_of l.parts);
 }
 
 abbrev pub invariant-sorts::have_sorts-loop-term : goal.invariant-sorts::have_sorts-loop-term
 invariant-sorts::have_sorts-loop-term l = record {
-  same : have_sorts l.sig.vars l.sig.defs l.bound (trees_of (drop l.term-index l.terms)) ≡ have_sorts l.sig.vars l.sig.defs l.bound (trees_of l.terms);
+  same : have_sorts l.vars l.defs l.bound (trees_of (drop l.term-index l.terms)) ≡ have_sorts l.vars l.defs l.bound (trees_of l.terms);
   less : trees_nodes (trees_of (drop l.term-index l.terms)) ≤ trees_nodes (trees_of l.terms);
 }
 
 abbrev pub invariant-sorts::have_sorts_in-loop-pattern : goal.invariant-sorts::have_sorts_in-loop-pattern
 invariant-sorts::have_sorts_in-loop-pattern l = record {
-  same : have_sorts_in l.sig.vars l.sig.defs l.bound (patterns_of (each_items (drop l.pattern-index l.patterns))) ≡ have_sorts_in l.sig.vars l.sig.defs l.bound (patterns_of (each_items l.patterns));
+  same : have_sorts_in l.vars l.defs l.bound (patterns_of (each_items (drop l.pattern-index l.patterns))) ≡ have_sorts_in l.vars l.defs l.bound (patterns_of (each_items l.patterns));
   less : patterns_nodes (patterns_of (each_items (drop l.pattern-index l.patterns))) ≤ patterns_nodes (patterns_of (each_items l.patterns));
 }

@@ -96,7 +96,7 @@ fn sort_word(alloc: Global, sig: &Signature, t: &Term) -> Result<&'static str, A
     let Some(sort) = t.sort_of(alloc, sig, &[])? else {
         return Ok("-");
     };
-    if !t.has_sort(alloc, sig, &[], &sort)? {
+    if !t.has_sort(alloc, sig.vars(), sig.defs(), &[], &sort)? {
         return Ok("other");
     }
     Ok(match sort.kind {

@@ -1,6 +1,6 @@
-use Rattle.std.proofs.Common.{◌≡◌, ◌∙◌, true, sym, ap}
+use Rattle.std.proofs.Common.{◌∙◌, sym, ap}
 use Rattle.logic_core.specs.Before.{before, tree_before}
-use Rattle.logic_core.specs.Junction.{is_truth, with_conjunct}
+use Rattle.logic_core.specs.Junction.{with_conjunct}
 use Rattle.logic_core.proofs.Made.{before_push}
 use Rattle.logic_core.proofs.Junctions.{taken_in, other_conjunct}
 use Rattle.logic_core.proofs.junction.push_conjunct.Goals as goal

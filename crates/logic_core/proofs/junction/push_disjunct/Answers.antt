@@ -1,6 +1,6 @@
-use Rattle.std.proofs.Common.{◌≡◌, ◌∙◌, false, sym, ap}
+use Rattle.std.proofs.Common.{◌∙◌, sym, ap}
 use Rattle.logic_core.specs.Before.{before, tree_before}
-use Rattle.logic_core.specs.Junction.{is_truth, with_disjunct}
+use Rattle.logic_core.specs.Junction.{with_disjunct}
 use Rattle.logic_core.proofs.Made.{before_push}
 use Rattle.logic_core.proofs.Junctions.{taken_in, other_disjunct}
 use Rattle.logic_core.proofs.junction.push_disjunct.Goals as goal

@@ -2,7 +2,7 @@ use Rattle.std.proofs.Common.{◌≡◌, ◌∙◌, sym, ap, Some, arith}
 use Rattle.std.specs.Int.{w128}
 use Rattle.std.proofs.lemmas.Int.{to_z-of_z}
 use Rattle.logic_core.specs.Order.{order}
-use Rattle.logic_core.proofs.AtomAdded.{past_none, past_more, past_equal, past_greater, past_all}
+use Rattle.logic_core.proofs.AtomAdded.{past_more, past_equal, past_greater, past_all}
 use Rattle.logic_core.proofs.sum.add_atom.Goals as goal
 
 pub returns : goal.returns

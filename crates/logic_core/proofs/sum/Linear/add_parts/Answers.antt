@@ -1,4 +1,4 @@
-use Rattle.std.proofs.Common.{◌≡◌, ◌∙◌, sym, ap, FitsSigned, Some, None, [], rules}
+use Rattle.std.proofs.Common.{◌≡◌, ◌∙◌, sym, ap, FitsSigned, [], rules}
 use Rattle.std.specs.Int.{w128}
 use Rattle.std.specs.Vec.Iter.{into_iter_items}
 use Rattle.std.proofs.lemmas.Int.{to_z-of_z}
