@@ -1,0 +1,8 @@
+//! Answers kept by key.
+//!
+//! `cache` has the cache of answers, which are found by keys that are equal byte for byte.
+#![tactic(auto)]
+
+mod cache;
+
+pub use cache::Cache;
