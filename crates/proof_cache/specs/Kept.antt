@@ -1,7 +1,7 @@
 -- Answers kept by key, in the order in which they were kept, and the places that wait for an answer.
-use Rattle.std.specs.Prelude.{ℕ, nat_lt, Bool, ◌||◌, not, cond, List, [], ◌∷◌, ◌++◌, map, length, filter, find, Option, bytes_eq, sum}
+use Rattle.std.specs.Prelude.{ℕ, nat_lt, Bool, ◌||◌, not, cond, List, [], ◌∷◌, ◌++◌, map, length, filter, find, Option, bytes_eq}
 use Rattle.std.specs.Option.{option_map}
-use Rattle.std.specs.List.{list_any}
+use Rattle.std.specs.List.{list_any, sum_by}
 
 -- a key is its bytes
 abbrev pub Key : Type 0
@@ -45,7 +45,7 @@ limit = 67_108_864
 
 -- how many bytes the keys have that are not present
 abbrev pub absent_bytes : {A : Type 0} → List Key → List (Key × A) → ℕ
-absent_bytes present kept = sum (map (λ e. length e.0) (filter (λ e. not (is_among present e.0)) kept))
+absent_bytes present kept = sum_by (λ e. length e.0) (filter (λ e. not (is_among present e.0)) kept)
 
 -- the answers of absent keys go exactly where these keys have more bytes together than the limit
 abbrev pub trimmed : {A : Type 0} → List Key → List (Key × A) → List (Key × A)

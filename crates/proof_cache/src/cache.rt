@@ -1,9 +1,11 @@
 //! The cache of answers.
-ghost use Rattle.std.specs.Prelude.{◌≡◌, IsTrue, IfSome, OnOk, OnErr, is_some, [], map, position, List, ℕ, bytes_eq};
+ghost use Rattle.std.specs.Prelude.{◌≡◌, IsTrue, IfSome, OnOk, OnErr, is_some, None, ◌<◌, ◌≤◌, ◌+◌, [], ◌∷◌, ◌++◌, map, position, List, ℕ, bytes_eq};
 ghost use Rattle.std.specs.Arc.{arc_value};
 ghost use Rattle.std.specs.Option.{option_map};
+ghost use Rattle.indexmap.specs.IndexMap.{spare, get_by};
 ghost use Rattle.proof_cache.specs.Kept.{is_among, kept_keys, kept_at, has_place, with_place, without_key, with_answer, trimmed};
 
+use crate::present::{keys_of, trim_entries};
 use bv_base::{Answered, Question};
 use indexmap::IndexMap;
 use std::alloc::{AllocError, Global};
@@ -23,11 +25,11 @@ impl<A: Answered> Model for Cache<A> {
 
     ghost Value = { Cached A };
 
-    ghost use Rattle.proof_cache.specs.Inside.{cached, IsStored};
+    ghost use Rattle.proof_cache.specs.Inside.{cached, IsKept};
 
     ghost view = { cached };
 
-    ghost invariant = { IsStored (λ a. A.Q.key (A.asked a)) A.right };
+    ghost invariant = { IsKept (λ a. A.Q.key (A.asked a)) A.right };
 }
 
 // Where the key stands.
@@ -35,6 +37,20 @@ fn place_of(places: &[Vec<u8>], key: &[u8]) -> Option<usize>
     ensures { result ≡ position (λ k. bytes_eq key.now k.items) places.now }
 {
     places.iter().position(|place| key == place.as_slice())
+}
+
+// Puts in the answer of a new key, for which there is room.
+fn put_new<A: Drop>(
+    kept: &mut IndexMap<Vec<u8>, Arc<A, Global>>,
+    key: Vec<u8>,
+    answer: Arc<A, Global>,
+)
+    requires room { 0 < spare kept.old }
+    requires new { get_by (λ k. bytes_eq key.items k.items) kept.old ≡ None }
+    ensures entries { kept.new.entries ≡ kept.old.entries ++ (key, answer) ∷ [] }
+    ensures room { spare kept.old ≤ spare kept.new + 1 }
+{
+    kept.insert(key, answer).unwrap();
 }
 
 impl<A: Answered + Drop> Cache<A> {
@@ -98,7 +114,7 @@ impl<A: Answered + Drop> Cache<A> {
     {
         if let Some(at) = place_of(&self.places, answer.question().key()) {
             let key = self.places.remove(at);
-            self.kept.insert(key, answer).unwrap();
+            put_new(&mut self.kept, key, answer);
         }
     }
 
@@ -109,6 +125,8 @@ impl<A: Answered + Drop> Cache<A> {
         ensures trimmed { OnOk result (self.new ≡ record self.old { kept = trimmed (map (λ q. A.Q.key (arc_value q)) present.now) self.old.kept }) }
         ensures memory { OnErr result (self.new ≡ self.old) }
     {
+        let present = keys_of(self.alloc, present)?;
+        trim_entries(&mut self.kept, &present);
         Ok(())
     }
 }

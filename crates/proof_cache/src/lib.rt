@@ -4,5 +4,6 @@
 #![tactic(auto)]
 
 mod cache;
+mod present;
 
 pub use cache::Cache;
