@@ -8,6 +8,7 @@
 mod board;
 mod call;
 mod claim;
+mod laws;
 
 pub use board::Board;
 pub use call::Call;
