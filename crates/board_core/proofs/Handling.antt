@@ -1,7 +1,7 @@
 -- The claims out as the board holds them, and the places in the cache that go with them.
-use Rattle.std.specs.Prelude.{◌≡◌, refl, ℕ, zero, suc, ◌+◌, ◌<◌, nat_eq, Bool, true, false, ◌||◌, not, cond, List, [], ◌∷◌, ◌++◌, map, filter, find, Option, Some, None, bytes_eq, Contains}
+use Rattle.std.specs.Prelude.{◌≡◌, refl, ℕ, zero, suc, ◌+◌, ◌<◌, nat_eq, Bool, true, false, ◌||◌, not, cond, List, [], ◌∷◌, ◌++◌, map, filter, find, length, drop, Option, Some, None, bytes_eq, Contains}
 use Rattle.std.specs.List.{AllByRecursion, IsDistinct}
-use Rattle.std.proofs.Common.{ap, arith}
+use Rattle.std.proofs.Common.{ap, arith, get_or, drop-cons, append_assoc}
 use Rattle.std.proofs.lemmas.Bool.{eqb-true, eq-eqb, false_from_ne_true}
 use mathlib.Core.Path.{subst, sym, ◌∙◌}
 use Rattle.proof_cache.specs.Kept.{Key, is_among, kept_keys, without_key, with_answer}
@@ -51,6 +51,22 @@ keys_left t (d ∷ ts) h = ap (λ b. cond (not b) (d.key ∷ without_key t.key (
         → cond (not b) (d.key ∷ without_key t.key (out_keys ts)) (without_key t.key (out_keys ts)) ≡ out_keys (cond (not b) (d ∷ without t.number ts) (without t.number ts))
     by_test true r = r
     by_test false r = ap (λ ks. d.key ∷ ks) r
+
+pub passes_not : (b : Bool) → not b ≡ true → b ≡ false
+passes_not true h = sym h
+passes_not false h = refl
+
+-- one more answer is gathered
+pub gathered_more : {X Q B : Type 0} (view : X → B) (f : Q → B) (xs : List X) (x : X) (qs : List Q) (i : ℕ) (q : Q) → i < length qs → q ≡ get_or qs i q → view x ≡ f q
+    → map view xs ++ map f (drop i qs) ≡ map f qs → map view (xs ++ x ∷ []) ++ map f (drop (i + 1) qs) ≡ map f qs
+gathered_more view f xs x qs i q lt is e h =
+    let next : suc i ≡ i + 1 = omega arith in
+    let rest : drop i qs ≡ q ∷ drop (i + 1) qs = drop-cons qs i q lt ∙ (λ j. sym is j ∷ drop (next j) qs) in
+    ap (λ l. l ++ map f (drop (i + 1) qs)) (map-last view xs x ∙ (λ j. map view xs ++ e j ∷ [])) ∙ append_assoc (map view xs) (f q ∷ []) (map f (drop (i + 1) qs)) ∙ sym (ap (λ l. map view xs ++ map f l) rest) ∙ h
+
+pub map_of_map : {X Y Z : Type 0} (f : X → Y) (g : Y → Z) (xs : List X) → map (λ x. g (f x)) xs ≡ map g (map f xs)
+map_of_map f g [] = refl
+map_of_map f g (x ∷ xs) = ap (λ ys. g (f x) ∷ ys) (map_of_map f g xs)
 
 module _ {A : Type 0} (key_of : A → Key) (Right : A → Type 0) where
   -- the place of a claim that is spent is the one that goes

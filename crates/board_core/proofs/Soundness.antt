@@ -121,7 +121,7 @@ module _ {A : Type 0} (key_of : A → Key) (Right : A → Type 0) where
   first_sound = record { out_once = tt; out_or_kept = tt; numbers = tt; below = tt; kept_once = tt; right = tt }
 
   -- the replay of a list and one more entry is a step
-  replay_last : (s : State A) (es : List (Entry A)) (e : Entry A) → replay_from s (es ++ e ∷ []) ≡ step (replay_from s es) e.1.event
+  pub replay_last : (s : State A) (es : List (Entry A)) (e : Entry A) → replay_from s (es ++ e ∷ []) ≡ step (replay_from s es) e.1.event
   replay_last s [] e = refl
   replay_last s (x ∷ es) e = replay_last (step s x.1.event) es e
 

@@ -2,7 +2,7 @@
 ghost use Rattle.std.specs.Prelude.{◌≡◌, ℕ, ◌-◌, ◌^◌, ◌<◌, IfOk, OnErr, IfSome, Contains, List, map, find, count_by, not, bytes_eq};
 ghost use Rattle.std.specs.Arc.{arc_value};
 ghost use Rattle.std.specs.Option.{option_map};
-ghost use Rattle.proof_cache.specs.Kept.{has_place, is_among, kept_keys};
+ghost use Rattle.proof_cache.specs.Kept.{has_place, is_among, kept_at, kept_keys};
 ghost use Rattle.board_core.specs.Board.{first, open_keys, claim, deposit, give_back, look, gather, close, deposited, given_back, gathered, closed_now};
 ghost use Rattle.board_core.specs.Inside.{tickets};
 ghost use Rattle.board_core.specs.Step.{Steps, without};
@@ -96,6 +96,19 @@ fn count_with_key<Q: Question>(questions: &[Arc<Q, Global>], key: &[u8]) -> u64
         }
     }
     count
+}
+
+// The kept answer of the key, shared.
+fn shared_answer<A: Answered + Drop>(
+    cache: &Cache<A>,
+    key: &[u8],
+) -> Result<Option<Arc<A, Global>>, AllocError>
+    ensures { IfOk result (λ r. option_map arc_value r ≡ kept_at cache.now.kept key.now) }
+{
+    match cache.find(key) {
+        Some(answer) => Ok(Some(answer.clone()?)),
+        None => Ok(None),
+    }
 }
 
 // Takes away the claim with the number.
@@ -226,11 +239,7 @@ where
     {
         let mut answers = Vec::with_capacity(self.alloc, self.present.len())?;
         for question in &self.present {
-            let answer = match self.cache.find(question.key()) {
-                Some(answer) => Some(answer.clone()?),
-                None => None,
-            };
-            answers.push(answer)?;
+            answers.push(shared_answer(&self.cache, question.key())?)?;
         }
         Ok(answers)
     }
