@@ -4,6 +4,5 @@
 pub mod copy;
 pub mod proof;
 pub mod says;
-pub mod soundness;
 #[cfg(test)]
 mod tests;

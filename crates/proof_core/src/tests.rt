@@ -26,12 +26,12 @@ fn three_cases(alloc: Global) -> Result<Proof, AllocError> {
     steps.push(Step::Unfold(0, Term::new(Node::Call(0, Vec::new(alloc)))))?;
     steps.push(Step::Replace(1, 2, variable(0)))?;
     let mut cases = Vec::new(alloc);
-    cases.push(close(alloc, 0)?)?;
+    let first = Box::new(alloc, close(alloc, 0)?)?;
     cases.push(close(alloc, 1)?)?;
     cases.push(close(alloc, 3)?)?;
     Ok(Proof {
         steps,
-        end: End::Cases(1, cases),
+        end: End::Cases(1, first, cases),
     })
 }
 

@@ -1,0 +1,2 @@
+//! Linear facts: their sums, and sums of multiples of them.
+#![tactic(auto)]
