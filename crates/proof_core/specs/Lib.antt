@@ -17,4 +17,3 @@ pub mod Codes
 pub mod View
 pub mod ProofView
 pub mod ProofFalls
-pub mod RuleView

@@ -1,5 +1,0 @@
-use Rattle.proof_core.proofs.Rules.{close_is_sound}
-use Rattle.proof_core.proofs.soundness.close_is_sound.Goals as goal
-
-pub returns : goal.returns
-returns c = close_is_sound

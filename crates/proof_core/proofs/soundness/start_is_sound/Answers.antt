@@ -1,5 +1,0 @@
-use Rattle.proof_core.proofs.Rules.{start_is_sound}
-use Rattle.proof_core.proofs.soundness.start_is_sound.Goals as goal
-
-pub returns : goal.returns
-returns c = start_is_sound

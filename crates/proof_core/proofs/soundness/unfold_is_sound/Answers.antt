@@ -1,5 +1,0 @@
-use Rattle.proof_core.proofs.Rules.{unfold_is_sound}
-use Rattle.proof_core.proofs.soundness.unfold_is_sound.Goals as goal
-
-pub returns : goal.returns
-returns c = unfold_is_sound
