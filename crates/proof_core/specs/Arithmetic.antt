@@ -1,21 +1,16 @@
 -- The rules combine, tighten and trichotomy, on linear facts.
-use Rattle.std.specs.Prelude.{ℤ, pos, int_lt, Bool, not, ◌&&◌, Option, Some, List}
-use Rattle.std.specs.Ordering.{int_eq}
-use Rattle.logic_core.specs.Tree.{int, Tree, at_most}
+use Rattle.std.specs.Prelude.{ℤ, ◌&&◌, Option, Some, List}
+use Rattle.logic_core.specs.Tree.{int, Tree}
 use Rattle.logic_core.specs.Def.{Def}
 use Rattle.logic_core.specs.Wide.{◌>>=◌, when}
 use Rattle.logic_core.specs.Sorts.{is}
 use Rattle.logic_core.specs.Tighten.{tighten}
-use Rattle.linear_certs.specs.Combine.{linear_of, combined, at_least_zero}
+use Rattle.logic_core.specs.Combine.{linear_of, combined, at_least_zero}
+use Rattle.linear_certs.specs.Multiplier.{may_multiply}
 use Rattle.proof_core.specs.Context.{Context, named, with_fact, appended}
 use Rattle.proof_core.specs.Maps.{below_zero, at_zero, above_zero}
 
--- the multiplier of Le(0, d) is positive, and that of Eq(d, 0) isn't zero
-abbrev pub may_multiply : ℤ → Tree → Bool
-may_multiply p (at_most z d) = int_lt (pos 0) p
-may_multiply p t = not (int_eq p (pos 0))
-
--- combine: Le(0, p*d + q*e)
+-- combine: Le(0, p*d + q*e), where the multiplier of Le(0, d) is positive, and that of Eq(d, 0) isn't zero
 abbrev pub combination : Context → Tree → ℤ → Tree → ℤ → Option Context
 combination c f p g q = when (may_multiply p f && may_multiply q g) (linear_of f >>= λ d. linear_of g >>= λ e. combined d p e q >>= λ s. Some (with_fact c (at_least_zero s)))
 

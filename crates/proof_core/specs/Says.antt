@@ -6,7 +6,7 @@ use Rattle.logic_core.specs.Same.{same_term}
 use Rattle.logic_core.specs.Wide.{◌>>=◌}
 use Rattle.logic_core.specs.Sum.{Linear, affine, sum_term}
 use Rattle.logic_core.specs.Junction.{is_zero}
-use Rattle.linear_certs.specs.Combine.{sum_of}
+use Rattle.logic_core.specs.Combine.{sum_of}
 
 -- the coefficient of an atom
 abbrev pub coefficient : Tree → Parts → Option ℤ
