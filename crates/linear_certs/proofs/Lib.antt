@@ -1,0 +1,3 @@
+pub mod CombinedSorts
+pub mod CombinedValues
+pub mod CombinedFacts

@@ -17,3 +17,4 @@ pub mod Codes
 pub mod View
 pub mod ProofView
 pub mod ProofFalls
+pub mod RuleView

@@ -1,5 +1,5 @@
--- The twelve rules, and the rule of each node.
-use Rattle.std.specs.Prelude.{List, [], ◌∷◌}
+-- The twelve rules, their words, and the rule of each node.
+use Rattle.std.specs.Prelude.{ℕ, List, [], ◌∷◌, codes}
 use Rattle.proof_core.specs.Proof.{Step, by_split, by_instantiate, by_skolem, by_replace, by_unfold, by_back, by_differ, by_combine, by_tighten, Proof, proof, End, by_close, by_cases, by_condition, by_past, by_trichotomy}
 
 pub data Rule : Type 0 where
@@ -15,6 +15,21 @@ pub data Rule : Type 0 where
   combine : Rule
   tighten : Rule
   trichotomy : Rule
+
+-- its word
+abbrev pub rule_word : Rule → List ℕ
+rule_word close = codes "close"
+rule_word split = codes "split"
+rule_word instantiate = codes "instantiate"
+rule_word skolem = codes "skolem"
+rule_word replace = codes "replace"
+rule_word «unfold» = codes "unfold"
+rule_word back = codes "back"
+rule_word past = codes "past"
+rule_word differ = codes "differ"
+rule_word combine = codes "combine"
+rule_word tighten = codes "tighten"
+rule_word trichotomy = codes "trichotomy"
 
 abbrev pub step_rule : Step → Rule
 step_rule (by_split f) = split

@@ -21,6 +21,11 @@ abbrev pub disjuncts : Trees → Option (Tree × List Tree)
 disjuncts no_trees = None
 disjuncts (tree t ts) = Some (t, listed ts)
 
+-- t is If(u, x, y) in the fact f: u holds and t is x, or it doesn't and t is y
+abbrev pub conditions : Tree → Tree → Option (List Tree × List Tree)
+conditions f (choose u x y) = when (stands_in (choose u x y) f) (Some (u ∷ replaced (choose u x y) x f ∷ [], negation u ∷ replaced (choose u x y) y f ∷ []))
+conditions f t = None
+
 module _ (defs : List Def) where
   -- split of an And: its parts
   abbrev pub split : Context → Tree → Option Context
@@ -45,10 +50,6 @@ module _ (defs : List Def) where
   abbrev pub split_cases : Context → Tree → Option (Context × List Context)
   split_cases c t = cases c t >>= λ p. appended defs c p.0 >>= λ d. children defs c p.1 >>= λ ds. Some (d, ds)
 
-  -- split by the condition of t, an If in the fact f: it holds and t is x, or it doesn't and t is y
-  abbrev pub conditions : Tree → Tree → Option (List Tree × List Tree)
-  conditions f (choose u x y) = when (stands_in (choose u x y) f) (Some (u ∷ replaced (choose u x y) x f ∷ [], negation u ∷ replaced (choose u x y) y f ∷ []))
-  conditions f t = None
-
+  -- split by a condition
   abbrev pub split_condition : Context → Tree → Tree → Option (Context × Context)
   split_condition c f t = when (is_some (named defs c t)) (conditions f t >>= λ p. appended_each defs c p.0 >>= λ d. appended_each defs c p.1 >>= λ e. Some (d, e))
