@@ -18,12 +18,12 @@ some_and None f h = absurd (cc)
 
 -- two or three things, of which each is there
 pub both_given : {A B : Type 0} (o : Option A) (p : Option B) (a : A) (b : B) → ◌>>=◌ {B = A × B} o (λ x. ◌>>=◌ {B = A × B} p (λ y. Some (x, y))) ≡ Some (a, b) → (o ≡ Some a) × (p ≡ Some b)
-both_given (Some x) (Some y) a b e = let t : (x, y) ≡ (a, b) = cc in (ap (λ u. Some u.0) t, ap (λ u. Some u.1) t)
+both_given {A} {B} (Some x) (Some y) a b e = let t : ◌≡◌ {A = A × B} (x, y) (a, b) = cc in (ap (λ u. Some u.0) t, ap (λ u. Some u.1) t)
 both_given (Some x) None a b e = absurd (cc)
 both_given None p a b e = absurd (cc)
 
 pub three_given : {A B C : Type 0} (o : Option A) (p : Option B) (q : Option C) (a : A) (b : B) (c : C) → ◌>>=◌ {B = A × B × C} o (λ x. ◌>>=◌ {B = A × B × C} p (λ y. ◌>>=◌ {B = A × B × C} q (λ z. Some (x, y, z)))) ≡ Some (a, b, c) → (o ≡ Some a) × (p ≡ Some b) × (q ≡ Some c)
-three_given (Some x) (Some y) (Some z) a b c e = let t : (x, y, z) ≡ (a, b, c) = cc in (ap (λ u. Some u.0) t, ap (λ u. Some u.1) t, ap (λ u. Some u.2) t)
+three_given {A} {B} {C} (Some x) (Some y) (Some z) a b c e = let t : ◌≡◌ {A = A × B × C} (x, y, z) (a, b, c) = cc in (ap (λ u. Some u.0) t, ap (λ u. Some u.1) t, ap (λ u. Some u.2) t)
 three_given (Some x) (Some y) None a b c e = absurd (cc)
 three_given (Some x) None q a b c e = absurd (cc)
 three_given None p q a b c e = absurd (cc)
