@@ -62,6 +62,10 @@ module _ (defs : List Def) where
   pub one_followed : (c d : Context) (t : Tree) → Extends c (t ∷ []) d → ((frees : List Value) → IsTrue (are_of c.vars frees) → AllHold defs frees c.facts → HoldsIn defs frees t) → IsSorted defs d × (IsUnsatisfiable defs d → IsUnsatisfiable defs c)
   one_followed c d t x follow = followed c (t ∷ []) d x (λ frees fit all. All-cons (HoldsIn defs frees) t [] (follow frees fit all) (All-nil (HoldsIn defs frees)))
 
+  -- a fact that follows from the facts, as it stands
+  pub fact_followed : (c d : Context) (t : Tree) → IsSorted defs c → IsFormula c.vars defs t → with_fact c t ≡ d → ((frees : List Value) → IsTrue (are_of c.vars frees) → AllHold defs frees c.facts → HoldsIn defs frees t) → IsSorted defs d × (IsUnsatisfiable defs d → IsUnsatisfiable defs c)
+  fact_followed c d t s formula e follow = one_followed c d t (subst (Extends c (t ∷ [])) e (fact_extends c t s formula)) follow
+
   -- the facts of the children are formulas, and where they are refuted, none of these formulas holds beside the facts
   abbrev pub AreChildren : Context → List Tree → List Context → Type 0
   AreChildren c ts ds = All (IsSorted defs) ds × (All (IsUnsatisfiable defs) ds → (frees : List Value) → IsTrue (are_of c.vars frees) → AllHold defs frees c.facts → All (λ t. ¬ HoldsIn defs frees t) ts)
