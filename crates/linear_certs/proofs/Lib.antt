@@ -1,0 +1,4 @@
+pub mod CombinedValues
+pub mod CombinedSorts
+pub mod CombinedFacts
+pub mod Euclid

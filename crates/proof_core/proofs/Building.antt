@@ -1,10 +1,11 @@
 -- Accepted proofs, put together: a step before, or one behind; and how a proof ends.
 use Rattle.std.proofs.Common.{◌≡◌, refl, sym, subst, ℕ, IsTrue, Some, List, [], ◌∷◌, ◌++◌}
 use Rattle.logic_core.specs.Def.{Def}
-use Rattle.proof_core.specs.Proof.{Step, proof, Proofs, End, by_close, by_cases}
+use Rattle.proof_core.specs.Proof.{Step, Proof, proof, Proofs, End, by_close, by_cases}
 use Rattle.proof_core.specs.Context.{Context}
 use Rattle.proof_core.specs.Steps.{after_step}
-use Rattle.proof_core.specs.Ends.{closes, after_cases}
+use Rattle.proof_core.specs.Close.{closes}
+use Rattle.proof_core.specs.Ends.{after_cases}
 use Rattle.proof_core.specs.Accepted.{Leads, Refutes, RefuteEach}
 
 module _ (defs : List Def) where
@@ -34,5 +35,5 @@ module _ (defs : List Def) where
   pub refutes_by_close : (f g : ℕ) (c : Context) → IsTrue (closes c f g) → Refutes defs c (proof [] (by_close f g))
   refutes_by_close f g c h = (c, refl, h)
 
-  pub refutes_by_cases : (f : ℕ) (ps : Proofs) (c : Context) (ds : List Context) → after_cases defs c f ≡ Some ds → RefuteEach defs ds ps → Refutes defs c (proof [] (by_cases f ps))
-  refutes_by_cases f ps c ds e r = (c, refl, (ds, e, r))
+  pub refutes_by_cases : (f : ℕ) (p : Proof) (ps : Proofs) (c d : Context) (ds : List Context) → after_cases defs c f ≡ Some (d, ds) → Refutes defs d p → RefuteEach defs ds ps → Refutes defs c (proof [] (by_cases f p ps))
+  refutes_by_cases f p ps c d ds e r rest = (c, refl, (d, ds, e, r, rest))

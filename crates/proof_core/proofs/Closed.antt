@@ -1,15 +1,16 @@
 -- Closed terms over an assignment: their values, and the laws of terms on which the rules stand.
-use Rattle.std.proofs.Common.{◌≡◌, ◌↔◌, refl, ℕ, IsTrue, Some, List, []}
+use Rattle.std.proofs.Common.{◌≡◌, ◌↔◌, refl, ℕ, true, IsTrue, Some, List, []}
 use Rattle.std.specs.Prelude.{All, slice_get}
-use Rattle.logic_core.specs.Tree.{Kind, boolean, Tree, call, negation, no_trees}
+use Rattle.logic_core.specs.Tree.{Kind, boolean, Tree, call, negation, Trees}
 use Rattle.logic_core.specs.Value.{Value, holds, is_of, are_of}
 use Rattle.logic_core.specs.Def.{Def}
 use Rattle.logic_core.specs.Meaning.{Said, With, Holds}
 use Rattle.logic_core.specs.Valid.{calls_of}
-use Rattle.logic_core.specs.Sorts.{sort_of, bodies_sorted}
+use Rattle.logic_core.specs.Sorts.{sort_of, are, bodies_sorted}
 use Rattle.logic_core.specs.Normal.{normal}
 use Rattle.logic_core.specs.Junction.{negated}
-use Rattle.logic_core.specs.Subterm.{replaced}
+use Rattle.logic_core.specs.Subterm.{replaced, listed}
+use Rattle.logic_core.specs.Substitute.{substitute}
 use Rattle.logic_core.proofs.Kept.{Stable, Keeps, true_stable, keeps}
 use Rattle.logic_core.proofs.Defined.{has_defined, keeps_defined}
 use Rattle.logic_core.proofs.Replaced.{Same}
@@ -18,8 +19,9 @@ use Rattle.logic_laws.proofs.ValueSorts.{CallsHaveSorts, gives_sort}
 use Rattle.logic_laws.proofs.NormalSorts.{normal_sort as normal_sort_law}
 use Rattle.logic_laws.proofs.DefinedSorts.{defined_sorts}
 use Rattle.logic_laws.proofs.ReplacedSorts.{replaced_sort as replaced_sort_law}
-use Rattle.proof_core.proofs.Bodies.{lone_body_sort}
-use Rattle.logic_laws.proofs.Assigned.{same_normal, same_negated, same_with_replaced, same_called}
+use Rattle.logic_laws.proofs.Bodies.{body_sort as definition_sort}
+use Rattle.logic_laws.proofs.SubstitutedValues.{substituted_sort}
+use Rattle.logic_laws.proofs.Assigned.{same_normal, same_negated, same_with_replaced, same_call}
 
 module _ (defs : List Def) (frees : List Value) where
   -- what is said of the value of a closed term
@@ -64,6 +66,10 @@ module _ (defs : List Def) (frees : List Value) where
     (λ m. keep t P s (λ none. f (λ v g h. none ((says t v g P s).1 ((says u v h P s).0 m))))),
   )
 
+  -- t has each value that u has
+  pub same_back : (t u : Tree) → ((v : Value) → Has u v → Has t v) → Same (Of t) (Of u)
+  same_back t u f = same_by_value t u (λ go. has_one u (λ v g. go v (f v g) g))
+
   -- what is said of two terms alike holds of both
   pub same_holds : (t u : Tree) → Same (Of t) (Of u) → HoldsIn t ↔ HoldsIn u
   same_holds t u e = e (λ w. IsTrue (holds w)) (λ w. true_stable (holds w))
@@ -75,8 +81,9 @@ module _ (vars : List Kind) (defs : List Def) (bodies : IsTrue (bodies_sorted va
   pub replaced_sort : (old new t : Tree) (j k : Kind) → sort_of vars defs [] old ≡ Some j → sort_of vars defs [] new ≡ Some j → sort_of vars defs [] t ≡ Some k → sort_of vars defs [] (replaced old new t) ≡ Some k
   replaced_sort old new t j k s r h = replaced_sort_law vars defs old new t [] j k s r h
 
-  pub body_sort : (n : ℕ) (d : Def) (k : Kind) → slice_get defs n ≡ Some d → sort_of vars defs [] (call n no_trees) ≡ Some k → sort_of vars defs [] d.body ≡ Some k
-  body_sort n d k g s = lone_body_sort vars defs n d k bodies g s
+  -- the body of a definition with arguments for its parameters
+  pub body_sort : (n : ℕ) (d : Def) (ts : Trees) → slice_get defs n ≡ Some d → are vars defs [] d.params ts ≡ true → sort_of vars defs [] (substitute d.body (listed ts)) ≡ Some d.sort
+  body_sort n d ts g sorts = substituted_sort vars defs d.params ts d.body d.sort sorts (definition_sort vars defs n d bodies g)
 
   module _ (frees : List Value) (fit : IsTrue (are_of vars frees)) where
     pub call_sorts : CallsHaveSorts defs (calls_of frees defs)
@@ -95,5 +102,5 @@ module _ (vars : List Kind) (defs : List Def) (bodies : IsTrue (bodies_sorted va
     pub replaced_value : (old new t : Tree) (j k : Kind) → sort_of vars defs [] old ≡ Some j → sort_of vars defs [] new ≡ Some j → Same (Of defs frees old) (Of defs frees new) → sort_of vars defs [] t ≡ Some k → Same (Of defs frees t) (Of defs frees (replaced old new t))
     replaced_value old new t j k s r e h = same_with_replaced vars defs frees (bodies, fit) old new t [] j s r e
 
-    pub called_value : (n : ℕ) (d : Def) → slice_get defs n ≡ Some d → Same (Of defs frees (call n no_trees)) (Of defs frees d.body)
-    called_value n d g = same_called vars defs frees (bodies, fit) n d [] g
+    pub called_value : (n : ℕ) (d : Def) (ts : Trees) → slice_get defs n ≡ Some d → are vars defs [] d.params ts ≡ true → Same (Of defs frees (call n ts)) (Of defs frees (substitute d.body (listed ts)))
+    called_value n d ts g sorts = same_call vars defs frees (bodies, fit) n d ts g sorts

@@ -1,5 +1,5 @@
 -- When an And, an Or and a Not hold.
-use Rattle.std.proofs.Common.{◌∙◌, refl, sym, ap, Bool, true, false, ◌||◌, not, IsTrue, List, []}
+use Rattle.std.proofs.Common.{◌∙◌, refl, sym, ap, Bool, true, false, ◌&&◌, ◌||◌, not, IsTrue, List, []}
 use Rattle.std.specs.Prelude.{All}
 use Rattle.std.proofs.lemmas.List.Elements.{All-nil, All-cons, All-head, All-tail}
 use Rattle.logic_core.specs.Tree.{Tree, Trees, no_trees, tree, negation, all, some}
@@ -9,7 +9,8 @@ use Rattle.logic_core.specs.Def.{Def}
 use Rattle.logic_core.specs.Valid.{calls_of}
 use Rattle.logic_core.proofs.Kept.{Stable}
 use Rattle.logic_laws.proofs.Gives.{GivesEvery, GivesAny}
-use Rattle.logic_laws.proofs.Options.{both_true}
+use Rattle.logic_laws.proofs.Options.{both_true, all_true}
+use Rattle.proof_core.specs.Split.{both}
 use Rattle.proof_core.proofs.Closed.{HoldsIn, AllHold, has_one, value_holds, holds_by_value, holds_stable}
 
 pub neither : (a b : Bool) → IsTrue (a || b) → (IsTrue a → ⊥) → (IsTrue b → ⊥) → ⊥
@@ -43,6 +44,13 @@ module _ (defs : List Def) (frees : List Value) where
   -- an Or none of whose parts holds
   pub none_holds : (ts : Trees) → All (λ t. ¬ HoldsIn defs frees t) (listed ts) → ¬ HoldsIn defs frees (some ts)
   none_holds ts untrue h = has_one defs frees (some ts) (λ v g. no_part ts g.0 g.1 untrue (sym (ap holds g.2) ∙ value_holds defs frees (some ts) v g h))
+
+  -- an And of two formulas that hold
+  pub both_hold : (s t : Tree) → HoldsIn defs frees s → HoldsIn defs frees t → HoldsIn defs frees (both s t)
+  both_hold s t hs ht = holds_stable defs frees (both s t) (λ none. has_one defs frees s (λ v g. has_one defs frees t (λ w h.
+      let one = value_holds defs frees s v g hs in
+      let other = all_true (holds w) true (value_holds defs frees t w h ht) refl in
+      none (holds_by_value defs frees (both s t) (flag (holds v && (holds w && true))) (holds v && (holds w && true), (v, holds w && true, g, (w, true, h, refl, refl), refl), refl) (all_true (holds v) (holds w && true) one other)))))
 
   -- a formula that doesn't hold has a Not that holds
   pub not_holds : (t : Tree) → ¬ HoldsIn defs frees t → HoldsIn defs frees (negation t)

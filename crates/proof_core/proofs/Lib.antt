@@ -1,11 +1,21 @@
-pub mod Bodies
+pub mod Conditions
 pub mod Closed
 pub mod Junctions
+pub mod Appended
+pub mod CloseSound
+pub mod Replacing
+pub mod SplitSound
+pub mod NewVariables
+pub mod QuantifiersSound
 pub mod Sums
 pub mod Said
-pub mod Appended
-pub mod Rules
+pub mod ReplaceSound
+pub mod Signs
+pub mod Accesses
+pub mod MapsSound
+pub mod ArithmeticSound
 pub mod Sound
+pub mod Judged
 pub mod Building
 pub mod Without
 mod Examples

@@ -20,7 +20,8 @@ use Rattle.logic_laws.proofs.FormulaSorts.{part_of_negation, parts_of_equal}
 use Rattle.logic_laws.proofs.SameValue.{same_equal}
 use Rattle.logic_laws.proofs.Gives.{GivesSum}
 use Rattle.logic_laws.proofs.SumValues.{linear_gives, affine_gives}
-use Rattle.proof_core.specs.Says.{sum_of, coefficient, without, rest_of, solved, other_side, by_equation, by_truth, or_else, says}
+use Rattle.logic_core.specs.Combine.{sum_of}
+use Rattle.proof_core.specs.Says.{coefficient, without, rest_of, solved, other_side, by_equation, by_truth, or_else, says}
 use Rattle.proof_core.proofs.Sums.{parted, zero_sum}
 use Rattle.proof_core.proofs.Closed.{Of, HoldsIn, Has, has_one, value_holds, same_by_value, call_sorts, value_sort}
 
@@ -111,7 +112,7 @@ solved_down : (k m n r : ℤ) → k ≡ negsuc 0 → ((k *ℤ m) +ℤ n) +ℤ r 
 solved_down k m n r unit e = let f : ((negsuc 0 *ℤ m) +ℤ n) +ℤ r ≡ pos 0 = subst (λ i. ((i *ℤ m) +ℤ n) +ℤ r ≡ pos 0) unit e in omega (arith, ints)
 
 -- a value of Int is a number
-number_value : (v : Value) → IsTrue (is_of int v) → whole (int_of v) ≡ v
+pub number_value : (v : Value) → IsTrue (is_of int v) → whole (int_of v) ≡ v
 number_value (whole n) h = refl
 number_value (flag b) h = absurd (cc)
 number_value (table d es) h = absurd (cc)

@@ -7,7 +7,8 @@ use Rattle.logic_core.specs.Same.{same_term}
 use Rattle.logic_core.specs.Valid.{Calls}
 use Rattle.logic_core.proofs.SameTerm.{same_is_equal}
 use Rattle.logic_laws.proofs.Gives.{Gives, GivesSum}
-use Rattle.proof_core.specs.Says.{sum_of, coefficient, without}
+use Rattle.logic_core.specs.Combine.{sum_of}
+use Rattle.proof_core.specs.Says.{coefficient, without}
 
 exchanged : (a b n : ℤ) → a +ℤ (b +ℤ n) ≡ b +ℤ (a +ℤ n)
 exchanged a b n = omega (arith, ints)

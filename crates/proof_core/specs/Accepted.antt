@@ -1,10 +1,11 @@
 -- Accepted proofs: every node meets its rule's condition, and every branch ends in a close.
 use Rattle.std.specs.Prelude.{◌≡◌, IsTrue, ⊤, Some, List, [], ◌∷◌}
 use Rattle.logic_core.specs.Def.{Def, Obligation}
-use Rattle.proof_core.specs.Proof.{Step, Proof, proof, Proofs, no_proofs, one_proof, End, by_close, by_cases}
+use Rattle.proof_core.specs.Proof.{Step, Proof, proof, Proofs, no_proofs, one_proof, End, by_close, by_cases, by_condition, by_past, by_trichotomy}
 use Rattle.proof_core.specs.Context.{Context, start}
+use Rattle.proof_core.specs.Close.{closes}
 use Rattle.proof_core.specs.Steps.{after_step}
-use Rattle.proof_core.specs.Ends.{closes, after_cases}
+use Rattle.proof_core.specs.Ends.{after_cases, after_condition, after_past, after_trichotomy}
 
 module _ (defs : List Def) where
   -- each step meets its condition, and the last one leads to d
@@ -19,7 +20,10 @@ module _ (defs : List Def) where
 
     pub Ends : Context → End → Type 0
     Ends c (by_close f g) = IsTrue (closes c f g)
-    Ends c (by_cases f ps) = (ds : List Context) × (after_cases defs c f ≡ Some ds) × RefuteEach ds ps
+    Ends c (by_cases f p ps) = (d : Context) × (ds : List Context) × (after_cases defs c f ≡ Some (d, ds)) × Refutes d p × RefuteEach ds ps
+    Ends c (by_condition f t p q) = (d : Context) × (e : Context) × (after_condition defs c f t ≡ Some (d, e)) × Refutes d p × Refutes e q
+    Ends c (by_past t p q r) = (d : Context) × (e : Context) × (g : Context) × (after_past defs c t ≡ Some (d, e, g)) × Refutes d p × Refutes e q × Refutes g r
+    Ends c (by_trichotomy t p q r) = (d : Context) × (e : Context) × (g : Context) × (after_trichotomy defs c t ≡ Some (d, e, g)) × Refutes d p × Refutes e q × Refutes g r
 
     -- one proof for each child
     pub RefuteEach : List Context → Proofs → Type 0

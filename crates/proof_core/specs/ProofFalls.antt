@@ -7,7 +7,7 @@ use Rattle.proof_core.specs.View.{steps_of, proofs_of}
 use Rattle.proof_core.specs.ProofView.{end_of}
 use Rattle.proof_core.specs.declared.proof.Step.{Step}
 use Rattle.proof_core.specs.declared.proof.End.{End}
-use Rattle.proof_core.specs.declared.proof.End.TheVariants.{Close, Cases}
+use Rattle.proof_core.specs.declared.proof.End.TheVariants.{Close, Cases, Condition, Past, Trichotomy}
 use denote.Param.Weighed.{most}
 use Rattle.proof_core.specs.declared.proof.Proof.TheDeep.{deep-End}
 
@@ -17,7 +17,10 @@ most_proofs (p ∷ ps) = omega (arith, most_proofs ps)
 
 end_falls : (e : End) → max (deep-End e) 0 ≤ end_nodes (end_of e)
 end_falls (Close f g) = omega arith
-end_falls (Cases f ps) = omega (arith, most_proofs ps.items)
+end_falls (Cases f p ps) = omega (arith, most_proofs ps.items)
+end_falls (Condition f t p q) = omega arith
+end_falls (Past t p q r) = omega arith
+end_falls (Trichotomy t p q r) = omega arith
 
 pub proof_falls : (ss : List Step) (e : End) → max (deep-End e) 0 ≤ length (steps_of ss) + end_nodes (end_of e)
 proof_falls ss e = omega (arith, end_falls e)

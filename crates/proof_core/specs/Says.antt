@@ -1,17 +1,12 @@
 -- What a normal fact says that a term is equal to: the four kinds of fact by which a term is replaced.
 use Rattle.std.specs.Prelude.{ℤ, pos, negsuc, true, false, Option, Some, None, if◌then◌else◌}
 use Rattle.std.specs.Ordering.{int_eq}
-use Rattle.logic_core.specs.Tree.{Tree, num, truth, linear, negation, equal, Parts, no_parts, part}
+use Rattle.logic_core.specs.Tree.{Tree, truth, negation, equal, Parts, no_parts, part}
 use Rattle.logic_core.specs.Same.{same_term}
 use Rattle.logic_core.specs.Wide.{◌>>=◌}
-use Rattle.logic_core.specs.Sum.{Linear, constant, affine, sum_term}
+use Rattle.logic_core.specs.Sum.{Linear, affine, sum_term}
 use Rattle.logic_core.specs.Junction.{is_zero}
-
--- a normal term of Int as a sum
-abbrev pub sum_of : Tree → Linear
-sum_of (num n) = constant n
-sum_of (linear ps c) = record { parts = ps; rest = c }
-sum_of t = record { parts = part (pos 1) t no_parts; rest = pos 0 }
+use Rattle.logic_core.specs.Combine.{sum_of}
 
 -- the coefficient of an atom
 abbrev pub coefficient : Tree → Parts → Option ℤ

@@ -4,7 +4,8 @@ ghost use Rattle.logic_core.specs.Tree.{truth};
 ghost use Rattle.logic_core.specs.View.{parts_of};
 ghost use Rattle.logic_core.specs.Sum.{sum_term, affine};
 ghost use Rattle.logic_core.specs.Junction.{is_zero};
-ghost use Rattle.proof_core.specs.Says.{sum_of, coefficient, without, rest_of, solved, other_side, by_equation, by_truth, says};
+ghost use Rattle.logic_core.specs.Combine.{sum_of};
+ghost use Rattle.proof_core.specs.Says.{coefficient, without, rest_of, solved, other_side, by_equation, by_truth, says};
 
 use logic_core::fault::NormalFault;
 use logic_core::sum::affine;

@@ -1,5 +1,6 @@
-// Sizes and copies of small proofs, by counting their nodes, and what facts say of terms.
+// Sizes and copies of small proofs, by counting their nodes, words of rules, and what facts say of terms.
 use crate::proof::{End, Proof, Step};
+use crate::rule::Rule;
 use crate::says::says;
 use logic_core::term::{Node, Term};
 use std::alloc::{AllocError, Global};
@@ -26,13 +27,24 @@ fn three_cases(alloc: Global) -> Result<Proof, AllocError> {
     steps.push(Step::Unfold(0, Term::new(Node::Call(0, Vec::new(alloc)))))?;
     steps.push(Step::Replace(1, 2, variable(0)))?;
     let mut cases = Vec::new(alloc);
-    cases.push(close(alloc, 0)?)?;
+    let first = Box::new(alloc, close(alloc, 0)?)?;
     cases.push(close(alloc, 1)?)?;
     cases.push(close(alloc, 3)?)?;
     Ok(Proof {
         steps,
-        end: End::Cases(1, cases),
+        end: End::Cases(1, first, cases),
     })
+}
+
+fn boxed(alloc: Global, steps: u64) -> Result<Box<Proof>, AllocError> {
+    Ok(Box::new(alloc, close(alloc, steps)?)?)
+}
+
+fn ended(alloc: Global, end: End) -> Proof {
+    Proof {
+        steps: Vec::new(alloc),
+        end,
+    }
 }
 
 #[test]
@@ -41,6 +53,10 @@ fn each_step_and_each_end_is_a_node(rt: HostRuntime) -> Result<(), Fail> {
     assert_eq!(rt; close(alloc, 0)?.size(), 1);
     assert_eq!(rt; close(alloc, 3)?.size(), 4);
     assert_eq!(rt; three_cases(alloc)?.size(), 10);
+    let condition = End::Condition(0, variable(0), boxed(alloc, 1)?, boxed(alloc, 2)?);
+    assert_eq!(rt; ended(alloc, condition).size(), 6);
+    let past = End::Past(variable(0), boxed(alloc, 0)?, boxed(alloc, 1)?, boxed(alloc, 2)?);
+    assert_eq!(rt; ended(alloc, past).size(), 7);
     Ok(())
 }
 
@@ -51,6 +67,22 @@ fn a_copy_has_the_same_nodes(rt: HostRuntime) -> Result<(), Fail> {
     assert_eq!(rt; copied.size(), 10);
     assert!(rt; matches!(copied.steps.first(), Some(Step::Unfold(0, _))));
     assert!(rt; matches!(copied.steps.last(), Some(Step::Replace(1, 2, _))));
+    let mut terms = Vec::new(alloc);
+    terms.push(variable(3))?;
+    assert!(rt; matches!(Step::Instantiate(7, terms).copy(alloc)?, Step::Instantiate(7, _)));
+    let sum = Step::Combine(1, -2, 3, 4).copy(alloc)?;
+    assert!(rt; matches!(sum, Step::Combine(1, -2, 3, 4)));
+    Ok(())
+}
+
+#[test]
+fn nodes_name_their_rules(rt: HostRuntime) -> Result<(), Fail> {
+    let alloc = rt.alloc();
+    let cut = End::Trichotomy(variable(0), boxed(alloc, 0)?, boxed(alloc, 0)?, boxed(alloc, 0)?);
+    let word = cut.rule().to_string(alloc)?;
+    assert!(rt; word.as_str() == "trichotomy");
+    assert!(rt; three_cases(alloc)?.end.rule() == Rule::Split);
+    assert!(rt; Step::Skolem(0).rule() == Rule::Skolem);
     Ok(())
 }
 

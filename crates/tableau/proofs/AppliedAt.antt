@@ -11,16 +11,14 @@ use Rattle.logic_core.specs.Normal.{normal}
 use Rattle.logic_core.specs.Subterm.{listed}
 use Rattle.logic_core.specs.Subterm.{replaced}
 use Rattle.proof_core.specs.Proof.{by_split, by_replace, by_unfold}
-use Rattle.proof_core.specs.Ends.{cases}
 use Rattle.proof_core.specs.Says.{says}
-use Rattle.proof_core.specs.Steps.{body_of}
 use Rattle.tableau.specs.Applied.{applied}
 use Rattle.tableau.specs.Branch.{Fact, Branch, At, first_from, normal_in, without}
 use Rattle.tableau.specs.Change.{Made, begun, appended, appended_one, added_each, changed_at, changed_each}
 use Rattle.tableau.specs.Move.{Move, forks, on_one}
 use Rattle.tableau.specs.Closing.{as_all, conjuncts_of, each, flattened_at}
-use Rattle.tableau.specs.Rewriting.{rewrites, first_call, left_in_another, rewritten, rewritten_by, unfolded_at}
-use Rattle.tableau.specs.Splitting.{cases_of, case, split_at}
+use Rattle.tableau.specs.Rewriting.{rewrites, first_call, left_in_another, rewritten, rewritten_by, body_of, unfolded_at}
+use Rattle.tableau.specs.Splitting.{cases_of, disjuncts_of, case, split_at}
 use Rattle.tableau.proofs.Found.{IsFound}
 
 -- a rule that is applied at the fact that is found
@@ -61,8 +59,8 @@ module _ (defs : List Def) (b : Branch) (k : ℕ) (f : IsFound first_call b.fact
       ∙ ap (λ n. let p = appended_one (by_unfold (f.a.fact).number f.a.what ∷ []) t (begun b) in Some (on_one (changed_at n p.0 p.1))) f.at
 
 -- split
-pub cases_found : (fs : List Fact) (k : ℕ) (f : IsFound cases_of fs k) (t : Tree) → t ≡ (f.a.fact).term → unwrap_or (cases t) [] ≡ f.a.what
-cases_found fs k f t h = ap (λ u. unwrap_or (cases u) []) h ∙ ap (λ o. unwrap_or o []) f.what
+pub cases_found : (fs : List Fact) (k : ℕ) (f : IsFound cases_of fs k) (t : Tree) → t ≡ (f.a.fact).term → unwrap_or (disjuncts_of t) [] ≡ f.a.what
+cases_found fs k f t h = ap (λ u. unwrap_or (disjuncts_of u) []) h ∙ ap (λ o. unwrap_or o []) f.what
 
 pub splits_not : (defs : List Def) (b : Branch) (k : ℕ) (f : IsFound cases_of b.facts k) → each (normal_in defs b) f.a.what ≡ None → applied cases_of (split_at defs b) b ≡ None
 splits_not defs b k f h = applied_at cases_of (split_at defs b) b k f

@@ -11,7 +11,8 @@ pub mod Tracked
 pub mod OutsideSorts
 pub mod Outcomes
 pub mod RulesGo
-pub mod RewritesGo
+pub mod NothingPut
+mod RewritesGo
 pub mod Refuting
 pub mod Stepping
 pub mod Tried

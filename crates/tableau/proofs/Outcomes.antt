@@ -5,7 +5,8 @@ use Rattle.logic_core.specs.Def.{Def}
 use Rattle.proof_core.specs.Proof.{Step, Proof, proof, End, by_close, by_cases}
 use Rattle.proof_core.specs.View.{proofs_of}
 use Rattle.proof_core.specs.Context.{Context}
-use Rattle.proof_core.specs.Ends.{closes, after_cases}
+use Rattle.proof_core.specs.Close.{closes}
+use Rattle.proof_core.specs.Ends.{after_cases}
 use Rattle.proof_core.specs.Accepted.{Leads, Refutes, RefuteEach}
 use Rattle.proof_core.specs.Soundness.{IsSorted}
 use Rattle.proof_core.proofs.Building.{refutes_on, refutes_by_close, refutes_by_cases}
@@ -25,7 +26,7 @@ module _ (defs : List Def) where
   abbrev pub Goes : Context → Ending → List (List Step) → List Context → Type 0
   Goes c goes_on sss ds = (ss : List Step) × (d : Context) × (sss ≡ ss ∷ []) × (ds ≡ d ∷ []) × Leads defs c ss d
   Goes c (move.closes f g) sss ds = (sss ≡ []) × (ds ≡ []) × IsTrue (closes c f g)
-  Goes c (move.forks f) sss ds = (sss ≡ no_steps ds) × (after_cases defs c f ≡ Some ds)
+  Goes c (move.forks f) sss ds = (d : Context) × (rest : List Context) × (ds ≡ d ∷ rest) × (sss ≡ no_steps ds) × (after_cases defs c f ≡ Some (d, rest))
 
   -- a branch beside a context of formulas
   pub record IsPlaced (b : Branch) (c : Context) : Type 0 where
@@ -74,4 +75,10 @@ module _ (defs : List Def) where
       on ss d [] h k = absurd k
       on ss d (q ∷ qs) h k = (begun_refutes ss q c d h k.0, k.1)
   refuted_before (move.closes f g) sss c ds cs ps h r = rw h.0 (refutes_by_close defs f g c h.2, subst (λ xs. RefutedBy (xs ++ cs) ps) h.1 r)
-  refuted_before (move.forks f) sss c ds cs ps h r = let k = cases_refuted ds cs ps r in rw h.0 (refutes_by_cases defs f (proofs_of (begin_each (no_steps ds) ps)) c ds h.1 k.0, k.1)
+  refuted_before (move.forks f) sss c ds cs ps g r =
+      rw (g.3, g.2) (on g.0 g.1 ps g.4 (subst (λ xs. RefutedBy (xs ++ cs) ps) g.2 r))
+    where
+      on : (d : Context) (rest : List Context) (qs : List Proof) → after_cases defs c f ≡ Some (d, rest) → RefutedBy (d ∷ rest ++ cs) qs → Refutes defs c (proof_of (move.forks f) (begin_each (no_steps (d ∷ rest)) qs)) × RefutedBy cs (drop (length (no_steps (d ∷ rest))) qs)
+      on d rest [] h k = absurd k
+      on d rest (q ∷ qs) h k = let others = cases_refuted rest cs qs k.1 in
+          (refutes_by_cases defs f (begin_with [] q) (proofs_of (begin_each (no_steps rest) qs)) c d rest h (subst (Refutes defs d) (sym (without_steps q)) k.0) others.0, others.1)

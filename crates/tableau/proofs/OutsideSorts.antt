@@ -16,7 +16,8 @@ use Rattle.logic_laws.proofs.SortTests.{sort_is}
 use Rattle.logic_laws.proofs.SumSorts.{first_int}
 use Rattle.logic_laws.proofs.FormulaSorts.{first_formula, part_of_negation, parts_of_at_most, parts_of_equal}
 use Rattle.logic_laws.proofs.NormalSorts.{parts_of_mul, parts_of_read, parts_of_write, parts_of_choose, parts_of_call, first_of_sort}
-use Rattle.proof_core.specs.Says.{sum_of, coefficient, rest_of, solved, other_side, by_equation, by_truth, or_else, says}
+use Rattle.logic_core.specs.Combine.{sum_of}
+use Rattle.proof_core.specs.Says.{coefficient, rest_of, solved, other_side, by_equation, by_truth, or_else, says}
 
 module _ (vars : List Kind) (defs : List Def) (b : List Kind) where
   abbrev pub HasSort : Tree → Type 0

@@ -6,7 +6,7 @@ use Rattle.proof_core.specs.Proof.{Proof}
 use Rattle.proof_core.specs.Context.{Context, start}
 use Rattle.proof_core.specs.Accepted.{Refutes, IsAccepted}
 use Rattle.proof_core.specs.Soundness.{IsSorted, IsWellSorted}
-use Rattle.proof_core.proofs.Rules.{start_is_sound}
+use Rattle.proof_core.proofs.CloseSound.{start_is_sound}
 use Rattle.tableau.specs.Branch.{Branch, Attempt, none, leaves, gives}
 use Rattle.tableau.specs.Move.{Move, Played, cost, branches_of, steps_of}
 use Rattle.tableau.specs.Closing.{close, flatten}

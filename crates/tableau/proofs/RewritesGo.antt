@@ -18,24 +18,28 @@ use Rattle.logic_laws.proofs.Options.{both_true, bind_some, cond_has}
 use Rattle.proof_core.specs.Proof.{Step, by_split, by_replace, by_unfold}
 use Rattle.proof_core.specs.Context.{Context, fact, with_fact, named, appended, appended_each, children}
 use Rattle.proof_core.specs.Says.{says}
-use Rattle.proof_core.specs.Steps.{stands_in, body_of, unfolded, replacement, split, after_step}
-use Rattle.proof_core.specs.Ends.{is_negation_of, one_each, cases, after_cases}
-use Rattle.proof_core.specs.Ends as ends
+use Rattle.proof_core.specs.Split.{stands_in, split, split_cases}
+use Rattle.proof_core.specs.Replace.{body_of as called_body, unfolded, replacement}
+use Rattle.proof_core.specs.Steps.{after_step}
+use Rattle.proof_core.specs.Close.{is_negation_of}
+use Rattle.proof_core.specs.Ends.{after_cases}
 use Rattle.proof_core.specs.Accepted.{Leads}
 use Rattle.proof_core.specs.Soundness.{IsFormula, IsSorted}
 use Rattle.proof_core.proofs.Appended.{at_fact}
-use Rattle.proof_core.proofs.Rules.{split_is_sound, replace_is_sound, unfold_is_sound, cases_are_sound}
+use Rattle.proof_core.proofs.SplitSound.{split_is_sound, cases_are_sound}
+use Rattle.proof_core.proofs.ReplaceSound.{replace_is_sound, unfold_is_sound}
 use Rattle.proof_core.proofs.Building.{leads_one_more}
 use Rattle.tableau.specs.Branch.{Fact, Branch, Attempt, none, leaves, gives, unless_wide, At, oldest, first_from, numbered, normal_in, without}
 use Rattle.tableau.specs.Change.{Made, begun, appended_one, added, added_each, kept, changed_at, emptied, changed_from, changed_each, with_size}
 use Rattle.tableau.specs.Move.{Move, forks, on_one, steps_of, branches_of}
 use Rattle.tableau.specs.Closing.{are_opposed, pair_from, close_by, close, as_all, conjuncts_of, each, flattened_at, flatten}
-use Rattle.tableau.specs.Rewriting.{rewrites, is_call, first_call, left_in_another, rewritten, rewritten_by, rewrite, unfolded_at, unfold_call}
-use Rattle.tableau.specs.Splitting.{cases_of, case, split_at}
+use Rattle.tableau.specs.Rewriting.{rewrites, is_call, first_call, left_in_another, rewritten, rewritten_by, rewrite, body_of, unfolded_at, unfold_call}
+use Rattle.tableau.specs.Splitting.{cases_of, disjuncts_of, case, split_at}
 use Rattle.tableau.specs.Splitting as splitting
 use Rattle.tableau.proofs.Tracked.{IsKnown, Tracks, get_before, get_next, with_facts, known_later, numbered_known, each_appended, added_tracks, added_each_tracks, added_steps, added_each_steps, kept_known, without_tracks, changed_tracks, found_known}
 use Rattle.tableau.proofs.OutsideSorts.{HasSort, outside_sorts, found_has, said_of_sorted}
 use Rattle.tableau.proofs.RulesGo.{second, found_at_oldest, on_one_goes}
+use Rattle.tableau.proofs.NothingPut.{nothing_put}
 use Rattle.tableau.proofs.Outcomes.{Goes, IsPlaced, ArePlaced, Outcome, no_steps}
 
 either_branch : {A R : Type 0} (x : Bool) (o p : Option A) (y : A) → ◌≡◌ {A = Option A} (elim x [ false ↦ o | true ↦ p ]) (Some y) → (x ≡ false → o ≡ Some y → R) → (x ≡ true → p ≡ Some y → R) → R
@@ -134,7 +138,13 @@ module _ (defs : List Def) where
       at_test true k further = let is_t : u ≡ t = cc in let same : same_term t u ≡ true = subst (λ x. same_term t x ≡ true) (sym is_t) (same_as_itself t) in rw same refl
       at_test false k further = second (same_term t u) (list_any (same_term t) us) (further k)
 
-  unfolds : (c : Context) (vars : List Kind) (n : ℕ) (g t u v : Tree) → fact c n ≡ Some g → is_some (named defs c t) ≡ true → stands_in t g ≡ true → body_of defs t ≡ Some u → vars ≡ c.vars → normal vars defs [] (replaced t u g) ≡ Some v
+  -- such a call's body is the definition's
+  body_is : (t u : Tree) → body_of defs t ≡ Some u → called_body defs t ≡ Some u
+  body_is (call n no_trees) u e = let p = bind_some (slice_get defs n) (λ d. Some d.body) u e in let put = nothing_put (p.0).body 0 in rw p.1 (ap Some put ∙ p.2)
+  body_is (call n (tree t ts)) u e = absurd (cc)
+  body_is t u e = absurd (cc)
+
+  unfolds : (c : Context) (vars : List Kind) (n : ℕ) (g t u v : Tree) → fact c n ≡ Some g → is_some (named defs c t) ≡ true → stands_in t g ≡ true → called_body defs t ≡ Some u → vars ≡ c.vars → normal vars defs [] (replaced t u g) ≡ Some v
       → after_step defs c (by_unfold n t) ≡ Some (with_fact c v)
   unfolds c vars n g t u v known sorted stands body same e = let new = appended_normal defs vars c (replaced t u g) v same e in rw (known, sorted, stands, body) new
 
@@ -155,7 +165,7 @@ module _ (defs : List Def) where
       let sort = found_has (HasSort c.vars defs []) is_call (outside (a.fact).term) a.what k.1 (outside_sorts c.vars defs [] (a.fact).term boolean formula) in
       let named_call : is_some (named defs c a.what) ≡ true = some_is (named defs c a.what) sort.0 sort.1 in
       let stands : stands_in a.what (a.fact).term ≡ true = found_stands a.what (outside (a.fact).term) k.1 in
-      let step = unfolds c b.vars number (a.fact).term a.what p.0 v k.0 named_call stands p.1 t.vars q.1 in
+      let step = unfolds c b.vars number (a.fact).term a.what p.0 v k.0 named_call stands (body_is a.what p.0 p.1) t.vars q.1 in
       let base : Tracks (unfolded_made b number a.what).branch d = record { vars = t.vars; next = (let x = t.next in let y = length_push c.facts v in omega arith); facts = known_later c (v ∷ []) b.facts t.facts } in
       let here : IsKnown d f = get_next c.facts v b.next t.next in
       subst (λ n. Outcome defs c n) is_m (on_one_goes defs c d (changed_at a.at f (unfolded_made b number a.what)) (by_unfold number a.what ∷ []) refl (d, step, refl)
@@ -166,15 +176,15 @@ module _ (defs : List Def) where
   contexts_with c [] = []
   contexts_with c (u ∷ us) = with_fact c u ∷ contexts_with c us
 
-  each_child : (b : Branch) (c : Context) (ts us : List Tree) → b.vars ≡ c.vars → each (normal_in defs b) ts ≡ Some us → children defs c (one_each ts) ≡ Some (contexts_with c us)
+  each_child : (b : Branch) (c : Context) (ts us : List Tree) → b.vars ≡ c.vars → each (normal_in defs b) ts ≡ Some us → children defs c ts ≡ Some (contexts_with c us)
   each_child b c [] us v h = let none : [] ≡ us = cc in subst (λ ys. Some [] ≡ Some (contexts_with c ys)) none refl
   each_child b c (t ∷ ts) us v h =
       let p = bind_some (normal_in defs b t) (λ u. each (normal_in defs b) ts >>= λ rest. Some (u ∷ rest)) us h in
       let q = bind_some (each (normal_in defs b) ts) (λ rest. Some (p.0 ∷ rest)) us p.2 in
       let is_us : p.0 ∷ q.0 ≡ us = cc in
-      subst (λ ys. children defs c (one_each (t ∷ ts)) ≡ Some (contexts_with c ys)) is_us (first_child c t p.0 ts (contexts_with c q.0) (appended_normal defs b.vars c t p.0 v p.1) (each_child b c ts q.0 v q.1))
+      subst (λ ys. children defs c (t ∷ ts) ≡ Some (contexts_with c ys)) is_us (first_child c t p.0 ts (contexts_with c q.0) (appended_normal defs b.vars c t p.0 v p.1) (each_child b c ts q.0 v q.1))
     where
-      first_child : (c : Context) (t u : Tree) (ts : List Tree) (ds : List Context) → appended defs c t ≡ Some (with_fact c u) → children defs c (one_each ts) ≡ Some ds → children defs c (one_each (t ∷ ts)) ≡ Some (with_fact c u ∷ ds)
+      first_child : (c : Context) (t u : Tree) (ts : List Tree) (ds : List Context) → appended defs c t ≡ Some (with_fact c u) → children defs c ts ≡ Some ds → children defs c (t ∷ ts) ≡ Some (with_fact c u ∷ ds)
       first_child c t u ts ds h k = rw (h, k) refl
 
   case_steps : (b : Branch) (c : Context) (us : List Tree) → steps_of (map (case b) us) ≡ no_steps (contexts_with c us)
@@ -192,8 +202,21 @@ module _ (defs : List Def) where
         cases_placed b c us t (All-tail (IsSorted defs) (with_fact c u) (contexts_with c us) s),
       )
 
-  splits : (c : Context) (n : ℕ) (g : Tree) (ts : List Tree) (ds : List Context) → fact c n ≡ Some g → cases g ≡ Some ts → children defs c (one_each ts) ≡ Some ds → after_cases defs c n ≡ Some ds
-  splits c n g ts ds known form h = rw (known, form) h
+  -- the contexts of the cases: the first, and the others
+  abbrev Splits : Context → ℕ → List Context → Type 0
+  Splits c n ds = (d : Context) × (rest : List Context) × (ds ≡ d ∷ rest) × (after_cases defs c n ≡ Some (d, rest))
+
+  splits : (c : Context) (n : ℕ) (g : Tree) (ts : List Tree) (ds : List Context) → fact c n ≡ Some g → disjuncts_of g ≡ Some ts → children defs c ts ≡ Some ds → Splits c n ds
+  splits c n (some (tree t us)) ts ds known form h =
+      let is_ts : t ∷ listed us ≡ ts = cc in
+      let first = subst (λ xs. children defs c xs ≡ Some ds) (sym is_ts) h in
+      let p = bind_some (appended defs c t) (λ d. children defs c (listed us) >>= λ rest. Some (d ∷ rest)) ds first in
+      let q = bind_some (children defs c (listed us)) (λ rest. Some (p.0 ∷ rest)) ds p.2 in
+      let is_ds : p.0 ∷ q.0 ≡ ds = cc in
+      let after : split_cases defs c (some (tree t us)) ≡ Some (p.0, q.0) = rw (p.1, q.1) refl in
+      (p.0, q.0, sym is_ds, rw known after)
+  splits c n (some no_trees) ts ds known form h = absurd (cc)
+  splits c n g ts ds known form h = absurd (cc)
 
   pub split_goes : (b : Branch) (c : Context) (m : Move) → splitting.split defs b ≡ gives m → IsPlaced defs b c → Outcome defs c m
   split_goes b c m h placed =
@@ -206,9 +229,9 @@ module _ (defs : List Def) where
       let us = p.0 in
       let is_m : record { ending = forks number; made = map (case (without a.at b)) us } ≡ m = cc in
       let after = splits c number (a.fact).term a.what (contexts_with c us) k.0 k.1 (each_child b c a.what us t.vars p.1) in
-      let sorted = (cases_are_sound number defs c (contexts_with c us) placed.sorted after).0 in
+      let sorted = subst (All (IsSorted defs)) (sym after.2) (cases_are_sound number defs c after.0 after.1 placed.sorted after.3).0 in
       subst (λ n. Outcome defs c n) is_m (record {
         contexts = contexts_with c us;
-        goes = (case_steps (without a.at b) c us, after);
+        goes = (after.0, after.1, after.2, case_steps (without a.at b) c us, after.3);
         placed = cases_placed (without a.at b) c us (without_tracks c b a.at t) sorted;
       })

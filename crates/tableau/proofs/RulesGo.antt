@@ -18,13 +18,17 @@ use Rattle.logic_laws.proofs.Options.{both_true, bind_some, cond_has}
 use Rattle.proof_core.specs.Proof.{Step, by_split, by_replace, by_unfold}
 use Rattle.proof_core.specs.Context.{Context, fact, with_fact, named, appended, appended_each, children}
 use Rattle.proof_core.specs.Says.{says}
-use Rattle.proof_core.specs.Steps.{stands_in, body_of, unfolded, replacement, split, after_step}
-use Rattle.proof_core.specs.Ends.{is_negation_of, one_each, cases, after_cases}
-use Rattle.proof_core.specs.Ends as ends
+use Rattle.proof_core.specs.Split.{stands_in, split, split_cases}
+use Rattle.proof_core.specs.Replace.{body_of, unfolded, replacement}
+use Rattle.proof_core.specs.Steps.{after_step}
+use Rattle.proof_core.specs.Close.{is_negation_of}
+use Rattle.proof_core.specs.Close as ends
+use Rattle.proof_core.specs.Ends.{after_cases}
 use Rattle.proof_core.specs.Accepted.{Leads}
 use Rattle.proof_core.specs.Soundness.{IsFormula, IsSorted}
 use Rattle.proof_core.proofs.Appended.{at_fact}
-use Rattle.proof_core.proofs.Rules.{split_is_sound, replace_is_sound, unfold_is_sound, cases_are_sound}
+use Rattle.proof_core.proofs.SplitSound.{split_is_sound, cases_are_sound}
+use Rattle.proof_core.proofs.ReplaceSound.{replace_is_sound, unfold_is_sound}
 use Rattle.proof_core.proofs.Building.{leads_one_more}
 use Rattle.tableau.specs.Branch.{Fact, Branch, Attempt, none, leaves, gives, unless_wide, At, oldest, first_from, numbered, normal_in, without}
 use Rattle.tableau.specs.Change.{Made, begun, appended_one, added, added_each, kept, changed_at, emptied, changed_from, changed_each, with_size}

@@ -6,7 +6,7 @@ use Rattle.logic_core.specs.Wide.{◌>>=◌}
 use Rattle.logic_core.specs.Subterm.{listed}
 use Rattle.logic_core.specs.Junction.{is_truth}
 use Rattle.proof_core.specs.Proof.{by_split}
-use Rattle.proof_core.specs.Ends.{is_negation_of}
+use Rattle.proof_core.specs.Close.{is_negation_of}
 use Rattle.tableau.specs.Branch.{Fact, Branch, normal_in, Attempt, none, gives, unless_wide, At, oldest, without}
 use Rattle.tableau.specs.Change.{begun, appended, added_each}
 use Rattle.tableau.specs.Move.{Move, closes, on_one}

@@ -8,7 +8,8 @@ use Rattle.logic_core.specs.Sorts.{sort_of}
 use Rattle.logic_core.specs.Subterm.{occurs, has_quantifier}
 use Rattle.logic_core.specs.Junction.{is_zero}
 use Rattle.logic_core.specs.Sum.{Linear}
-use Rattle.proof_core.specs.Says.{sum_of, or_else}
+use Rattle.logic_core.specs.Combine.{sum_of}
+use Rattle.proof_core.specs.Says.{or_else}
 
 abbrev pub is_variable : Tree → Bool
 is_variable (free v) = true

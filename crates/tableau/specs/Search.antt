@@ -76,7 +76,8 @@ only (p ∷ ps) = p
 abbrev pub proof_of : Ending → List Proof → Proof
 proof_of goes_on ps = only ps
 proof_of (closes f g) ps = proof [] (by_close f g)
-proof_of (forks f) ps = proof [] (by_cases f (proofs_of ps))
+proof_of (forks f) [] = only []
+proof_of (forks f) (p ∷ ps) = proof [] (by_cases f p (proofs_of ps))
 
 -- the proofs of the branches on the stack before a move, from those of the stack after it
 abbrev pub joined : Played → List Proof → List Proof

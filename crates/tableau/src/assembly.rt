@@ -1,6 +1,7 @@
 // The proof that the moves of a search make.
 ghost use Rattle.std.specs.Prelude.{◌≡◌, List, [], ◌∷◌, IfOk, OnOk, map, drop, length, slice_get};
 ghost use Rattle.tableau.specs.Search.{begin_each, only, proof_of, joined, proofs_before};
+ghost use Rattle.tableau.specs.Move.{forks};
 ghost use Rattle.tableau.specs.View.{each_steps, ending_of, played_of, partial_of, partials_of};
 
 use crate::partial::PartialProof;
@@ -52,6 +53,24 @@ fn finish_each(alloc: Global, begun: Vec<PartialProof>) -> Result<Vec<Proof>, Al
         .collect(alloc)
 }
 
+/// The proof that ends in a split of this fact, with these proofs of its cases, of which there is at
+/// least one.
+fn fork(alloc: Global, f: u64, begun: Vec<PartialProof>) -> Result<PartialProof, AllocError>
+    ensures { IfOk result (λ p. partial_of p ≡ proof_of (forks f) (map partial_of begun.items)) }
+{
+    let mut proofs = finish_each(alloc, begun)?;
+    let mut end = End::Close(0, 0);
+    proofs.reverse();
+    if let Some(first) = proofs.pop() {
+        proofs.reverse();
+        end = End::Cases(f, Box::new(alloc, first)?, proofs);
+    }
+    Ok(PartialProof {
+        steps: Vec::new(alloc),
+        end,
+    })
+}
+
 /// The proof of a branch on which a move was made, from those of the branches that it made.
 fn proof_of(
     alloc: Global,
@@ -66,10 +85,7 @@ fn proof_of(
             steps: Vec::new(alloc),
             end: End::Close(f, g),
         }),
-        Ending::Forks(f) => Ok(PartialProof {
-            steps: Vec::new(alloc),
-            end: End::Cases(f, finish_each(alloc, begun)?),
-        }),
+        Ending::Forks(f) => fork(alloc, f, begun),
     }
 }
 

@@ -1,7 +1,7 @@
 // Facts.
 ghost use Rattle.std.specs.Prelude.{◌≡◌, IfOk};
 ghost use Rattle.logic_core.specs.Junction.{is_truth, negated};
-ghost use Rattle.proof_core.specs.Ends.{is_negation_of};
+ghost use Rattle.proof_core.specs.Close.{is_negation_of};
 ghost use Rattle.tableau.specs.Branch.{is_there};
 
 use logic_core::fault::NormalFault;

@@ -1,10 +1,9 @@
 // The oldest facts at which rules can be applied.
 ghost use Rattle.std.specs.Prelude.{◌≡◌, is_some};
-ghost use Rattle.proof_core.specs.Ends.{cases};
 ghost use Rattle.tableau.specs.Branch.{first_from};
 ghost use Rattle.tableau.specs.Closing.{conjuncts_of, as_all};
 ghost use Rattle.tableau.specs.Rewriting.{first_call};
-ghost use Rattle.tableau.specs.Splitting.{cases_of};
+ghost use Rattle.tableau.specs.Splitting.{cases_of, disjuncts_of};
 ghost use Rattle.tableau.specs.View.{place_of};
 
 use crate::fact::Fact;
@@ -21,12 +20,12 @@ pub fn is_and(term: &Term) -> bool
     }
 }
 
-/// Whether the formula is an Or.
+/// Whether the formula is an Or that has parts.
 pub fn is_or(term: &Term) -> bool
-    ensures { result ≡ is_some (cases term.now) }
+    ensures { result ≡ is_some (disjuncts_of term.now) }
 {
     match &term.node {
-        Node::Or(_) => true,
+        Node::Or(parts) => !parts.is_empty(),
         _ => false,
     }
 }

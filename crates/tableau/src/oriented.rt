@@ -4,7 +4,7 @@ ghost use Rattle.logic_core.specs.Wide.{when};
 ghost use Rattle.std.specs.Option.{option_copied};
 ghost use Rattle.logic_core.specs.Subterm.{has_quantifier, has_any, has_part, is_quantifier};
 ghost use Rattle.logic_core.specs.View.{trees_of, parts_of};
-ghost use Rattle.proof_core.specs.Says.{sum_of};
+ghost use Rattle.logic_core.specs.Combine.{sum_of};
 ghost use Rattle.tableau.specs.Oriented.{is_variable, is_application, is_one, is_minus_one, parts_with, greater_number, solvable_among, simple_lead, linear_left, defines, defined, greater_side, equation_left, left_side};
 
 use logic_core::def::Signature;

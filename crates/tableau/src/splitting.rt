@@ -2,11 +2,10 @@
 ghost use Rattle.std.specs.Prelude.{◌≡◌, List, [], IfOk, Some, unwrap_or, map};
 ghost use Rattle.logic_core.specs.Gives.{GivesAs};
 ghost use Rattle.logic_core.specs.Tree.{Kind};
-ghost use Rattle.proof_core.specs.Ends.{cases};
 ghost use Rattle.tableau.specs.Applied.{applied};
 ghost use Rattle.tableau.specs.Branch.{first_from};
 ghost use Rattle.tableau.specs.Move.{forks};
-ghost use Rattle.tableau.specs.Splitting.{cases_of, case, split_at};
+ghost use Rattle.tableau.specs.Splitting.{cases_of, disjuncts_of, case, split_at};
 ghost use Rattle.tableau.specs.View.{branch_of, made_of, move_of, place_of};
 
 use crate::branch::{Branch, Made};
@@ -19,9 +18,9 @@ use logic_core::term::{Node, Term};
 use std::alloc::{AllocError, Global};
 
 /// The parts of an Or, and none of another formula.
-#[tactic(auto, using(crate::proofs::Listed::listed_trees))]
+#[tactic(auto, using(crate::proofs::Listed::listed_disjuncts))]
 fn disjuncts(term: &Term) -> &[Term]
-    ensures { result.now ≡ unwrap_or (cases term.now) [] }
+    ensures { result.now ≡ unwrap_or (disjuncts_of term.now) [] }
 {
     match &term.node {
         Node::Or(parts) => parts,

@@ -3,13 +3,12 @@ ghost use Rattle.std.specs.Prelude.{◌≡◌, ◌<◌, List, [], ◌∷◌, IfO
 ghost use Rattle.std.specs.Option.{option_copied};
 ghost use Rattle.logic_core.specs.Gives.{GivesAs};
 ghost use Rattle.logic_core.specs.Tree.{Kind};
-ghost use Rattle.proof_core.specs.Steps.{body_of};
 ghost use Rattle.proof_core.specs.View.{step_of};
 ghost use Rattle.tableau.specs.Applied.{applied};
 ghost use Rattle.tableau.specs.Branch.{first_from};
 ghost use Rattle.tableau.specs.Change.{begun, appended_one, changed_at};
 ghost use Rattle.tableau.specs.Move.{on_one};
-ghost use Rattle.tableau.specs.Rewriting.{first_call, unfolded_at};
+ghost use Rattle.tableau.specs.Rewriting.{body_of, first_call, unfolded_at};
 ghost use Rattle.tableau.specs.View.{branch_of, move_of, place_of};
 
 use crate::branch::{Branch, Made};

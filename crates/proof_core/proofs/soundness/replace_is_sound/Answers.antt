@@ -1,4 +1,4 @@
-use Rattle.proof_core.proofs.Rules.{replace_is_sound}
+use Rattle.proof_core.proofs.ReplaceSound.{replace_is_sound}
 use Rattle.proof_core.proofs.soundness.replace_is_sound.Goals as goal
 
 pub returns : goal.returns

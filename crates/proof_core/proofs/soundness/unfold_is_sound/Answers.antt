@@ -1,4 +1,4 @@
-use Rattle.proof_core.proofs.Rules.{unfold_is_sound}
+use Rattle.proof_core.proofs.ReplaceSound.{unfold_is_sound}
 use Rattle.proof_core.proofs.soundness.unfold_is_sound.Goals as goal
 
 pub returns : goal.returns

@@ -6,7 +6,7 @@ use Rattle.std.proofs.lemmas.List.{nil_from_length}
 use Rattle.logic_core.specs.Tree.{Tree, call}
 use Rattle.logic_core.specs.Def.{Def}
 use Rattle.logic_core.specs.View.{trees_of}
-use Rattle.proof_core.specs.Steps.{body_of}
+use Rattle.tableau.specs.Rewriting.{body_of}
 use Rattle.tableau.proofs.unfolding.body_of.Goals as goal
 
 -- a call with arguments has none

@@ -2,8 +2,7 @@ use Rattle.std.proofs.Common.{◌≡◌, ◌∙◌, ap, sym, Some, None, find, a
 use Rattle.std.proofs.lemmas.Option.{same_Some}
 use Rattle.logic_core.specs.Subterm.{outside}
 use Rattle.logic_core.proofs.Refused.{gives_err}
-use Rattle.proof_core.specs.Steps.{body_of}
-use Rattle.tableau.specs.Rewriting.{is_call, first_call}
+use Rattle.tableau.specs.Rewriting.{is_call, body_of, first_call}
 use Rattle.tableau.specs.View.{branch_of, move_of}
 use Rattle.tableau.proofs.Found.{found_place, read_found}
 use Rattle.tableau.proofs.AppliedAt.{unfolds_nothing, unfolds_not, unfolds_to}
