@@ -2,6 +2,8 @@
 ghost use Rattle.std.specs.Prelude.{◌≡◌, ◌+◌, ◌-◌, ◌^◌, ◌<◌, ◌≤◌, IfOk, ⊤};
 ghost use Rattle.std.specs.Arc.{arc_value};
 
+mod trimming;
+mod walk;
 
 use crate::{Board, Claim, Claimed, Snapshot};
 use bv_base::{Answered, Question};
@@ -92,8 +94,23 @@ fn open<R: Abort>(
 {
     let before = board.look();
     assert!(rt; before.version < 1_000_000);
-    let opened = board.open(items.expect(rt, "no memory")).expect(rt, "no memory");
+    let opened = board
+        .open(items.expect(rt, "no memory"))
+        .expect(rt, "no memory");
     (opened.version, opened.done)
+}
+
+/// Takes a claim.
+fn take_any<R: Abort>(rt: &R, board: &mut Board<Settled>) -> Claim<Settled>
+    requires { board.old.next < 2 ^ 64 - 1 }
+    ensures { board.new.next ≤ board.old.next + 1 }
+{
+    match board.claim() {
+        Ok(Claimed::Claim(claim)) => claim,
+        Ok(Claimed::Empty) => panic!(rt; "empty"),
+        Ok(Claimed::Closed) => panic!(rt; "closed"),
+        Err(_) => panic!(rt; "no memory"),
+    }
 }
 
 /// Takes a claim, whose number and key are these.
@@ -101,16 +118,10 @@ fn take<R: Abort>(rt: &R, board: &mut Board<Settled>, number: u64, key: u8) -> C
     requires { board.old.next < 2 ^ 64 - 1 }
     ensures { board.new.next ≤ board.old.next + 1 }
 {
-    match board.claim() {
-        Ok(Claimed::Claim(claim)) => {
-            assert_eq!(rt; claim.number(), number);
-            assert!(rt; claim.question().key() == [key].as_slice());
-            claim
-        }
-        Ok(Claimed::Empty) => panic!(rt; "empty"),
-        Ok(Claimed::Closed) => panic!(rt; "closed"),
-        Err(_) => panic!(rt; "no memory"),
-    }
+    let claim = take_any(rt, board);
+    assert_eq!(rt; claim.number(), number);
+    assert!(rt; claim.question().key() == [key].as_slice());
+    claim
 }
 
 /// There is no claim, since the board is closed or has no goal left.
@@ -167,7 +178,9 @@ fn a_claim_made_before_an_edit_settles_the_goal_that_came_back(rt: HostRuntime) 
     let answers = board.gather().expect(&rt, "no memory");
     assert_eq!(rt; answers.len(), 1);
     for found in &answers {
-        assert!(rt; matches!(found, Some(found) if found.proved && found.question().key() == [1].as_slice()));
+        assert!(rt;
+            matches!(found, Some(found) if found.proved && found.question().key() == [1].as_slice())
+        );
     }
     board.close();
     board.close();
