@@ -1,6 +1,8 @@
 -- What an expression of the code stands for.
 use Rattle.std.specs.Prelude.{Vec, List, [], ◌∷◌, map, Option, Some, None}
 use Rattle.std.specs.declared.alloc.Global.{Global}
+use Rattle.bv_base.specs.declared.place.Place.{Place}
+use Rattle.bpl_ast.specs.Place.{Name, Ty}
 use Rattle.bpl_ast.specs.Tree.{Relation as Comparison, eq, ne, lt, le, gt, ge, Quantifier as Binder, for_all, exists, Expr, Node, number, truth, variable, apply, old, choose, quantified, iffs, implies, ands, ors, related, sums, products, negation, minus, indexed, Exprs, no_exprs, item, Terms, no_terms, plus, less, Indices, no_indices, at_index, update, Triggers, no_triggers, trigger, Groups, no_groups, group, Clause, no_clause, clause}
 use Rattle.bpl_ast.specs.declared.expr.Relation.{Relation}
 use Rattle.bpl_ast.specs.declared.expr.Relation.TheVariants.{Equal, NotEqual, Less as Below, AtMost, Greater, AtLeast}
@@ -48,17 +50,31 @@ abbrev pub indices_of : List Index → Indices
 indices_of [] = no_indices
 indices_of (i ∷ is) = index_of i (indices_of is)
 
+-- what each trigger says
+abbrev pub each_trigger : List Trigger → List (Place × List Expr)
+each_trigger ts = map (λ t. (t.at, t.patterns.items)) ts
+
+abbrev pub triggers_from : List (Place × List Expr) → Triggers
+triggers_from [] = no_triggers
+triggers_from (t ∷ ts) = trigger t.0 (exprs_of t.1) (triggers_from ts)
+
 abbrev pub triggers_of : List Trigger → Triggers
-triggers_of [] = no_triggers
-triggers_of (t ∷ ts) = trigger t.at (exprs_of t.patterns.items) (triggers_of ts)
+triggers_of ts = triggers_from (each_trigger ts)
 
 abbrev pub clause_of : Option Where → Clause
 clause_of None = no_clause
 clause_of (Some w) = clause w.at w.condition
 
+-- what each group says
+abbrev pub each_group : List Group → List (List Name × (Ty × Option Where))
+each_group gs = map (λ g. (g.names.items, (g.of, g.condition))) gs
+
+abbrev pub groups_from : List (List Name × (Ty × Option Where)) → Groups
+groups_from [] = no_groups
+groups_from (g ∷ gs) = group g.0 g.1.0 (clause_of g.1.1) (groups_from gs)
+
 abbrev pub groups_of : List Group → Groups
-groups_of [] = no_groups
-groups_of (g ∷ gs) = group g.names.items g.of (clause_of g.condition) (groups_of gs)
+groups_of gs = groups_from (each_group gs)
 
 abbrev pub node_of : ExprForm → Node
 node_of (Number n) = number n

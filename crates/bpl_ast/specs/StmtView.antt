@@ -1,6 +1,8 @@
 -- What a statement of the code stands for.
-use Rattle.std.specs.Prelude.{Vec, List, [], ◌∷◌, Option, Some, None}
+use Rattle.std.specs.Prelude.{Vec, List, [], ◌∷◌, map, Option, Some, None}
 use Rattle.std.specs.declared.alloc.Global.{Global}
+use Rattle.bv_base.specs.declared.place.Place.{Place}
+use Rattle.bpl_ast.specs.Tree.{Expr}
 use Rattle.bpl_ast.specs.ExprView.{exprs_of}
 use Rattle.bpl_ast.specs.Statement.{Stmt, Action, assert, assume, havoc, assign, call, branches, loop, «break», «return», goto, Branches, branch, otherwise, no_branch, Stmts, no_stmts, next}
 use Rattle.bpl_ast.specs.declared.stmt.Branch.{Branch}
@@ -15,9 +17,16 @@ abbrev pub last_of : Option (Vec Stmt Global) → Branches
 last_of None = no_branch
 last_of (Some ss) = otherwise (stmts_of ss.items)
 
+-- what each branch says
+abbrev pub each_branch : List Branch → List (Place × (Option Expr × List Stmt))
+each_branch bs = map (λ b. (b.at, (b.guard, b.body.items))) bs
+
+abbrev pub branches_from : List (Place × (Option Expr × List Stmt)) → Branches → Branches
+branches_from [] last = last
+branches_from (b ∷ bs) last = branch b.0 b.1.0 (stmts_of b.1.1) (branches_from bs last)
+
 abbrev pub branches_of : List Branch → Branches → Branches
-branches_of [] last = last
-branches_of (b ∷ bs) last = branch b.at b.guard (stmts_of b.body.items) (branches_of bs last)
+branches_of bs last = branches_from (each_branch bs) last
 
 abbrev pub action_of : StmtForm → Action
 action_of (Assert x) = assert x

@@ -11,6 +11,12 @@ pub mod numeral;
 pub mod stmt;
 pub mod types;
 
+// Copies.
+pub mod copy_decls;
+pub mod copy_exprs;
+pub mod copy_names;
+pub mod copy_stmts;
+
 pub use bv_base::place::{Place, Span};
 pub use decl::{Argument, Body, Decl, DeclBody, Program, Signature, Spec, SpecForm};
 pub use expr::{Expr, ExprForm, Group, Index, Quantifier, Relation, Term, Trigger, Where};
