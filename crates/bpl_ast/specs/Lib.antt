@@ -16,3 +16,5 @@ pub mod Glyph
 pub mod Parens
 pub mod Expression
 pub mod Lines
+pub mod Written
+pub mod PrintedPart

@@ -25,10 +25,13 @@ abbrev pub entries : Exprs → List Glyph
 entries no_exprs = []
 entries (item x xs) = index ∷ (expression x ++ closing "]" ∷ entries xs)
 
+abbrev pub more_targets : List Target → List Glyph
+more_targets [] = []
+more_targets (t ∷ ts) = closing "," ∷ plain t.name.text ∷ (entries t.indices ++ more_targets ts)
+
 abbrev pub targets : List Target → List Glyph
 targets [] = []
-targets (t ∷ []) = plain t.name.text ∷ entries t.indices
-targets (t ∷ u ∷ us) = plain t.name.text ∷ (entries t.indices ++ closing "," ∷ targets (u ∷ us))
+targets (t ∷ ts) = plain t.name.text ∷ (entries t.indices ++ more_targets ts)
 
 abbrev pub guard : Guard → List Glyph
 guard None = opening "(" ∷ word "*" ∷ closing ")" ∷ []
@@ -103,10 +106,13 @@ signature ps s = params ps ++ opening "(" ∷ (groups s.ins ++ closing ")" ∷ r
 abbrev pub argument : Argument → List Glyph
 argument a = elim a.name [ Some n ↦ plain n.text ∷ closing ":" ∷ type a.type | None ↦ type a.type ]
 
+abbrev pub more_arguments : List Argument → List Glyph
+more_arguments [] = []
+more_arguments (a ∷ rest) = closing "," ∷ (argument a ++ more_arguments rest)
+
 abbrev pub arguments : List Argument → List Glyph
 arguments [] = []
-arguments (a ∷ []) = argument a
-arguments (a ∷ b ∷ rest) = argument a ++ closing "," ∷ arguments (b ∷ rest)
+arguments (a ∷ rest) = argument a ++ more_arguments rest
 
 abbrev pub value : Option Expr → List Glyph
 value None = semicolon

@@ -1,9 +1,11 @@
 -- A statement inside a statement is smaller.
-use Rattle.std.specs.Prelude.{◌+◌, ◌≤◌, max, List, [], ◌∷◌, Some, None}
+use Rattle.std.specs.Prelude.{◌≡◌, ◌+◌, ◌≤◌, max, List, [], ◌∷◌, Option, Some, None}
 use Rattle.std.proofs.Common.{arith}
-use Rattle.bpl_ast.specs.Statement.{Stmt, Branches}
+use Rattle.bv_base.specs.declared.place.Place.{Place}
+use Rattle.bpl_ast.specs.Tree.{Expr}
+use Rattle.bpl_ast.specs.Statement.{Stmt, Branches, no_branch}
 use Rattle.bpl_ast.specs.Nodes.{stmt_nodes, action_nodes, branches_nodes, stmts_nodes}
-use Rattle.bpl_ast.specs.StmtView.{stmts_of, last_of, branches_of, action_of}
+use Rattle.bpl_ast.specs.StmtView.{stmts_of, last_of, each_branch, branches_from, branches_of, action_of}
 use Rattle.bpl_ast.specs.declared.stmt.Branch.{Branch}
 use Rattle.bpl_ast.specs.declared.stmt.StmtForm.{StmtForm}
 use Rattle.bpl_ast.specs.declared.stmt.StmtForm.TheVariants.{Assert, Assume, Havoc, Assign, Call, If, While, Break, Return, Goto}
@@ -18,7 +20,8 @@ most_branches : (bs : List Branch) (last : Branches) → most deep-Branch bs ≤
 most_branches [] last = omega arith
 most_branches (b ∷ bs) last = omega (arith, most_stmts b.body.items, most_branches bs last)
 
-last_counts : (bs : List Branch) (last : Branches) → branches_nodes last ≤ branches_nodes (branches_of bs last)
+-- the branches and the block of the last `else` are counted apart
+pub last_counts : (bs : List (Place × (Option Expr × List Stmt))) (last : Branches) → branches_nodes (branches_from bs last) ≡ branches_nodes (branches_from bs no_branch) + branches_nodes last
 last_counts [] last = omega arith
 last_counts (b ∷ bs) last = omega (arith, last_counts bs last)
 
@@ -29,7 +32,7 @@ stmt_falls (Havoc ns) = omega arith
 stmt_falls (Assign ts xs) = omega arith
 stmt_falls (Call ns f xs) = omega arith
 stmt_falls (If bs None) = omega (arith, most_branches bs.items (last_of None))
-stmt_falls (If bs (Some ss)) = omega (arith, most_branches bs.items (last_of (Some ss)), last_counts bs.items (last_of (Some ss)), most_stmts ss.items)
+stmt_falls (If bs (Some ss)) = omega (arith, most_branches bs.items (last_of (Some ss)), last_counts (each_branch bs.items) (last_of (Some ss)), most_stmts ss.items)
 stmt_falls (While g is ss) = omega (arith, most_stmts ss.items)
 stmt_falls (Break l) = omega arith
 stmt_falls Return = omega arith

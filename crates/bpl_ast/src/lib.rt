@@ -17,6 +17,13 @@ pub mod copy_exprs;
 pub mod copy_names;
 pub mod copy_stmts;
 
+// The canonical text.
+mod sign;
+mod line;
+mod print_types;
+mod parens;
+mod print_exprs;
+
 pub use bv_base::place::{Place, Span};
 pub use decl::{Argument, Body, Decl, DeclBody, Program, Signature, Spec, SpecForm};
 pub use expr::{Expr, ExprForm, Group, Index, Quantifier, Relation, Term, Trigger, Where};
