@@ -256,10 +256,10 @@ fn print_term(line: &mut Line, next: Option<Sign>, term: &Term) -> Result<(), Al
 /// The parts of a sum behind the first.
 #[cycle(print_expr)]
 #[tactic(auto, using(crate::proofs::WrittenLines::written_append, crate::proofs::PartTokens::first_term))]
-fn print_terms(line: &mut Line, next: Option<Sign>, terms: &[Term]) -> Result<(), AllocError>
-    ensures { OnOk result (line.new ≡ written line.old (terms next (terms_of terms.now))) }
+fn print_terms(line: &mut Line, next: Option<Sign>, list: &[Term]) -> Result<(), AllocError>
+    ensures { OnOk result (line.new ≡ written line.old (terms next (terms_of list.now))) }
 {
-    let mut rest = terms;
+    let mut rest = list;
     while let Some((term, others)) = rest.split_first() {
         print_term(line, sign_behind_term(next, others), term)?;
         rest = others;
@@ -291,10 +291,10 @@ fn print_index(line: &mut Line, index: &Index) -> Result<(), AllocError>
 /// Indices one after another.
 #[cycle(print_expr)]
 #[tactic(auto, using(crate::proofs::WrittenLines::written_append, crate::proofs::PartTokens::first_index))]
-fn print_indices(line: &mut Line, indices: &[Index]) -> Result<(), AllocError>
-    ensures { OnOk result (line.new ≡ written line.old (indices (indices_of indices.now))) }
+fn print_indices(line: &mut Line, list: &[Index]) -> Result<(), AllocError>
+    ensures { OnOk result (line.new ≡ written line.old (indices (indices_of list.now))) }
 {
-    let mut rest = indices;
+    let mut rest = list;
     while let Some((index, tail)) = rest.split_first() {
         print_index(line, index)?;
         rest = tail;

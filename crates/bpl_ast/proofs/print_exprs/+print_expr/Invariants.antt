@@ -32,13 +32,13 @@ abbrev pub decreases-print_term : goal.decreases-print_term
 decreases-print_term l = 8 * terms_nodes (term_of l.term.now no_terms) + 3
 
 abbrev pub decreases-print_terms : goal.decreases-print_terms
-decreases-print_terms l = 8 * terms_nodes (terms_of l.terms.now) + 4
+decreases-print_terms l = 8 * terms_nodes (terms_of l.list.now) + 4
 
 abbrev pub decreases-print_index : goal.decreases-print_index
 decreases-print_index l = 8 * indices_nodes (index_of l.index.now no_indices) + 3
 
 abbrev pub decreases-print_indices : goal.decreases-print_indices
-decreases-print_indices l = 8 * indices_nodes (indices_of l.indices.now) + 4
+decreases-print_indices l = 8 * indices_nodes (indices_of l.list.now) + 4
 
 abbrev pub decreases-print_triggers : goal.decreases-print_triggers
 decreases-print_triggers l = 8 * triggers_nodes (triggers_of l.list.now) + 5
@@ -57,54 +57,54 @@ decreases-print_more_groups l = 8 * groups_nodes (groups_of l.others.now) + 5
 
 abbrev pub invariant-print_more_run-loop-x : goal.invariant-print_more_run-loop-x
 invariant-print_more_run-loop-x l = record {
-  same : written l.line (more_run l.at l.inner (plain l.sign) l.next (exprs_of l.rest.now)) ≡ written l.fn.line (more_run l.at l.inner (plain l.sign) l.next (exprs_of l.xs));
-  less : exprs_nodes (exprs_of l.rest.now) ≤ exprs_nodes (exprs_of l.xs);
+  same : written l.line (more_run l.at l.inner (plain l.sign) l.next (exprs_of l.rest)) ≡ written l.fn.line (more_run l.at l.inner (plain l.sign) l.next (exprs_of l.xs));
+  less : exprs_nodes (exprs_of l.rest) ≤ exprs_nodes (exprs_of l.xs);
 }
 
 abbrev pub decreases-print_more_run-loop-x : goal.decreases-print_more_run-loop-x
-decreases-print_more_run-loop-x l = length l.rest.now
+decreases-print_more_run-loop-x l = length l.rest
 
 abbrev pub invariant-print_more_listed-loop-x : goal.invariant-print_more_listed-loop-x
 invariant-print_more_listed-loop-x l = record {
-  same : written l.line (more_listed (exprs_of l.rest.now)) ≡ written l.fn.line (more_listed (exprs_of l.others));
-  less : exprs_nodes (exprs_of l.rest.now) ≤ exprs_nodes (exprs_of l.others);
+  same : written l.line (more_listed (exprs_of l.rest)) ≡ written l.fn.line (more_listed (exprs_of l.others));
+  less : exprs_nodes (exprs_of l.rest) ≤ exprs_nodes (exprs_of l.others);
 }
 
 abbrev pub invariant-print_terms-loop-term : goal.invariant-print_terms-loop-term
 invariant-print_terms-loop-term l = record {
-  same : written l.line (terms l.next (terms_of l.rest.now)) ≡ written l.fn.line (terms l.next (terms_of l.terms));
-  less : terms_nodes (terms_of l.rest.now) ≤ terms_nodes (terms_of l.terms);
+  same : written l.line (terms l.next (terms_of l.rest)) ≡ written l.fn.line (terms l.next (terms_of l.list));
+  less : terms_nodes (terms_of l.rest) ≤ terms_nodes (terms_of l.list);
 }
 
 abbrev pub decreases-print_terms-loop-term : goal.decreases-print_terms-loop-term
-decreases-print_terms-loop-term l = length l.rest.now
+decreases-print_terms-loop-term l = length l.rest
 
 abbrev pub invariant-print_indices-loop-index : goal.invariant-print_indices-loop-index
 invariant-print_indices-loop-index l = record {
-  same : written l.line (indices (indices_of l.rest.now)) ≡ written l.fn.line (indices (indices_of l.indices));
-  less : indices_nodes (indices_of l.rest.now) ≤ indices_nodes (indices_of l.indices);
+  same : written l.line (indices (indices_of l.rest)) ≡ written l.fn.line (indices (indices_of l.list));
+  less : indices_nodes (indices_of l.rest) ≤ indices_nodes (indices_of l.list);
 }
 
 abbrev pub invariant-print_triggers-loop-trigger : goal.invariant-print_triggers-loop-trigger
 invariant-print_triggers-loop-trigger l = record {
-  same : written l.line (triggers (triggers_of l.rest.now)) ≡ written l.fn.line (triggers (triggers_of l.list));
-  less : triggers_nodes (triggers_of l.rest.now) ≤ triggers_nodes (triggers_of l.list);
+  same : written l.line (triggers (triggers_of l.rest)) ≡ written l.fn.line (triggers (triggers_of l.list));
+  less : triggers_nodes (triggers_of l.rest) ≤ triggers_nodes (triggers_of l.list);
 }
 
 abbrev pub invariant-print_more_groups-loop-group : goal.invariant-print_more_groups-loop-group
 invariant-print_more_groups-loop-group l = record {
-  same : written l.line (more_groups (groups_of l.rest.now)) ≡ written l.fn.line (more_groups (groups_of l.others));
-  less : groups_nodes (groups_of l.rest.now) ≤ groups_nodes (groups_of l.others);
+  same : written l.line (more_groups (groups_of l.rest)) ≡ written l.fn.line (more_groups (groups_of l.others));
+  less : groups_nodes (groups_of l.rest) ≤ groups_nodes (groups_of l.others);
 }
 
 abbrev pub decreases-print_more_listed-loop-x : goal.decreases-print_more_listed-loop-x
-decreases-print_more_listed-loop-x l = length l.rest.now
+decreases-print_more_listed-loop-x l = length l.rest
 
 abbrev pub decreases-print_indices-loop-index : goal.decreases-print_indices-loop-index
-decreases-print_indices-loop-index l = length l.rest.now
+decreases-print_indices-loop-index l = length l.rest
 
 abbrev pub decreases-print_triggers-loop-trigger : goal.decreases-print_triggers-loop-trigger
-decreases-print_triggers-loop-trigger l = length l.rest.now
+decreases-print_triggers-loop-trigger l = length l.rest
 
 abbrev pub decreases-print_more_groups-loop-group : goal.decreases-print_more_groups-loop-group
-decreases-print_more_groups-loop-group l = length l.rest.now
+decreases-print_more_groups-loop-group l = length l.rest

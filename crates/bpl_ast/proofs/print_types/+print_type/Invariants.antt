@@ -16,9 +16,9 @@ decreases-print_more_types l = 4 * tys_nodes (tys_of l.others.now) + 1
 
 abbrev pub invariant-print_more_types-loop-of : goal.invariant-print_more_types-loop-of
 invariant-print_more_types-loop-of l = record {
-  same : written l.line (more_types (tys_of l.rest.now)) ≡ written l.fn.line (more_types (tys_of l.others));
-  less : tys_nodes (tys_of l.rest.now) ≤ tys_nodes (tys_of l.others);
+  same : written l.line (more_types (tys_of l.rest)) ≡ written l.fn.line (more_types (tys_of l.others));
+  less : tys_nodes (tys_of l.rest) ≤ tys_nodes (tys_of l.others);
 }
 
 abbrev pub decreases-print_more_types-loop-of : goal.decreases-print_more_types-loop-of
-decreases-print_more_types-loop-of l = length l.rest.now
+decreases-print_more_types-loop-of l = length l.rest
