@@ -1,11 +1,11 @@
 -- Rewrite, unfold and split are rules of proofs.
-use Rattle.std.specs.Prelude.{◌≡◌, refl, ℕ, suc, ◌+◌, nat_eq, nat_le, Bool, true, false, ◌&&◌, ◌||◌, not, cond, Option, Some, None, is_some, IsTrue, List, [], ◌∷◌, ◌++◌, length, find, All, map, if◌then◌else◌}
+use Rattle.std.specs.Prelude.{◌≡◌, refl, ℕ, suc, ◌+◌, nat_eq, nat_le, Bool, true, false, ◌&&◌, ◌||◌, not, cond, Option, Some, None, is_some, IsTrue, List, [], ◌∷◌, ◌++◌, length, find, slice_get, All, map, if◌then◌else◌}
 use Rattle.std.specs.List.{list_any}
 use Rattle.std.proofs.Common.{sym, ◌∙◌, ap, subst, arith, inl, inr, ◌⊎◌}
 use Rattle.std.proofs.lemmas.List.{length-append, length_push}
 use Rattle.std.proofs.lemmas.List.Elements.{All-nil, All-cons, All-head, All-tail, All-append, All-push}
 use Rattle.std.proofs.lemmas.Bool.{eqb-true, eq-eqb}
-use Rattle.logic_core.specs.Tree.{Kind, boolean, Tree, all, some, call, no_trees, Trees}
+use Rattle.logic_core.specs.Tree.{Kind, boolean, Tree, all, some, call, no_trees, tree, Trees}
 use Rattle.logic_core.specs.Def.{Def}
 use Rattle.logic_core.specs.Normal.{normal}
 use Rattle.logic_core.specs.Same.{same_term, is_some_and}
