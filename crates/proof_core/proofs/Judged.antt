@@ -10,7 +10,7 @@ use Rattle.proof_core.specs.Close.{closes}
 use Rattle.proof_core.specs.Steps.{after_step}
 use Rattle.proof_core.specs.Ends.{after_cases, after_condition, after_past, after_trichotomy}
 use Rattle.proof_core.specs.Accepted.{Leads, Refutes, Ends, RefuteEach, IsAccepted}
-use Rattle.proof_core.specs.Verdict.{Refused, refused, and_then, or_refused, for_each, number_of, after_steps, judged, judged_end, judged_each, verdict, RefusesTheOthers}
+use Rattle.proof_core.specs.Verdict.{Refused, refused, next, and_then, or_refused, for_each, number_of, after_steps, judged, judged_end, judged_each, verdict, RefusesTheOthers}
 
 -- what was Ok, and what then was
 was_ok : {A B : Type 0} (r : Result A Refused) (f : A → Result B Refused) (b : B) → and_then r f ≡ Ok b → (a : A) × (r ≡ Ok a) × (f a ≡ Ok b)
@@ -36,8 +36,8 @@ were_cases ps (Some es) ds h = ap Some (were_counted _ es ds h)
 module _ (defs : List Def) where
   leads : (n : ℕ) (c : Context) (ss : List Step) (p : ℕ × Context) → after_steps defs n c ss ≡ Ok p → Leads defs c ss p.1
   leads n c [] p h = let e : ◌≡◌ {A = ℕ × Context} (n, c) p = cc in ap (λ q. q.1) e
-  leads n c (s ∷ ss) p h = let w = was_ok (or_refused (after_step defs c s) n (step_rule s)) (λ d. after_steps defs (n + 1) d ss) p h in
-      (w.0, was_some (after_step defs c s) n (step_rule s) w.0 w.1, leads (n + 1) w.0 ss p w.2)
+  leads n c (s ∷ ss) p h = let w = was_ok (or_refused (after_step defs c s) n (step_rule s)) (λ d. after_steps defs (next n) d ss) p h in
+      (w.0, was_some (after_step defs c s) n (step_rule s) w.0 w.1, leads (next n) w.0 ss p w.2)
 
   mutual
     refutes : (n : ℕ) (c : Context) (p : Proof) (m : ℕ) → judged defs n c p ≡ Ok m → Refutes defs c p
@@ -45,25 +45,25 @@ module _ (defs : List Def) where
         ((w.0).1, leads n c ss w.0 w.1, ends (w.0).0 (w.0).1 e m w.2)
 
     ends : (n : ℕ) (c : Context) (e : End) (m : ℕ) → judged_end defs n c e ≡ Ok m → Ends defs c e
-    ends n c (by_close f g) m h = was_true (closes c f g) (n + 1) m n close h
+    ends n c (by_close f g) m h = was_true (closes c f g) (next n) m n close h
     ends n c (by_cases f p ps) m h =
-        let w = was_ok (or_refused (for_each ps (after_cases defs c f)) n split) (λ ds. and_then (judged defs (n + 1) ds.0 p) (λ k. judged_each defs k ds.1 ps)) m h in
-        let v = was_ok (judged defs (n + 1) (w.0).0 p) (λ k. judged_each defs k (w.0).1 ps) m w.2 in
-        ((w.0).0, (w.0).1, were_cases ps (after_cases defs c f) w.0 (was_some (for_each ps (after_cases defs c f)) n split w.0 w.1), refutes (n + 1) (w.0).0 p v.0 v.1, refutes_each v.0 (w.0).1 ps m v.2)
+        let w = was_ok (or_refused (for_each ps (after_cases defs c f)) n split) (λ ds. and_then (judged defs (next n) ds.0 p) (λ k. judged_each defs k ds.1 ps)) m h in
+        let v = was_ok (judged defs (next n) (w.0).0 p) (λ k. judged_each defs k (w.0).1 ps) m w.2 in
+        ((w.0).0, (w.0).1, were_cases ps (after_cases defs c f) w.0 (was_some (for_each ps (after_cases defs c f)) n split w.0 w.1), refutes (next n) (w.0).0 p v.0 v.1, refutes_each v.0 (w.0).1 ps m v.2)
     ends n c (by_condition f t p q) m h =
-        let w = was_ok (or_refused (after_condition defs c f t) n split) (λ ds. and_then (judged defs (n + 1) ds.0 p) (λ k. judged defs k ds.1 q)) m h in
-        let v = was_ok (judged defs (n + 1) (w.0).0 p) (λ k. judged defs k (w.0).1 q) m w.2 in
-        ((w.0).0, (w.0).1, was_some (after_condition defs c f t) n split w.0 w.1, refutes (n + 1) (w.0).0 p v.0 v.1, refutes v.0 (w.0).1 q m v.2)
+        let w = was_ok (or_refused (after_condition defs c f t) n split) (λ ds. and_then (judged defs (next n) ds.0 p) (λ k. judged defs k ds.1 q)) m h in
+        let v = was_ok (judged defs (next n) (w.0).0 p) (λ k. judged defs k (w.0).1 q) m w.2 in
+        ((w.0).0, (w.0).1, was_some (after_condition defs c f t) n split w.0 w.1, refutes (next n) (w.0).0 p v.0 v.1, refutes v.0 (w.0).1 q m v.2)
     ends n c (by_past t p q r) m h =
-        let w = was_ok (or_refused (after_past defs c t) n past) (λ ds. and_then (judged defs (n + 1) ds.0 p) (λ k. and_then (judged defs k ds.1 q) (λ l. judged defs l ds.2 r))) m h in
-        let v = was_ok (judged defs (n + 1) (w.0).0 p) (λ k. and_then (judged defs k (w.0).1 q) (λ l. judged defs l (w.0).2 r)) m w.2 in
+        let w = was_ok (or_refused (after_past defs c t) n past) (λ ds. and_then (judged defs (next n) ds.0 p) (λ k. and_then (judged defs k ds.1 q) (λ l. judged defs l ds.2 r))) m h in
+        let v = was_ok (judged defs (next n) (w.0).0 p) (λ k. and_then (judged defs k (w.0).1 q) (λ l. judged defs l (w.0).2 r)) m w.2 in
         let u = was_ok (judged defs v.0 (w.0).1 q) (λ l. judged defs l (w.0).2 r) m v.2 in
-        ((w.0).0, (w.0).1, (w.0).2, was_some (after_past defs c t) n past w.0 w.1, refutes (n + 1) (w.0).0 p v.0 v.1, refutes v.0 (w.0).1 q u.0 u.1, refutes u.0 (w.0).2 r m u.2)
+        ((w.0).0, (w.0).1, (w.0).2, was_some (after_past defs c t) n past w.0 w.1, refutes (next n) (w.0).0 p v.0 v.1, refutes v.0 (w.0).1 q u.0 u.1, refutes u.0 (w.0).2 r m u.2)
     ends n c (by_trichotomy t p q r) m h =
-        let w = was_ok (or_refused (after_trichotomy defs c t) n trichotomy) (λ ds. and_then (judged defs (n + 1) ds.0 p) (λ k. and_then (judged defs k ds.1 q) (λ l. judged defs l ds.2 r))) m h in
-        let v = was_ok (judged defs (n + 1) (w.0).0 p) (λ k. and_then (judged defs k (w.0).1 q) (λ l. judged defs l (w.0).2 r)) m w.2 in
+        let w = was_ok (or_refused (after_trichotomy defs c t) n trichotomy) (λ ds. and_then (judged defs (next n) ds.0 p) (λ k. and_then (judged defs k ds.1 q) (λ l. judged defs l ds.2 r))) m h in
+        let v = was_ok (judged defs (next n) (w.0).0 p) (λ k. and_then (judged defs k (w.0).1 q) (λ l. judged defs l (w.0).2 r)) m w.2 in
         let u = was_ok (judged defs v.0 (w.0).1 q) (λ l. judged defs l (w.0).2 r) m v.2 in
-        ((w.0).0, (w.0).1, (w.0).2, was_some (after_trichotomy defs c t) n trichotomy w.0 w.1, refutes (n + 1) (w.0).0 p v.0 v.1, refutes v.0 (w.0).1 q u.0 u.1, refutes u.0 (w.0).2 r m u.2)
+        ((w.0).0, (w.0).1, (w.0).2, was_some (after_trichotomy defs c t) n trichotomy w.0 w.1, refutes (next n) (w.0).0 p v.0 v.1, refutes v.0 (w.0).1 q u.0 u.1, refutes u.0 (w.0).2 r m u.2)
 
     refutes_each : (n : ℕ) (ds : List Context) (ps : Proofs) (m : ℕ) → judged_each defs n ds ps ≡ Ok m → RefuteEach defs ds ps
     refutes_each n [] no_proofs m h = tt
@@ -89,8 +89,8 @@ is_counted ps ds h = ap (λ b. when b (Some ds)) (same_number (length ds.1) (num
 module _ (defs : List Def) where
   reaches : (n : ℕ) (c : Context) (ss : List Step) (d : Context) → Leads defs c ss d → (m : ℕ) × (after_steps defs n c ss ≡ Ok (m, d))
   reaches n c [] d h = (n, ap (λ x. Ok (n, x)) h)
-  reaches n c (s ∷ ss) d h = let r = reaches (n + 1) h.0 ss d h.2 in
-      (r.0, is_ok (or_refused (after_step defs c s) n (step_rule s)) (λ x. after_steps defs (n + 1) x ss) h.0 (r.0, d) (is_given (after_step defs c s) n (step_rule s) h.0 h.1) r.1)
+  reaches n c (s ∷ ss) d h = let r = reaches (next n) h.0 ss d h.2 in
+      (r.0, is_ok (or_refused (after_step defs c s) n (step_rule s)) (λ x. after_steps defs (next n) x ss) h.0 (r.0, d) (is_given (after_step defs c s) n (step_rule s) h.0 h.1) r.1)
 
   counted : (ds : List Context) (ps : Proofs) → RefuteEach defs ds ps → length ds ≡ number_of ps
   counted [] no_proofs h = refl
@@ -111,32 +111,32 @@ module _ (defs : List Def) where
         (k.0, is_ok (after_steps defs n c ss) (λ p. judged_end defs p.0 p.1 e) (r.0, h.0) k.0 r.1 k.1)
 
     judges_end : (n : ℕ) (c : Context) (e : End) → Ends defs c e → (m : ℕ) × (judged_end defs n c e ≡ Ok m)
-    judges_end n c (by_close f g) h = (n + 1, ap (λ b. if b then Ok (n + 1) else refused n close) h)
+    judges_end n c (by_close f g) h = (next n, ap (λ b. if b then Ok (next n) else refused n close) h)
     judges_end n c (by_cases f p ps) h =
-        let k = judges (n + 1) h.0 p h.3 in
+        let k = judges (next n) h.0 p h.3 in
         let r = judges_each k.0 h.1 ps h.4 in (
           r.0,
-          is_ok (or_refused (for_each ps (after_cases defs c f)) n split) (λ ds. and_then (judged defs (n + 1) ds.0 p) (λ m. judged_each defs m ds.1 ps)) (h.0, h.1) r.0
+          is_ok (or_refused (for_each ps (after_cases defs c f)) n split) (λ ds. and_then (judged defs (next n) ds.0 p) (λ m. judged_each defs m ds.1 ps)) (h.0, h.1) r.0
               (is_given (for_each ps (after_cases defs c f)) n split (h.0, h.1) (ap (for_each ps) h.2 ∙ is_counted ps (h.0, h.1) (counted h.1 ps h.4)))
-              (is_ok (judged defs (n + 1) h.0 p) (λ m. judged_each defs m h.1 ps) k.0 r.0 k.1 r.1),
+              (is_ok (judged defs (next n) h.0 p) (λ m. judged_each defs m h.1 ps) k.0 r.0 k.1 r.1),
         )
     judges_end n c (by_condition f t p q) h =
-        let k = judges (n + 1) h.0 p h.3 in
+        let k = judges (next n) h.0 p h.3 in
         let r = judges k.0 h.1 q h.4 in (
           r.0,
-          is_ok (or_refused (after_condition defs c f t) n split) (λ ds. and_then (judged defs (n + 1) ds.0 p) (λ m. judged defs m ds.1 q)) (h.0, h.1) r.0
-              (is_given (after_condition defs c f t) n split (h.0, h.1) h.2) (is_ok (judged defs (n + 1) h.0 p) (λ m. judged defs m h.1 q) k.0 r.0 k.1 r.1),
+          is_ok (or_refused (after_condition defs c f t) n split) (λ ds. and_then (judged defs (next n) ds.0 p) (λ m. judged defs m ds.1 q)) (h.0, h.1) r.0
+              (is_given (after_condition defs c f t) n split (h.0, h.1) h.2) (is_ok (judged defs (next n) h.0 p) (λ m. judged defs m h.1 q) k.0 r.0 k.1 r.1),
         )
     judges_end n c (by_past t p q r) h =
-        let k = judges (n + 1) h.0 p h.4 in
+        let k = judges (next n) h.0 p h.4 in
         let l = judges k.0 h.1 q h.5 in
         let m = judges l.0 h.2 r h.6 in
-        (m.0, is_ok (or_refused (after_past defs c t) n past) (λ ds. Three p q r (n + 1) ds) (h.0, h.1, h.2) m.0 (is_given (after_past defs c t) n past (h.0, h.1, h.2) h.3) (three p q r (n + 1) (h.0, h.1, h.2) k.0 l.0 m.0 k.1 l.1 m.1))
+        (m.0, is_ok (or_refused (after_past defs c t) n past) (λ ds. Three p q r (next n) ds) (h.0, h.1, h.2) m.0 (is_given (after_past defs c t) n past (h.0, h.1, h.2) h.3) (three p q r (next n) (h.0, h.1, h.2) k.0 l.0 m.0 k.1 l.1 m.1))
     judges_end n c (by_trichotomy t p q r) h =
-        let k = judges (n + 1) h.0 p h.4 in
+        let k = judges (next n) h.0 p h.4 in
         let l = judges k.0 h.1 q h.5 in
         let m = judges l.0 h.2 r h.6 in
-        (m.0, is_ok (or_refused (after_trichotomy defs c t) n trichotomy) (λ ds. Three p q r (n + 1) ds) (h.0, h.1, h.2) m.0 (is_given (after_trichotomy defs c t) n trichotomy (h.0, h.1, h.2) h.3) (three p q r (n + 1) (h.0, h.1, h.2) k.0 l.0 m.0 k.1 l.1 m.1))
+        (m.0, is_ok (or_refused (after_trichotomy defs c t) n trichotomy) (λ ds. Three p q r (next n) ds) (h.0, h.1, h.2) m.0 (is_given (after_trichotomy defs c t) n trichotomy (h.0, h.1, h.2) h.3) (three p q r (next n) (h.0, h.1, h.2) k.0 l.0 m.0 k.1 l.1 m.1))
 
     judges_each : (n : ℕ) (ds : List Context) (ps : Proofs) → RefuteEach defs ds ps → (m : ℕ) × (judged_each defs n ds ps ≡ Ok m)
     judges_each n [] no_proofs h = (n, refl)

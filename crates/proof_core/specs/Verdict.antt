@@ -11,13 +11,16 @@ use Rattle.proof_core.specs.Steps.{after_step}
 use Rattle.proof_core.specs.Ends.{after_cases, after_condition, after_past, after_trichotomy}
 use Rattle.proof_core.specs.Accepted.{IsAccepted}
 
--- its number stays at 2^64 - 1 for nodes beyond
 pub record Refused : Type 0 where
   pub node : ℕ
   pub rule : Rule
 
 abbrev pub refused : {A : Type 0} → ℕ → Rule → Result A Refused
-refused n r = Err (record { node = capped n; rule = r })
+refused n r = Err (record { node = n; rule = r })
+
+-- the number of the next node; it stays at 2^64 - 1 for nodes beyond
+abbrev pub next : ℕ → ℕ
+next n = capped (n + 1)
 
 abbrev pub and_then : {A B : Type 0} → Result A Refused → (A → Result B Refused) → Result B Refused
 and_then (Ok a) f = f a
@@ -40,7 +43,7 @@ module _ (defs : List Def) where
   -- from node n on: the number of the node after the steps, and the context there
   abbrev pub after_steps : ℕ → Context → List Step → Result (ℕ × Context) Refused
   after_steps n c [] = Ok (n, c)
-  after_steps n c (s ∷ ss) = and_then (or_refused (after_step defs c s) n (step_rule s)) (λ d. after_steps (n + 1) d ss)
+  after_steps n c (s ∷ ss) = and_then (or_refused (after_step defs c s) n (step_rule s)) (λ d. after_steps (next n) d ss)
 
   -- from node n on: the number of the node after the proof, where the conditions of all its nodes are met
   abbrev mutual
@@ -48,11 +51,11 @@ module _ (defs : List Def) where
     judged n c (proof ss e) = and_then (after_steps n c ss) (λ p. judged_end p.0 p.1 e)
 
     pub judged_end : ℕ → Context → End → Result ℕ Refused
-    judged_end n c (by_close f g) = if closes c f g then Ok (n + 1) else refused n close
-    judged_end n c (by_cases f p ps) = and_then (or_refused (for_each ps (after_cases defs c f)) n split) (λ ds. and_then (judged (n + 1) ds.0 p) (λ m. judged_each m ds.1 ps))
-    judged_end n c (by_condition f t p q) = and_then (or_refused (after_condition defs c f t) n split) (λ ds. and_then (judged (n + 1) ds.0 p) (λ m. judged m ds.1 q))
-    judged_end n c (by_past t p q r) = and_then (or_refused (after_past defs c t) n past) (λ ds. and_then (judged (n + 1) ds.0 p) (λ m. and_then (judged m ds.1 q) (λ k. judged k ds.2 r)))
-    judged_end n c (by_trichotomy d p q r) = and_then (or_refused (after_trichotomy defs c d) n trichotomy) (λ ds. and_then (judged (n + 1) ds.0 p) (λ m. and_then (judged m ds.1 q) (λ k. judged k ds.2 r)))
+    judged_end n c (by_close f g) = if closes c f g then Ok (next n) else refused n close
+    judged_end n c (by_cases f p ps) = and_then (or_refused (for_each ps (after_cases defs c f)) n split) (λ ds. and_then (judged (next n) ds.0 p) (λ m. judged_each m ds.1 ps))
+    judged_end n c (by_condition f t p q) = and_then (or_refused (after_condition defs c f t) n split) (λ ds. and_then (judged (next n) ds.0 p) (λ m. judged m ds.1 q))
+    judged_end n c (by_past t p q r) = and_then (or_refused (after_past defs c t) n past) (λ ds. and_then (judged (next n) ds.0 p) (λ m. and_then (judged m ds.1 q) (λ k. judged k ds.2 r)))
+    judged_end n c (by_trichotomy d p q r) = and_then (or_refused (after_trichotomy defs c d) n trichotomy) (λ ds. and_then (judged (next n) ds.0 p) (λ m. and_then (judged m ds.1 q) (λ k. judged k ds.2 r)))
 
     -- there are as many contexts as proofs
     pub judged_each : ℕ → List Context → Proofs → Result ℕ Refused

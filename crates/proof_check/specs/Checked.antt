@@ -1,0 +1,27 @@
+-- What the checker's code says of the verdict on a proof.
+use Rattle.std.specs.Prelude.{◌≡◌, ⊤, ℕ, Result, Ok, Err, IsOk}
+use Rattle.proof_core.specs.declared.rule.Rule.{Rule}
+use Rattle.proof_core.specs.RuleView.{rule_of}
+use Rattle.proof_core.specs.Verdict.{Refused}
+use Rattle.proof_check.specs.declared.fault.Refusal.{Refusal}
+use Rattle.proof_check.specs.declared.fault.Refusal.TheVariants as refusal
+use Rattle.proof_check.specs.declared.fault.CheckFault.{CheckFault}
+use Rattle.proof_check.specs.declared.fault.CheckFault.TheVariants.{Memory, Rejected}
+
+-- what a rule's code gives at node n, or that this node is refused
+abbrev pub placed : {A : Type 0} → Result A Refusal → ℕ → Rule → Result A CheckFault
+placed (Ok a) n r = Ok a
+placed (Err refusal.Memory) n r = Err Memory
+placed (Err refusal.Unmet) n r = Err (Rejected n r)
+
+-- what is seen of an Ok is the verdict's, and Rejected has the verdict's refused node. So only want of memory stands in place of either
+abbrev pub JudgesAs : {A B : Type 0} → (A → B) → Result A CheckFault → Result B Refused → Type 0
+JudgesAs seen (Ok a) v = v ≡ Ok (seen a)
+JudgesAs seen (Err Memory) v = ⊤
+JudgesAs seen (Err (Rejected n r)) v = v ≡ Err (record { node = n; rule = rule_of r })
+
+-- the same where an Ok has nothing to see
+abbrev pub Judges : {A B : Type 0} → Result A CheckFault → Result B Refused → Type 0
+Judges (Ok a) v = IsOk v
+Judges (Err Memory) v = ⊤
+Judges (Err (Rejected n r)) v = v ≡ Err (record { node = n; rule = rule_of r })
