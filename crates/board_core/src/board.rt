@@ -1,0 +1,234 @@
+//! The board: each call is one step of the machine in specs/, in state and reply.
+ghost use Rattle.std.specs.Prelude.{◌≡◌, ℕ, ◌^◌, ◌<◌, IfOk, OnErr, IfSome, Contains, List, map, find, count_by, not, bytes_eq};
+ghost use Rattle.std.specs.Arc.{arc_value};
+ghost use Rattle.std.specs.Option.{option_map};
+ghost use Rattle.proof_cache.specs.Kept.{has_place, is_among, kept_keys};
+ghost use Rattle.board_core.specs.Board.{first, open_keys, claim, deposit, give_back, look, gather, close, deposited, given_back, gathered, closed_now};
+ghost use Rattle.board_core.specs.Step.{Steps, MayStand};
+ghost use Rattle.board_core.specs.Sound.{IsSound};
+ghost use Rattle.board_core.specs.Laws.{ShowsRight};
+ghost use Rattle.board_core.specs.Handed.{ticket, open_answer, claim_answer, look_answer};
+
+use crate::claim::{Claim, Claimed, Opened, Snapshot};
+use bv_base::{Answered, Question};
+use proof_cache::Cache;
+use std::alloc::{AllocError, Global};
+use std::marker::Model;
+use std::sync::Arc;
+
+// A claim that is out.
+#[derive(Drop)]
+struct Out<A: Answered>
+where
+    A::Q: Drop,
+{
+    number: u64,
+    question: Arc<A::Q, Global>,
+}
+
+/// The present goals' questions, the kept answers, and the claims that are out.
+#[derive(Drop)]
+pub struct Board<A: Answered>
+where
+    A::Q: Drop,
+{
+    alloc: Global,
+    present: Vec<Arc<A::Q, Global>>,
+    cache: Cache<A>,
+    out: Vec<Out<A>>,
+    next: u64,
+    version: u64,
+    closed: bool,
+}
+
+impl<A: Answered> Model for Board<A>
+where
+    A::Q: Drop,
+{
+    ghost use Rattle.board_core.specs.Board.{State};
+
+    ghost Value = { State A };
+
+    ghost use Rattle.board_core.specs.Inside.{state_of, IsKeptSound};
+
+    ghost view = { λ b. state_of A.Q.key b };
+
+    ghost invariant = { λ b. IsKeptSound A.Q.key (λ a. A.Q.key (A.asked a)) A.right b };
+}
+
+// The first question whose key has no place.
+fn first_without_place<'q, A: Answered + Drop>(
+    questions: &'q [Arc<A::Q, Global>],
+    cache: &Cache<A>,
+) -> Option<&'q Arc<A::Q, Global>>
+    ensures { option_map (λ q. A.Q.key (arc_value q.now)) result ≡ find (λ k. not (has_place cache.now k)) (map (λ q. A.Q.key (arc_value q)) questions.now) }
+{
+    for question in questions {
+        if !cache.has_place(question.key()) {
+            return Some(question);
+        }
+    }
+    None
+}
+
+// How many of the questions have a kept answer.
+fn count_done<A: Answered + Drop>(questions: &[Arc<A::Q, Global>], cache: &Cache<A>) -> u64
+    ensures { result ≡ count_by (is_among (kept_keys cache.now.kept)) (map (λ q. A.Q.key (arc_value q)) questions.now) }
+{
+    let mut done = 0;
+    for question in questions {
+        if cache.find(question.key()).is_some() {
+            done += 1;
+        }
+    }
+    done
+}
+
+// How many of the questions have the key.
+fn count_with_key<Q: Question>(questions: &[Arc<Q, Global>], key: &[u8]) -> u64
+    ensures { result ≡ count_by (bytes_eq key.now) (map (λ q. Q.key (arc_value q)) questions.now) }
+{
+    let mut count = 0;
+    for question in questions {
+        if key == question.key() {
+            count += 1;
+        }
+    }
+    count
+}
+
+impl<A: Answered + Drop> Board<A>
+where
+    A::Q: Drop,
+{
+    /// A board without goals, answers and claims. It keeps the allocator.
+    pub fn new(alloc: Global) -> Board<A>
+        ensures { result ≡ first A }
+    {
+        Board {
+            alloc,
+            present: Vec::new(alloc),
+            cache: Cache::new(alloc),
+            out: Vec::new(alloc),
+            next: 0,
+            version: 0,
+            closed: false,
+        }
+    }
+
+    /// What is known of every board: no key is out twice, none is both out and kept, the claims'
+    /// numbers are distinct and below the next, and each kept answer is a right one of its key.
+    pub fn is_sound(&self)
+        ensures { IsSound A (λ a. A.Q.key (A.asked a)) A.right self.now }
+    {
+        let _closed = &self.closed;
+    }
+
+    /// Replaces the present goals, drops the answers of absent keys where these keys together have
+    /// more than 67,108,864 bytes, and raises the version by one. Claims that are out stay out.
+    /// Without memory the board is as before.
+    pub fn open(&mut self, items: Vec<Arc<A::Q, Global>>) -> Result<Opened, AllocError>
+        requires { self.old.version < 2 ^ 64 - 1 }
+        ensures step { IfOk result (λ r. Steps self.old (open_keys (map (λ q. A.Q.key (arc_value q)) items.items)) self.new (open_answer r)) }
+        ensures memory { OnErr result (self.new ≡ self.old) }
+    {
+        self.cache.trim(&items)?;
+        self.present = items;
+        self.version += 1;
+        Ok(Opened {
+            version: self.version,
+            done: count_done(&self.present, &self.cache),
+        })
+    }
+
+    /// Hands out the first present goal's question whose key is neither kept nor out, with a place
+    /// for its answer. Its number is the number of claims made before. Closed exactly where a close
+    /// stands before, and Empty exactly where the board isn't closed and no such goal is present.
+    /// Without memory the board is as before.
+    pub fn claim(&mut self) -> Result<Claimed<A>, AllocError>
+        requires { self.old.next < 2 ^ 64 - 1 }
+        ensures step { IfOk result (λ r. Steps self.old claim self.new (claim_answer A.Q.key r)) }
+        ensures memory { OnErr result (self.new ≡ self.old) }
+    {
+        if self.closed {
+            return Ok(Claimed::Closed);
+        }
+        let Some(wanted) = first_without_place(&self.present, &self.cache) else {
+            return Ok(Claimed::Empty);
+        };
+        let number = self.next;
+        let question = wanted.clone()?;
+        let out = Out {
+            number,
+            question: wanted.clone()?,
+        };
+        self.out.push(out)?;
+        if let Err(e) = self.cache.place(&question) {
+            self.out.pop();
+            return Err(e);
+        }
+        self.next += 1;
+        Ok(Claimed::Claim(Claim { number, question }))
+    }
+
+    /// Keeps the answer of a claim, and ends the claim. Returns the number of present goals with
+    /// that key, which is 0 exactly where none has it. It takes no memory.
+    pub fn deposit(&mut self, claim: Claim<A>, answer: Arc<A, Global>) -> u64
+        requires out { Contains self.old.out (ticket A.Q.key claim) }
+        requires key { A.Q.key (A.asked (arc_value answer)) ≡ A.Q.key (arc_value claim.question) }
+        ensures { Steps self.old (deposit (ticket A.Q.key claim) (arc_value answer)) self.new (deposited result) }
+    {
+        let Claim { number, question } = claim;
+        self.out.retain(|out| out.number != number);
+        self.cache.keep(answer);
+        count_with_key(&self.present, question.key())
+    }
+
+    /// Ends a claim without an answer: its key is no longer out.
+    pub fn give_back(&mut self, claim: Claim<A>)
+        requires { Contains self.old.out (ticket A.Q.key claim) }
+        ensures { Steps self.old (give_back (ticket A.Q.key claim)) self.new given_back }
+    {
+        let Claim { number, question } = claim;
+        self.out.retain(|out| out.number != number);
+        self.cache.unplace(question.key());
+    }
+
+    /// The version, how many present goals have a kept answer and how many have none, and whether
+    /// the board is closed.
+    pub fn look(&self) -> Snapshot
+        ensures { Steps self.now look self.now (look_answer result) }
+    {
+        let done = count_done(&self.present, &self.cache);
+        Snapshot {
+            version: self.version,
+            done,
+            pending: self.present.len() as u64 - done,
+            closed: self.closed,
+        }
+    }
+
+    /// The kept answer of each present goal in order; None exactly where the goal has none. Each is
+    /// a right answer of its goal's key.
+    pub fn gather(&self) -> Result<Vec<Option<Arc<A, Global>>>, AllocError>
+        ensures step { IfOk result (λ r. Steps self.now gather self.now (gathered (map (option_map arc_value) r.items))) }
+        ensures right { IfOk result (λ r. ShowsRight A (λ a. A.Q.key (A.asked a)) A.right self.now.present (map (option_map arc_value) r.items)) }
+    {
+        let mut answers = Vec::with_capacity(self.alloc, self.present.len())?;
+        for question in &self.present {
+            let answer = match self.cache.find(question.key()) {
+                Some(answer) => Some(answer.clone()?),
+                None => None,
+            };
+            answers.push(answer)?;
+        }
+        Ok(answers)
+    }
+
+    /// Closes the board: from now on no claim is handed out. A second close changes nothing.
+    pub fn close(&mut self)
+        ensures { Steps self.old close self.new closed_now }
+    {
+        self.closed = true;
+    }
+}

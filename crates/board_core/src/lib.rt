@@ -1,0 +1,15 @@
+//! The board of claims and answers.
+//!
+//! `claim` has what callers are handed; `board` the board, each call of which is one step of the
+//! machine in specs/; `laws` what holds after every list of events; `call` the entries of a
+//! history, of which contracts alone speak.
+#![tactic(auto)]
+
+mod board;
+mod call;
+mod claim;
+mod laws;
+
+pub use board::Board;
+pub use call::Call;
+pub use claim::{Claim, Claimed, Opened, Snapshot};

@@ -1,0 +1,9 @@
+//! Answers kept by key.
+//!
+//! `cache` has the cache of answers, which are found by keys that are equal byte for byte.
+#![tactic(auto)]
+
+mod cache;
+mod present;
+
+pub use cache::Cache;

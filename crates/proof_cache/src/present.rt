@@ -1,0 +1,67 @@
+//! The keys that are present, and the answers of others.
+ghost use Rattle.std.specs.Prelude.{◌≡◌, ℕ, ◌-◌, ◌^◌, ◌≤◌, ◌<◌, min, cond, nat_lt, List, map, filter, IfOk};
+ghost use Rattle.std.specs.Arc.{arc_value};
+ghost use Rattle.indexmap.specs.IndexMap.{spare};
+ghost use Rattle.proof_cache.specs.Kept.{is_among, limit};
+ghost use Rattle.proof_cache.specs.Present.{is_present, absent_size};
+
+use bv_base::Question;
+use indexmap::{IndexMap, IndexSet};
+use std::alloc::{AllocError, Global};
+use std::sync::Arc;
+
+// How many bytes absent keys may have together whose entries stay.
+const LIMIT: u64 = 67_108_864;
+
+/// The questions' keys.
+pub(crate) fn keys_of<'q, Q: Question>(
+    alloc: Global,
+    questions: &'q [Arc<Q, Global>],
+) -> Result<IndexSet<&'q [u8]>, AllocError>
+    ensures { IfOk result (λ s. (k : List ℕ) → is_present s.keys k ≡ is_among (map (λ q. Q.key (arc_value q)) questions.now) k) }
+{
+    let mut keys = IndexSet::new(alloc);
+    for question in questions {
+        keys.insert(question.key())?;
+    }
+    Ok(keys)
+}
+
+// How many bytes the keys have together that are not present, or 2^64 - 1 where these are more.
+fn size_of_absent<T>(kept: &IndexMap<Vec<u8>, T>, present: &IndexSet<&[u8]>) -> u64
+    ensures { result ≡ min (absent_size (λ v. v.items) present.now.keys kept.now.entries) (2 ^ 64 - 1) }
+{
+    let mut size: u64 = 0;
+    for (key, _) in kept {
+        if !present.contains(key.as_slice()) {
+            size = size.saturating_add(key.len() as u64);
+        }
+    }
+    size
+}
+
+// Drops the entries whose keys are not present.
+fn drop_absent<T: Drop>(
+    kept: &mut IndexMap<Vec<u8>, T>,
+    present: &IndexSet<&[u8]>,
+)
+    ensures entries { kept.new.entries ≡ filter (λ e. is_present present.now.keys e.0.items) kept.old.entries }
+    ensures room { spare kept.old ≤ spare kept.new }
+{
+    kept.retain(
+        |key: &Vec<u8>, value: &mut T| -> bool
+            ensures { (result ≡ is_present present.entry.now.keys key.now.items) × (value.new ≡ value.old) }
+        { present.contains(key.as_slice()) },
+    );
+}
+
+/// Drops the entries whose keys are not present, where these keys have more bytes together than
+/// the limit.
+pub(crate) fn trim_entries<T: Drop>(kept: &mut IndexMap<Vec<u8>, T>, present: &IndexSet<&[u8]>)
+    ensures entries { kept.new.entries ≡ cond (nat_lt limit (absent_size (λ v. v.items) present.now.keys kept.old.entries)) (filter (λ e. is_present present.now.keys e.0.items) kept.old.entries) kept.old.entries }
+    ensures room { spare kept.old ≤ spare kept.new }
+{
+    if size_of_absent(kept, present) > LIMIT {
+        drop_absent(kept, present);
+    }
+}
