@@ -8,8 +8,9 @@ use Rattle.turn_lock.specs.History.{calls_by}
 use Rattle.board_core.specs.Board.{Ticket, State, first, Event, open_keys, claim, deposit, give_back, look, gather, close, no_memory, Reply, opened, claimed, was_empty, was_closed, deposited, given_back, looked, gathered, closed_now, memory, Call}
 use Rattle.board_core.specs.Step.{step, reply, without, wanted, with_claim, claim_reply, MayStand}
 use Rattle.board_core.specs.History.{Entry, replay, WasGiven, MayMake, LegalAfter, Legal, after_reply, after_call, held}
+use Rattle.board_core.specs.Laws.{HeldAreOut}
 use Rattle.obligation_board.proofs.Members.{In, in_contains, contains_in, in_more, in_last, in_cases, in_filter, from_filter, Some_of, some_any, any_some, some_more, some_last, some_cases}
-use Rattle.obligation_board.proofs.Growing.{replay_last, by_growing}
+use Rattle.obligation_board.proofs.Growing.{replay_next, by_growing}
 
 module _ {A : Type 0} where
   -- the entry gave the claim to the caller
@@ -159,7 +160,7 @@ module _ {A : Type 0} (key_of : A → Key) (Right : A → Type 0) where
   keeps_known : (h : List (Entry A)) (e : Entry A) → LegalAfter A key_of Right h e → Known h → Known (h ++ e ∷ [])
   keeps_known h e l k =
       let s = replay h in
-      let now : replay (h ++ e ∷ []) ≡ step s e.1.event = replay_last h e in
+      let now : replay (h ++ e ∷ []) ≡ step s e.1.event = replay_next h e in
       let made : (c : ℕ) (t : Ticket) → Gives c t e → IsNew s (step s e.1.event) t = λ c t g. given_new s e.1.event t (sym g.1 ∙ l.reply) in
       let more = next_grows s e.1.event in
       record {
@@ -193,7 +194,7 @@ module _ {A : Type 0} (key_of : A → Key) (Right : A → Type 0) where
   known h l = by_growing key_of Right Known first_known keeps_known h l
 
   -- a claim that a caller was given and has not spent is out, and it was given to that caller
-  pub held_are_out : (h : List (Entry A)) (caller : ℕ) (t : Ticket) → Legal A key_of Right h → Contains (held caller h) t → WasGiven h caller t × Contains (replay h).out t
+  pub held_are_out : HeldAreOut A key_of Right
   held_are_out h caller t l i =
       let k = known h l in
       let j = contains_in t (held caller h) i in

@@ -1,11 +1,11 @@
 use Rattle.std.proofs.Common.{refl, sym, subst, ◌∙◌}
 use Rattle.std.specs.Prelude.{Contains}
 use Rattle.std.specs.Arc.{arc_value}
-use Rattle.board_core.specs.Board.{deposit, deposited, give_back, given_back}
+use Rattle.board_core.specs.Board.{Call, deposit, deposited, give_back, given_back}
 use Rattle.board_core.specs.Handed.{ticket}
 use Rattle.board_core.specs.declared.claim.Claim.{Claim}
 use Rattle.obligation_board.specs.declared.posted.Posted.{Posted}
-use Rattle.obligation_board.specs.Calls.{IsCall, Holds}
+use Rattle.obligation_board.specs.Calls.{Holds}
 use Rattle.obligation_board.proofs.Ending.{is_out, of_caller, holds_in_turn, claims_after}
 use Rattle.obligation_board.proofs.shared.SharedBoard.give_back.Goals as goal
 
@@ -23,8 +23,9 @@ finish_give_back-place-requires-clause-held g c =
 
 pub returns-clause-call : goal.returns-clause-call
 returns-clause-call g c =
-    of_caller _ _ c.args.pass.now c.enter-turn.new.pass c.finish_give_back-place.new.pass (give_back (ticket g.A.Q.Question.key c.args.claim)) c.finish_give_back-place.result (given_back) (given_back) c.enter-turn.ensures.pass refl
-      (subst (λ e. IsCall _ _ c.enter-turn.new.pass c.finish_give_back-place.new.pass e c.finish_give_back-place.result (given_back)) (λ i. give_back (ticket g.A.Q.Question.key (c.of-claimed.ensures i))) c.finish_give_back-place.ensures.call)
+    let k : Call g.row.A.Denot = record { event = give_back (ticket g.A.Q.Question.key c.of-claimed.result.value); reply = given_back } in
+    let k' : Call g.row.A.Denot = record { event = give_back (ticket g.A.Q.Question.key c.args.claim); reply = given_back } in
+    of_caller _ _ c.args.pass.now c.enter-turn.new.pass c.finish_give_back-place.new.pass k k' c.finish_give_back-place.result c.enter-turn.ensures.pass (λ i. record { event = give_back (ticket g.A.Q.Question.key (c.of-claimed.ensures i)); reply = given_back }) c.finish_give_back-place.ensures.call
 
 pub returns-clause-claims : goal.returns-clause-claims
 returns-clause-claims g c = claims_after _ _ c.args.pass.now c.finish_give_back-place.new.pass (give_back (ticket g.A.Q.Question.key c.args.claim)) c.finish_give_back-place.result (given_back) (c.finish_give_back-place.ensures.pass.1 ∙ c.enter-turn.ensures.pass.0.1) (returns-clause-call g c)
