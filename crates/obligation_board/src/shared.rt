@@ -1,7 +1,8 @@
 //! The shared board, its passes and its receipts.
 ghost use Rattle.std.specs.Prelude.{◌≡◌, ◌+◌, ◌≤◌, [], IfOk};
 ghost use Rattle.turn_lock.specs.History.{StartsWith, calls_by, longer};
-ghost use Rattle.turn_lock.specs.Lock.{IsFree, IsSamePass, above, lock_id, mine, number, seen};
+ghost use Rattle.turn_lock.specs.Lock.{above, mine, number, seen};
+ghost use Rattle.obligation_board.specs.Passes.{IsPassOf, StaysPassOf};
 
 use crate::posted::Posted;
 use board_core::Board;
@@ -34,7 +35,7 @@ where
 {
     /// A board without goals, answers and claims, and its opener, which alone has the number 0.
     pub fn new(alloc: Global) -> Result<(SharedBoard<A>, Pass<A>), AllocError>
-        ensures { IfOk result (λ r. (r.1.table_id ≡ lock_id r.0.lock) × IsFree r.1 × (number r.1 ≡ 0) × (seen r.1 ≡ []) × (mine r.1 ≡ [])) }
+        ensures { IfOk result (λ r. IsPassOf r.0 r.1 × (number r.1 ≡ 0) × (seen r.1 ≡ []) × (mine r.1 ≡ [])) }
     {
         let posted = Posted {
             board: Board::new(alloc),
@@ -48,9 +49,9 @@ where
     /// A pass for a further thread. It has seen as much, has made no calls, and has a number that no
     /// pass had.
     pub fn split(&self, pass: &mut Pass<A>) -> Pass<A>
-        requires { (pass.old.table_id ≡ lock_id self.now.lock) × IsFree pass.old }
-        ensures pass { IsSamePass pass.old pass.new × IsFree pass.new × (seen pass.new ≡ seen pass.old) × (mine pass.new ≡ mine pass.old) }
-        ensures other { (result.table_id ≡ pass.old.table_id) × IsFree result × (seen result ≡ seen pass.old) × (mine result ≡ []) }
+        requires { IsPassOf self.now pass.old }
+        ensures pass { StaysPassOf self.now pass.old pass.new × (seen pass.new ≡ seen pass.old) × (mine pass.new ≡ mine pass.old) }
+        ensures other { IsPassOf self.now result × (seen result ≡ seen pass.old) × (mine result ≡ []) }
         ensures number { (above pass.old ≤ number result) × (above pass.new ≡ number result + 1) × (above result ≡ number result + 1) × (calls_by (number result) (seen result) ≡ []) }
     {
         self.lock.split(pass)
@@ -59,8 +60,8 @@ where
     /// Takes the other pass in: the pass has then seen the longer of the two histories that they had
     /// seen.
     pub fn join(&self, pass: &mut Pass<A>, other: Pass<A>)
-        requires { (pass.old.table_id ≡ lock_id self.now.lock) × (other.table_id ≡ lock_id self.now.lock) × IsFree pass.old × IsFree other }
-        ensures pass { IsSamePass pass.old pass.new × IsFree pass.new × (mine pass.new ≡ mine pass.old) }
+        requires { IsPassOf self.now pass.old × IsPassOf self.now other }
+        ensures pass { StaysPassOf self.now pass.old pass.new × (mine pass.new ≡ mine pass.old) }
         ensures seen { (seen pass.new ≡ longer (seen pass.old) (seen other)) × StartsWith (seen pass.new) (seen pass.old) × StartsWith (seen pass.new) (seen other) }
     {
         self.lock.join(pass, other)
