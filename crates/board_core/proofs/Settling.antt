@@ -20,19 +20,19 @@ pub out_item : (P : Key → Type 0) (ts : List Ticket) (t : Ticket) → AllByRec
 out_item P ts t h (i, inside, at) = subst (λ (u : Ticket). P u.key) at (item_at (λ (u : Ticket). P u.key) ts i t inside (under_map P (λ u. u.key) ts h))
 
 -- an answer of a new key is the answer of that key alone
-pub answered : {A : Type 0} (es : List (Key × A)) (j k : Key) (a : A) → is_among (kept_keys es) j ≡ false → kept_at (es ++ (j, a) ∷ []) k ≡ cond (bytes_eq k j) (Some a) (kept_at es k)
-answered [] j k a h = by_test (bytes_eq k j)
+pub answered : (A : Type 0) (es : List (Key × A)) (j k : Key) (a : A) → is_among (kept_keys es) j ≡ false → kept_at (es ++ (j, a) ∷ []) k ≡ cond (bytes_eq k j) (Some a) (kept_at es k)
+answered A [] j k a h = by_test (bytes_eq k j)
   where
-    by_test : (b : Bool) → option_map (λ e. e.1) (cond b (Some (j, a)) None) ≡ cond b (Some a) None
+    by_test : (b : Bool) → option_map {T = Key × A} (λ e. e.1) (cond b (Some (j, a)) None) ≡ cond b (Some a) None
     by_test true = refl
     by_test false = refl
-answered (e ∷ es) j k a h = by_test (bytes_eq j e.0) refl h (answered es j k a)
+answered A (e ∷ es) j k a h = by_test (bytes_eq j e.0) refl h (answered A es j k a)
   where
     no_other : (b : Bool) → bytes_eq k e.0 ≡ true → bytes_eq k j ≡ b → bytes_eq j e.0 ≡ false → Some e.1 ≡ cond b (Some a) (Some e.1)
     no_other true here there apart = let c : false ≡ true = sym apart ∙ sym (ap (λ i. bytes_eq i e.0) (same_key k j there)) ∙ here in absurd cc
     no_other false here there apart = refl
     by_key : (b : Bool) → bytes_eq k e.0 ≡ b → bytes_eq j e.0 ≡ false → kept_at (es ++ (j, a) ∷ []) k ≡ cond (bytes_eq k j) (Some a) (kept_at es k)
-        → option_map (λ p. p.1) (cond b (Some e) (find (λ p. bytes_eq k p.0) (es ++ (j, a) ∷ []))) ≡ cond (bytes_eq k j) (Some a) (option_map (λ p. p.1) (cond b (Some e) (find (λ p. bytes_eq k p.0) es)))
+        → option_map {T = Key × A} (λ p. p.1) (cond b (Some e) (find (λ p. bytes_eq k p.0) (es ++ (j, a) ∷ []))) ≡ cond (bytes_eq k j) (Some a) (option_map {T = Key × A} (λ p. p.1) (cond b (Some e) (find (λ p. bytes_eq k p.0) es)))
     by_key true here apart rest = no_other (bytes_eq k j) here refl apart
     by_key false here apart rest = rest
     by_test : (b : Bool) → bytes_eq j e.0 ≡ b → (b || is_among (kept_keys es) j) ≡ false → (is_among (kept_keys es) j ≡ false → kept_at (es ++ (j, a) ∷ []) k ≡ cond (bytes_eq k j) (Some a) (kept_at es k))
@@ -58,4 +58,4 @@ module _ {A : Type 0} (key_of : A → Key) (Right : A → Type 0) where
       let alone = out_item (λ j. is_among (kept_keys (step (replay h) (open_keys ks)).kept) j ≡ false) (replay h).out t sound.out_or_kept stands.0 in
       (stands,
         ap (λ b. kept_at (cond b (step (replay h) (open_keys ks)).kept ((step (replay h) (open_keys ks)).kept ++ (t.key, a) ∷ [])) k) alone
-          ∙ answered (step (replay h) (open_keys ks)).kept t.key k a alone)
+          ∙ answered A (step (replay h) (open_keys ks)).kept t.key k a alone)

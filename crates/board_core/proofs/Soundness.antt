@@ -47,7 +47,7 @@ module _ {A : Type 0} (key_of : A → Key) (Right : A → Type 0) where
   fewer_kept t false s ks v h = record { out_once = h.out_once; out_or_kept = h.out_or_kept; numbers = h.numbers; below = h.below; kept_once = h.kept_once; right = h.right }
 
   -- a claim joins
-  claim_sound : (s : State A) (o : Option Key) → wanted s ≡ o → IsSound A key_of Right s → IsSound A key_of Right (with_claim s o)
+  pub claim_sound : (s : State A) (o : Option Key) → wanted s ≡ o → IsSound A key_of Right s → IsSound A key_of Right (with_claim s o)
   claim_sound s None e h = h
   claim_sound s (Some k) e h =
       let free = neither _ _ (found_passes (λ j. not (is_among (kept_keys s.kept) j || is_among (out_keys s.out) j)) s.present k e) in
@@ -121,7 +121,7 @@ module _ {A : Type 0} (key_of : A → Key) (Right : A → Type 0) where
   first_sound = record { out_once = tt; out_or_kept = tt; numbers = tt; below = tt; kept_once = tt; right = tt }
 
   -- the replay of a list and one more entry is a step
-  replay_last : (s : State A) (es : List (Entry A)) (e : Entry A) → replay_from s (es ++ e ∷ []) ≡ step (replay_from s es) e.1.event
+  pub replay_last : (s : State A) (es : List (Entry A)) (e : Entry A) → replay_from s (es ++ e ∷ []) ≡ step (replay_from s es) e.1.event
   replay_last s [] e = refl
   replay_last s (x ∷ es) e = replay_last (step s x.1.event) es e
 

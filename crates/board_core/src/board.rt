@@ -1,10 +1,11 @@
 //! The board: each call is one step of the machine in specs/, in state and reply.
-ghost use Rattle.std.specs.Prelude.{◌≡◌, ℕ, ◌^◌, ◌<◌, IfOk, OnErr, IfSome, Contains, List, map, find, count_by, not, bytes_eq};
+ghost use Rattle.std.specs.Prelude.{◌≡◌, ℕ, ◌-◌, ◌^◌, ◌<◌, IfOk, OnErr, IfSome, Contains, List, map, find, count_by, not, bytes_eq};
 ghost use Rattle.std.specs.Arc.{arc_value};
 ghost use Rattle.std.specs.Option.{option_map};
-ghost use Rattle.proof_cache.specs.Kept.{has_place, is_among, kept_keys};
+ghost use Rattle.proof_cache.specs.Kept.{has_place, is_among, kept_at, kept_keys};
 ghost use Rattle.board_core.specs.Board.{first, open_keys, claim, deposit, give_back, look, gather, close, deposited, given_back, gathered, closed_now};
-ghost use Rattle.board_core.specs.Step.{Steps, MayStand};
+ghost use Rattle.board_core.specs.Inside.{tickets};
+ghost use Rattle.board_core.specs.Step.{Steps, without};
 ghost use Rattle.board_core.specs.Sound.{IsSound};
 ghost use Rattle.board_core.specs.Laws.{ShowsRight};
 ghost use Rattle.board_core.specs.Handed.{ticket, open_answer, claim_answer, look_answer};
@@ -97,6 +98,28 @@ fn count_with_key<Q: Question>(questions: &[Arc<Q, Global>], key: &[u8]) -> u64
     count
 }
 
+// The kept answer of the key, shared.
+fn shared_answer<A: Answered + Drop>(
+    cache: &Cache<A>,
+    key: &[u8],
+) -> Result<Option<Arc<A, Global>>, AllocError>
+    ensures { IfOk result (λ r. option_map arc_value r ≡ kept_at cache.now.kept key.now) }
+{
+    match cache.find(key) {
+        Some(answer) => Ok(Some(answer.clone()?)),
+        None => Ok(None),
+    }
+}
+
+// Takes away the claim with the number.
+fn end_claim<A: Answered>(out: &mut Vec<Out<A>>, number: u64)
+where
+    A::Q: Drop,
+    ensures { tickets A.Q.key out.new.items ≡ without number (tickets A.Q.key out.old.items) }
+{
+    out.retain(|claim| claim.number != number);
+}
+
 impl<A: Answered + Drop> Board<A>
 where
     A::Q: Drop,
@@ -179,7 +202,7 @@ where
         ensures { Steps self.old (deposit (ticket A.Q.key claim) (arc_value answer)) self.new (deposited result) }
     {
         let Claim { number, question } = claim;
-        self.out.retain(|out| out.number != number);
+        end_claim(&mut self.out, number);
         self.cache.keep(answer);
         count_with_key(&self.present, question.key())
     }
@@ -190,7 +213,7 @@ where
         ensures { Steps self.old (give_back (ticket A.Q.key claim)) self.new given_back }
     {
         let Claim { number, question } = claim;
-        self.out.retain(|out| out.number != number);
+        end_claim(&mut self.out, number);
         self.cache.unplace(question.key());
     }
 
@@ -216,11 +239,7 @@ where
     {
         let mut answers = Vec::with_capacity(self.alloc, self.present.len())?;
         for question in &self.present {
-            let answer = match self.cache.find(question.key()) {
-                Some(answer) => Some(answer.clone()?),
-                None => None,
-            };
-            answers.push(answer)?;
+            answers.push(shared_answer(&self.cache, question.key())?)?;
         }
         Ok(answers)
     }

@@ -106,11 +106,13 @@ impl<A: Answered + Drop> Cache<A> {
         }
     }
 
-    /// Keeps the answer in its key's place, in which an older answer stays. It takes no memory.
+    /// Keeps the answer in its key's place, in which an older answer stays. It takes no memory. The
+    /// answer is a right one, as each is.
     pub fn keep(&mut self, answer: Arc<A, Global>)
         requires { IsTrue (has_place self.old (A.Q.key (A.asked (arc_value answer)))) }
         ensures kept { self.new.kept ≡ with_answer self.old.kept (A.Q.key (A.asked (arc_value answer))) (arc_value answer) }
         ensures places { self.new.places ≡ without_key (A.Q.key (A.asked (arc_value answer))) self.old.places }
+        ensures right { A.right (arc_value answer) }
     {
         if let Some(at) = place_of(&self.places, answer.question().key()) {
             let key = self.places.remove(at);

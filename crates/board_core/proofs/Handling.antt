@@ -1,0 +1,115 @@
+-- The claims out as the board holds them, and the places in the cache that go with them.
+use Rattle.std.specs.Prelude.{◌≡◌, refl, ℕ, zero, suc, ◌+◌, ◌<◌, nat_eq, Bool, true, false, ◌||◌, not, cond, List, [], ◌∷◌, ◌++◌, map, filter, find, length, drop, Option, Some, None, bytes_eq, Contains}
+use Rattle.std.specs.List.{AllByRecursion, IsDistinct}
+use Rattle.std.proofs.Common.{ap, arith, get_or, drop-cons, append_assoc}
+use Rattle.std.proofs.lemmas.Bool.{eqb-true, eq-eqb, false_from_ne_true}
+use mathlib.Core.Path.{subst, sym, ◌∙◌}
+use Rattle.proof_cache.specs.Kept.{Key, is_among, kept_keys, without_key, with_answer}
+use Rattle.proof_cache.proofs.Keys.{same_key, turned, key_itself}
+use Rattle.proof_cache.proofs.Lists.{item_at, under_map, over_map, weaken, map-last, found_passes, none_passes, passes_none}
+use Rattle.board_core.specs.Board.{Ticket, State, open_keys, deposit, give_back}
+use Rattle.board_core.specs.Step.{out_keys, wanted, with_claim, without, step, MayStand}
+use Rattle.board_core.specs.Sound.{IsSound}
+use Rattle.board_core.proofs.Soundness.{step_sound, claim_sound}
+
+-- the claims out without one, as the board holds them
+pub tickets_left : {O : Type 0} (number : O → ℕ) (key : O → Key) (n : ℕ) (os : List O)
+    → map (λ o. record { number = number o; key = key o }) (filter (λ o. not (nat_eq (number o) n)) os) ≡ without n (map (λ o. record { number = number o; key = key o }) os)
+tickets_left number key n [] = refl
+tickets_left number key n (o ∷ os) = by_test (nat_eq (number o) n) (tickets_left number key n os)
+  where
+    by_test : (b : Bool) → map (λ o. record { number = number o; key = key o }) (filter (λ o. not (nat_eq (number o) n)) os) ≡ without n (map (λ o. record { number = number o; key = key o }) os)
+        → map (λ o. record { number = number o; key = key o }) (cond (not b) (o ∷ filter (λ o. not (nat_eq (number o) n)) os) (filter (λ o. not (nat_eq (number o) n)) os))
+          ≡ cond (not b) (record { number = number o; key = key o } ∷ without n (map (λ o. record { number = number o; key = key o }) os)) (without n (map (λ o. record { number = number o; key = key o }) os))
+    by_test true r = r
+    by_test false r = ap (λ ts. record { number = number o; key = key o } ∷ ts) r
+
+number_turned : (m n : ℕ) → nat_eq m n ≡ false → nat_eq n m ≡ false
+number_turned m n h = false_from_ne_true (nat_eq n m) (λ e. let c : true ≡ false = sym (eq-eqb m n (sym (eqb-true n m e))) ∙ h in absurd cc)
+
+-- of the claims out the one with the claim's key is the one with its number
+same_tests : (ts : List Ticket) (t : Ticket) → IsDistinct bytes_eq (out_keys ts) → IsDistinct nat_eq (map (λ u. u.number) ts) → Contains ts t → AllByRecursion (λ d. bytes_eq t.key d.key ≡ nat_eq d.number t.number) ts
+unfolding IsDistinct
+same_tests [] t k n h = tt
+same_tests (x ∷ xs) t k n (zero, inside, at) =
+    (subst (λ (z : Ticket). bytes_eq z.key x.key ≡ nat_eq x.number z.number) at (key_itself x.key ∙ sym (eq-eqb x.number x.number refl)),
+      subst (λ (z : Ticket). AllByRecursion (λ d. bytes_eq z.key d.key ≡ nat_eq d.number z.number) xs) at (heads xs k.0 n.0))
+  where
+    heads : (ds : List Ticket) → AllByRecursion (λ j. bytes_eq x.key j ≡ false) (out_keys ds) → AllByRecursion (λ m. nat_eq x.number m ≡ false) (map (λ u. u.number) ds) → AllByRecursion (λ d. bytes_eq x.key d.key ≡ nat_eq d.number x.number) ds
+    heads [] e f = tt
+    heads (d ∷ ds) e f = (e.0 ∙ sym (number_turned x.number d.number f.0), heads ds e.1 f.1)
+same_tests (x ∷ xs) t k n (suc i, inside, at) =
+    let key : bytes_eq x.key t.key ≡ false = subst (λ (z : Ticket). bytes_eq x.key z.key ≡ false) at (item_at (λ (z : Ticket). bytes_eq x.key z.key ≡ false) xs i t (omega arith) (under_map _ (λ d. d.key) xs k.0)) in
+    let number : nat_eq x.number t.number ≡ false = subst (λ (z : Ticket). nat_eq x.number z.number ≡ false) at (item_at (λ (z : Ticket). nat_eq x.number z.number ≡ false) xs i t (omega arith) (under_map _ (λ d. d.number) xs n.0)) in
+    (turned x.key t.key key ∙ sym number, same_tests xs t k.1 n.1 (i, omega arith, at))
+
+keys_left : (t : Ticket) (ts : List Ticket) → AllByRecursion (λ d. bytes_eq t.key d.key ≡ nat_eq d.number t.number) ts → without_key t.key (out_keys ts) ≡ out_keys (without t.number ts)
+keys_left t [] h = refl
+keys_left t (d ∷ ts) h = ap (λ b. cond (not b) (d.key ∷ without_key t.key (out_keys ts)) (without_key t.key (out_keys ts))) h.0 ∙ by_test (nat_eq d.number t.number) (keys_left t ts h.1)
+  where
+    by_test : (b : Bool) → without_key t.key (out_keys ts) ≡ out_keys (without t.number ts)
+        → cond (not b) (d.key ∷ without_key t.key (out_keys ts)) (without_key t.key (out_keys ts)) ≡ out_keys (cond (not b) (d ∷ without t.number ts) (without t.number ts))
+    by_test true r = r
+    by_test false r = ap (λ ks. d.key ∷ ks) r
+
+pub passes_not : (b : Bool) → not b ≡ true → b ≡ false
+passes_not true h = sym h
+passes_not false h = refl
+
+-- one more answer is gathered
+pub gathered_more : {X Q B : Type 0} (view : X → B) (f : Q → B) (xs : List X) (x : X) (qs : List Q) (i : ℕ) (q : Q) → i < length qs → q ≡ get_or qs i q → view x ≡ f q
+    → map view xs ++ map f (drop i qs) ≡ map f qs → map view (xs ++ x ∷ []) ++ map f (drop (i + 1) qs) ≡ map f qs
+gathered_more view f xs x qs i q lt is e h =
+    let next : suc i ≡ i + 1 = omega arith in
+    let rest : drop i qs ≡ q ∷ drop (i + 1) qs = drop-cons qs i q lt ∙ (λ j. sym is j ∷ drop (next j) qs) in
+    ap (λ l. l ++ map f (drop (i + 1) qs)) (map-last view xs x ∙ (λ j. map view xs ++ e j ∷ [])) ∙ append_assoc (map view xs) (f q ∷ []) (map f (drop (i + 1) qs)) ∙ sym (ap (λ l. map view xs ++ map f l) rest) ∙ h
+
+pub map_of_map : {X Y Z : Type 0} (f : X → Y) (g : Y → Z) (xs : List X) → map (λ x. g (f x)) xs ≡ map g (map f xs)
+map_of_map f g [] = refl
+map_of_map f g (x ∷ xs) = ap (λ ys. g (f x) ∷ ys) (map_of_map f g xs)
+
+module _ {A : Type 0} (key_of : A → Key) (Right : A → Type 0) where
+  -- the place of a claim that is spent is the one that goes
+  pub places_left : (s : State A) (t : Ticket) (places : List Key) → IsSound A key_of Right s → places ≡ out_keys s.out → Contains s.out t → without_key t.key places ≡ out_keys (without t.number s.out)
+  places_left s t places h e out = ap (without_key t.key) e ∙ keys_left t s.out (same_tests s.out t h.out_once h.numbers out)
+
+  pub is_out : (ts : List Ticket) (t : Ticket) → Contains ts t → is_among (out_keys ts) t.key ≡ true
+  is_out [] t (i, inside, at) = absurd (omega arith)
+  is_out (x ∷ xs) t (zero, inside, at) = ap (λ b. b || is_among (out_keys xs) t.key) (subst (λ (z : Ticket). bytes_eq z.key x.key ≡ true) at (key_itself x.key))
+  is_out (x ∷ xs) t (suc i, inside, at) = by_test (bytes_eq t.key x.key) (is_out xs t (i, omega arith, at))
+    where
+      by_test : (b : Bool) → is_among (out_keys xs) t.key ≡ true → (b || is_among (out_keys xs) t.key) ≡ true
+      by_test true r = refl
+      by_test false r = r
+
+  -- the key that a claim is for is found by its place
+  pub wanted_place : (s : State A) (places : List Key) → places ≡ out_keys s.out → find (λ k. not (is_among (kept_keys s.kept) k || is_among places k)) s.present ≡ wanted s
+  wanted_place s places e = ap (λ ks. find (λ k. not (is_among (kept_keys s.kept) k || is_among ks k)) s.present) e
+
+  -- after each kind of call the state is sound, and the places are those of the keys out
+  abbrev Kept : State A → List Key → Type 0
+  Kept s places = IsSound A key_of Right s × (places ≡ out_keys s.out)
+
+  pub opened_kept : (s t : State A) (places after : List Key) (ks : List Key) → Kept s places → t ≡ step s (open_keys ks) → after ≡ places → Kept t after
+  opened_kept s t places after ks h e f = (subst (IsSound A key_of Right) (sym e) (step_sound key_of Right s (open_keys ks) tt h.0), f ∙ h.1 ∙ sym (ap (λ u. out_keys u.out) e))
+
+  pub claimed_kept : (s t : State A) (places after : List Key) (k : Key) → Kept s places → wanted s ≡ Some k → t ≡ with_claim s (Some k) → after ≡ places ++ k ∷ [] → Kept t after
+  claimed_kept s t places after k h w e f =
+      (subst (IsSound A key_of Right) (sym e) (claim_sound key_of Right s (Some k) w h.0),
+        f ∙ ap (λ ks. ks ++ k ∷ []) h.1 ∙ sym (map-last (λ u. u.key) s.out (record { number = s.next; key = k })) ∙ sym (ap (λ u. out_keys u.out) e))
+
+  pub given_back_kept : (s t : State A) (places after : List Key) (c : Ticket) → Kept s places → Contains s.out c → t ≡ step s (give_back c) → after ≡ without_key c.key places → Kept t after
+  given_back_kept s t places after c h out e f =
+      (subst (IsSound A key_of Right) (sym e) (step_sound key_of Right s (give_back c) out h.0), f ∙ places_left s c places h.0 h.1 out ∙ sym (ap (λ u. out_keys u.out) e))
+
+  pub deposited_kept : (s t : State A) (places after : List Key) (c : Ticket) (a : A) → Kept s places → MayStand key_of Right s (deposit c a) → t ≡ step s (deposit c a) → after ≡ without_key c.key places → Kept t after
+  deposited_kept s t places after c a h may e f =
+      (subst (IsSound A key_of Right) (sym e) (step_sound key_of Right s (deposit c a) may h.0), f ∙ places_left s c places h.0 h.1 may.0 ∙ sym (ap (λ u. out_keys u.out) e))
+
+  -- a key that is out has a place
+  pub out_has_place : (s : State A) (places : List Key) (c : Ticket) → Kept s places → Contains s.out c → (is_among (kept_keys s.kept) c.key || is_among places c.key) ≡ true
+  out_has_place s places c h out = last_of (is_among (kept_keys s.kept) c.key) (ap (λ ks. is_among ks c.key) h.1 ∙ is_out s.out c out)
+    where
+      last_of : {b : Bool} (a : Bool) → b ≡ true → (a || b) ≡ true
+      last_of true h = refl
+      last_of false h = h
