@@ -1,14 +1,15 @@
 -- The claims out as the board holds them, and the places in the cache that go with them.
-use Rattle.std.specs.Prelude.{◌≡◌, refl, ℕ, zero, suc, ◌+◌, ◌<◌, nat_eq, Bool, true, false, ◌||◌, not, cond, List, [], ◌∷◌, ◌++◌, map, filter, find, length, drop, Option, Some, None, bytes_eq, Contains}
+use Rattle.std.specs.Prelude.{◌≡◌, refl, ℕ, zero, suc, ◌+◌, ◌<◌, nat_eq, Bool, true, false, ◌&&◌, ◌||◌, not, cond, List, [], ◌∷◌, ◌++◌, map, filter, find, length, drop, Option, Some, None, bytes_eq, Contains}
 use Rattle.std.specs.List.{AllByRecursion, IsDistinct}
 use Rattle.std.proofs.Common.{ap, arith, get_or, drop-cons, append_assoc}
+use Rattle.std.proofs.lemmas.List.Elements.{Contains-append_right}
 use Rattle.std.proofs.lemmas.Bool.{eqb-true, eq-eqb, false_from_ne_true}
 use mathlib.Core.Path.{subst, sym, ◌∙◌}
 use Rattle.proof_cache.specs.Kept.{Key, is_among, kept_keys, without_key, with_answer}
 use Rattle.proof_cache.proofs.Keys.{same_key, turned, key_itself}
 use Rattle.proof_cache.proofs.Lists.{item_at, under_map, over_map, weaken, map-last, found_passes, none_passes, passes_none}
 use Rattle.board_core.specs.Board.{Ticket, State, open_keys, deposit, give_back}
-use Rattle.board_core.specs.Step.{out_keys, wanted, with_claim, without, step, MayStand}
+use Rattle.board_core.specs.Step.{is_out, out_keys, wanted, with_claim, without, step, MayStand}
 use Rattle.board_core.specs.Sound.{IsSound}
 use Rattle.board_core.proofs.Soundness.{step_sound, claim_sound}
 
@@ -56,6 +57,32 @@ pub passes_not : (b : Bool) → not b ≡ true → b ≡ false
 passes_not true h = sym h
 passes_not false h = refl
 
+last_of : {b : Bool} (a : Bool) → b ≡ true → (a || b) ≡ true
+last_of true h = refl
+last_of false h = h
+
+both_true : (a b : Bool) → (a && b) ≡ true → (a ≡ true) × (b ≡ true)
+both_true true b h = (refl, h)
+both_true false b h = let c : false ≡ true = h in absurd cc
+
+-- a claim is out exactly where one with its number and key is
+pub out_by_test : (ts : List Ticket) (t : Ticket) → is_out ts t ≡ true → Contains ts t
+out_by_test [] t h = let c : false ≡ true = h in absurd cc
+out_by_test (u ∷ ts) t h = by_test (nat_eq u.number t.number && bytes_eq u.key t.key) refl h (out_by_test ts t)
+  where
+    by_test : (b : Bool) → (nat_eq u.number t.number && bytes_eq u.key t.key) ≡ b → (b || is_out ts t) ≡ true → (is_out ts t ≡ true → Contains ts t) → Contains (u ∷ ts) t
+    by_test true e f r =
+        let same = both_true _ _ e in
+        let number : u.number ≡ t.number = eqb-true u.number t.number same.0 in
+        let key : u.key ≡ t.key = same_key u.key t.key same.1 in
+        (0, omega arith, λ i. record { number = number i; key = key i })
+    by_test false e f r = Contains-append_right (u ∷ []) ts t (r f)
+
+pub test_by_out : (ts : List Ticket) (t : Ticket) → Contains ts t → is_out ts t ≡ true
+test_by_out [] t (i, inside, at) = absurd (omega arith)
+test_by_out (u ∷ ts) t (zero, inside, at) = subst (λ (z : Ticket). is_out (u ∷ ts) z ≡ true) at (ap (λ b. (b && bytes_eq u.key u.key) || is_out ts u) (eq-eqb u.number u.number refl) ∙ ap (λ b. b || is_out ts u) (key_itself u.key))
+test_by_out (u ∷ ts) t (suc i, inside, at) = last_of (nat_eq u.number t.number && bytes_eq u.key t.key) (test_by_out ts t (i, omega arith, at))
+
 -- one more answer is gathered
 pub gathered_more : {X Q B : Type 0} (view : X → B) (f : Q → B) (xs : List X) (x : X) (qs : List Q) (i : ℕ) (q : Q) → i < length qs → q ≡ get_or qs i q → view x ≡ f q
     → map view xs ++ map f (drop i qs) ≡ map f qs → map view (xs ++ x ∷ []) ++ map f (drop (i + 1) qs) ≡ map f qs
@@ -73,10 +100,10 @@ module _ {A : Type 0} (key_of : A → Key) (Right : A → Type 0) where
   pub places_left : (s : State A) (t : Ticket) (places : List Key) → IsSound A key_of Right s → places ≡ out_keys s.out → Contains s.out t → without_key t.key places ≡ out_keys (without t.number s.out)
   places_left s t places h e out = ap (without_key t.key) e ∙ keys_left t s.out (same_tests s.out t h.out_once h.numbers out)
 
-  pub is_out : (ts : List Ticket) (t : Ticket) → Contains ts t → is_among (out_keys ts) t.key ≡ true
-  is_out [] t (i, inside, at) = absurd (omega arith)
-  is_out (x ∷ xs) t (zero, inside, at) = ap (λ b. b || is_among (out_keys xs) t.key) (subst (λ (z : Ticket). bytes_eq z.key x.key ≡ true) at (key_itself x.key))
-  is_out (x ∷ xs) t (suc i, inside, at) = by_test (bytes_eq t.key x.key) (is_out xs t (i, omega arith, at))
+  pub out_among : (ts : List Ticket) (t : Ticket) → Contains ts t → is_among (out_keys ts) t.key ≡ true
+  out_among [] t (i, inside, at) = absurd (omega arith)
+  out_among (x ∷ xs) t (zero, inside, at) = ap (λ b. b || is_among (out_keys xs) t.key) (subst (λ (z : Ticket). bytes_eq z.key x.key ≡ true) at (key_itself x.key))
+  out_among (x ∷ xs) t (suc i, inside, at) = by_test (bytes_eq t.key x.key) (out_among xs t (i, omega arith, at))
     where
       by_test : (b : Bool) → is_among (out_keys xs) t.key ≡ true → (b || is_among (out_keys xs) t.key) ≡ true
       by_test true r = refl
@@ -108,8 +135,4 @@ module _ {A : Type 0} (key_of : A → Key) (Right : A → Type 0) where
 
   -- a key that is out has a place
   pub out_has_place : (s : State A) (places : List Key) (c : Ticket) → Kept s places → Contains s.out c → (is_among (kept_keys s.kept) c.key || is_among places c.key) ≡ true
-  out_has_place s places c h out = last_of (is_among (kept_keys s.kept) c.key) (ap (λ ks. is_among ks c.key) h.1 ∙ is_out s.out c out)
-    where
-      last_of : {b : Bool} (a : Bool) → b ≡ true → (a || b) ≡ true
-      last_of true h = refl
-      last_of false h = h
+  out_has_place s places c h out = last_of (is_among (kept_keys s.kept) c.key) (ap (λ ks. is_among ks c.key) h.1 ∙ out_among s.out c out)

@@ -1,6 +1,6 @@
 -- What each event does to the board, and its reply.
-use Rattle.std.specs.Prelude.{◌≡◌, ℕ, ◌+◌, ◌-◌, nat_eq, true, ◌||◌, not, cond, List, [], ◌∷◌, ◌++◌, map, length, filter, find, Option, Some, None, bytes_eq, Contains, ⊤}
-use Rattle.std.specs.List.{count_by}
+use Rattle.std.specs.Prelude.{◌≡◌, ℕ, ◌+◌, ◌-◌, nat_eq, Bool, true, ◌&&◌, ◌||◌, not, cond, List, [], ◌∷◌, ◌++◌, map, length, filter, find, Option, Some, None, bytes_eq, Contains, ⊤}
+use Rattle.std.specs.List.{count_by, list_any}
 use Rattle.proof_cache.specs.Kept.{Key, is_among, kept_keys, kept_at, trimmed, with_answer}
 use Rattle.board_core.specs.Board.{Ticket, State, Event, open_keys, claim, deposit, give_back, look, gather, close, no_memory, Reply, opened, claimed, was_empty, was_closed, deposited, given_back, looked, gathered, closed_now, memory}
 
@@ -14,6 +14,10 @@ done_of present kept = count_by (is_among (kept_keys kept)) present
 -- the first present key neither kept nor out
 abbrev pub wanted : {A : Type 0} → State A → Option Key
 wanted s = find (λ k. not (is_among (kept_keys s.kept) k || is_among (out_keys s.out) k)) s.present
+
+-- a claim is out where one with its number and key is
+abbrev pub is_out : List Ticket → Ticket → Bool
+is_out ts t = list_any (λ u. nat_eq u.number t.number && bytes_eq u.key t.key) ts
 
 -- the claims out but for the one with this number
 abbrev pub without : ℕ → List Ticket → List Ticket

@@ -1,14 +1,14 @@
 //! The board: each call is one step of the machine in specs/, in state and reply.
-ghost use Rattle.std.specs.Prelude.{◌≡◌, ℕ, ◌-◌, ◌^◌, ◌<◌, IfOk, OnErr, IfSome, Contains, List, map, find, count_by, not, bytes_eq};
+ghost use Rattle.std.specs.Prelude.{◌≡◌, ℕ, ◌-◌, ◌^◌, ◌<◌, ◌↔◌, IsTrue, IfOk, OnErr, Contains, List, map, find, count_by, not, bytes_eq};
 ghost use Rattle.std.specs.Arc.{arc_value};
 ghost use Rattle.std.specs.Option.{option_map};
 ghost use Rattle.proof_cache.specs.Kept.{has_place, is_among, kept_at, kept_keys};
 ghost use Rattle.board_core.specs.Board.{first, open_keys, claim, deposit, give_back, look, gather, close, deposited, given_back, gathered, closed_now};
 ghost use Rattle.board_core.specs.Inside.{tickets};
-ghost use Rattle.board_core.specs.Step.{Steps, without};
+ghost use Rattle.board_core.specs.Step.{Steps, is_out, without};
 ghost use Rattle.board_core.specs.Sound.{IsSound};
 ghost use Rattle.board_core.specs.Laws.{ShowsRight};
-ghost use Rattle.board_core.specs.Handed.{ticket, open_answer, claim_answer, look_answer};
+ghost use Rattle.board_core.specs.Handed.{ticket, open_answer, claim_answer, look_answer, IsHandedOut};
 
 use crate::claim::{Claim, Claimed, Opened, Snapshot};
 use bv_base::{Answered, Question};
@@ -111,6 +111,20 @@ fn shared_answer<A: Answered + Drop>(
     }
 }
 
+// Whether one of these has the claim's number and key.
+fn is_among_claims<A: Answered>(out: &[Out<A>], claim: &Claim<A>) -> bool
+where
+    A::Q: Drop,
+    ensures { result ≡ is_out (tickets A.Q.key out.now) (ticket A.Q.key claim.now) }
+{
+    for other in out {
+        if other.number == claim.number && other.question.key() == claim.question.key() {
+            return true;
+        }
+    }
+    false
+}
+
 // Takes away the claim with the number.
 fn end_claim<A: Answered>(out: &mut Vec<Out<A>>, number: u64)
 where
@@ -147,6 +161,13 @@ where
         let _closed = &self.closed;
     }
 
+    /// Whether the claim is out on this board.
+    pub fn is_out(&self, claim: &Claim<A>) -> bool
+        ensures { IsTrue result ↔ Contains self.now.out (ticket A.Q.key claim.now) }
+    {
+        is_among_claims(&self.out, claim)
+    }
+
     /// Replaces the present goals, drops the answers of absent keys where these keys together have
     /// more than 67,108,864 bytes, and raises the version by one. Claims that are out stay out.
     /// Without memory the board is as before.
@@ -171,6 +192,7 @@ where
     pub fn claim(&mut self) -> Result<Claimed<A>, AllocError>
         requires { self.old.next < 2 ^ 64 - 1 }
         ensures step { IfOk result (λ r. Steps self.old claim self.new (claim_answer A.Q.key r)) }
+        ensures out { IfOk result (IsHandedOut A.Q.key self.new) }
         ensures memory { OnErr result (self.new ≡ self.old) }
     {
         if self.closed {
