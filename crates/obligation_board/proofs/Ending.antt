@@ -1,5 +1,5 @@
 -- What a board stands for after one more call of a pass.
-use Rattle.std.proofs.Common.{◌≡◌, ℕ, ◌<◌, List, [], ◌∷◌, ◌++◌, length, Option, Some, refl, sym, ap, ◌∙◌, subst, arith}
+use Rattle.std.proofs.Common.{◌≡◌, ℕ, ◌<◌, List, [], ◌∷◌, ◌++◌, length, Option, Some, sym, ap, ◌∙◌, subst, arith}
 use Rattle.std.specs.Prelude.{Contains}
 use Rattle.atomic_table.specs.declared.shared.Seat.{Seat}
 use Rattle.turn_lock.specs.declared.rule.View.{View}
@@ -7,7 +7,7 @@ use Rattle.turn_lock.specs.History.{StartsWith, calls_by}
 use Rattle.turn_lock.specs.Lock.{IsSamePass, number, seen, mine, and_then}
 use Rattle.proof_cache.specs.Kept.{Key}
 use Rattle.board_core.specs.Board.{Ticket, State, Event, open_keys, claim, deposit, give_back, look, gather, close, no_memory, Reply, Call}
-use Rattle.board_core.specs.Step.{step, reply, Steps}
+use Rattle.board_core.specs.Step.{reply, Steps}
 use Rattle.board_core.specs.History.{Entry, replay, WasGiven, LegalAfter, Legal, StandsFor, after_call, held}
 use Rattle.obligation_board.specs.Calls.{Holds, MayCall, IsCall, claims_of}
 use Rattle.board_core.proofs.Soundness.{histories_grow}
@@ -40,7 +40,7 @@ module _ {S A : Type 0} (key_of : A → Key) (Right : A → Type 0) where
   stands_after p s s' log e r stands own step_is m =
       let legal = legal_call p log e r stands.0 own (step_is.1 ∙ ap (λ (z : State A). reply z e) stands.1) m in
       subst (λ (z : State A). StandsFor A key_of Right z (and_then log p (record { event = e; reply = r }))) (sym step_is.0)
-        (histories_grow key_of Right s log (number p, record { event = e; reply = r }) stands legal)
+      (histories_grow key_of Right s log (number p, record { event = e; reply = r }) stands legal)
 
   -- a turn that ends with such a call
   pub is_call : (p q : Seat (Option S) (View S (Call A))) (s s' : State A) (log : List (Entry A)) (k k' : Call A) (place : ℕ) → Some k ≡ Some k'
@@ -55,7 +55,7 @@ module _ {S A : Type 0} (key_of : A → Key) (Right : A → Type 0) where
         own_calls = own;
         at_its_place = at;
         seen = seen_is;
-        mine = mine_is
+        mine = mine_is;
       }
 
   -- the turn's pass is the caller's
@@ -70,7 +70,7 @@ module _ {S A : Type 0} (key_of : A → Key) (Right : A → Type 0) where
         own_calls = ap (λ n. calls_by n own.before) (sym same.0.1) ∙ (own.own_calls ∙ same.2);
         at_its_place = own.at_its_place;
         seen = own.seen ∙ ap (λ n. own.before ++ (n, k') ∷ []) same.0.1;
-        mine = own.mine ∙ (ap (λ m. and_then m q k') same.2 ∙ ap (λ n. mine p ++ (n, k') ∷ []) same.0.1)
+        mine = own.mine ∙ (ap (λ m. and_then m q k') same.2 ∙ ap (λ n. mine p ++ (n, k') ∷ []) same.0.1);
       }
 
   pub claims_after : (p q : Seat (Option S) (View S (Call A))) (e : Event A) (place : ℕ) (r : Reply A) → number q ≡ number p → IsCall key_of Right p q e place r

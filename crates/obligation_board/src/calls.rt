@@ -57,7 +57,11 @@ where
     /// for its answer. Closed exactly where a close stands before, and Empty exactly where the board
     /// isn't closed and no such goal is present. A call for which there is no memory is an entry
     /// too, without effect.
-    pub fn claim<R: Wait>(&self, rt: &R, pass: &mut Pass<A>) -> Result<Receipt<Claimed<A>>, AllocError>
+    pub fn claim<R: Wait>(
+        &self,
+        rt: &R,
+        pass: &mut Pass<A>,
+    ) -> Result<Receipt<Claimed<A>>, AllocError>
         requires { IsPassOf self.now pass.old }
         ensures pass { StaysPassOf self.now pass.old pass.new }
         ensures call { IfOk result (λ r. IsCall (λ a. A.Q.key (A.asked a)) A.right pass.old pass.new claim r.place (claim_answer A.Q.key r.reply)) }

@@ -13,3 +13,6 @@ mod shared;
 
 pub use posted::Posted;
 pub use shared::{Pass, Receipt, SharedBoard};
+
+#[cfg(test)]
+mod tests;

@@ -43,21 +43,21 @@ module _ {A Q : Type 0} (key : Q → Key) (gives : Q → A → Type 0) where
   pub record AreRounds (deposits : ℕ) (calls : List (Call A)) : Type 0 where
     pub rounds : List (Round A Q)
     pub right : All IsRight rounds
-    pub calls : calls ≡ flat_map calls_of rounds
-    pub deposits : deposits ≡ sum_by deposits_of rounds
+    pub made : calls ≡ flat_map calls_of rounds
+    pub counted : deposits ≡ sum_by deposits_of rounds
 
   -- Rounds, and then an end. So every claim is deposited with the prover's answer for its question, but for at most one, at the end for want of memory; and the worker ended for a close exactly where its last claim was answered Closed
   pub record IsWork (ended : Ended) (deposits : ℕ) (calls : List (Call A)) : Type 0 where
     pub before : List (Call A)
     pub last : List (Call A)
-    pub calls : calls ≡ before ++ last
+    pub made : calls ≡ before ++ last
     pub rounds : AreRounds deposits before
     pub end : IsEnd ended last
 
   -- what a worker's try came to
   abbrev pub IsTry : Tried → List (Call A) → Type 0
-  IsTry tried.Deposited calls = (t : Ticket) × (q : Q) × (a : A) × (n : ℕ) × (calls ≡ calls_of (answered t q a n)) × (key q ≡ t.key) × gives q a
-  IsTry tried.Empty calls = calls ≡ calls_of no_question
+  IsTry tried.Deposited calls = (t : Ticket) × (q : Q) × (a : A) × (n : ℕ) × (calls ≡ record { event = claim; reply = claimed t } ∷ record { event = deposit t a; reply = deposited n } ∷ []) × (key q ≡ t.key) × gives q a
+  IsTry tried.Empty calls = calls ≡ record { event = claim; reply = was_empty } ∷ []
   IsTry (tried.Ended end) calls = IsEnd end calls
 
   -- what a claim came to
@@ -67,8 +67,8 @@ module _ {A Q : Type 0} (key : Q → Key) (gives : Q → A → Type 0) where
   IsSettled t (tried.Ended end.Closed) calls = ⊥
   IsSettled t (tried.Ended end.Memory) calls = calls ≡ record { event = give_back t; reply = given_back } ∷ []
 
--- where an answer was deposited, the pass had made fewer calls than a place can count
-abbrev pub HasRoom : {A : Type 0} → List (Entry A) → Tried → Type 0
-HasRoom mine tried.Deposited = length mine < 2 ^ 64
-HasRoom mine tried.Empty = ⊤
-HasRoom mine (tried.Ended end) = ⊤
+-- where an answer was deposited, a place can count so many calls
+abbrev pub HasRoom : ℕ → Tried → Type 0
+HasRoom calls tried.Deposited = calls < 2 ^ 64
+HasRoom calls tried.Empty = ⊤
+HasRoom calls (tried.Ended end) = ⊤

@@ -1,5 +1,5 @@
 //! One claim, and what becomes of it.
-ghost use Rattle.std.specs.Prelude.{◌≡◌, ◌++◌, List, IfOk};
+ghost use Rattle.std.specs.Prelude.{◌≡◌, ◌++◌, ◌+◌, List, length, IfOk};
 ghost use Rattle.std.specs.Arc.{arc_value};
 ghost use Rattle.turn_lock.specs.Lock.{mine, number};
 ghost use Rattle.board_core.specs.Board.{Call};
@@ -59,7 +59,7 @@ where
     requires held { Holds pass.old (ticket P.A.Q.key claim) }
     ensures pass { StaysPassOf board.now pass.old pass.new }
     ensures calls { (calls : List (Call P.A)) × (mine pass.new ≡ mine pass.old ++ made_by (number pass.old) calls) × IsSettled P.A.Q.key (P.gives prover.now) (ticket P.A.Q.key claim) result calls }
-    ensures room { HasRoom (mine pass.old) result }
+    ensures room { HasRoom (length (mine pass.old)) result }
 {
     gate.begin(claim.number());
     match answer(alloc, prover, claim.question()) {
@@ -89,7 +89,7 @@ where
     requires { IsPassOf board.now pass.old }
     ensures pass { StaysPassOf board.now pass.old pass.new }
     ensures calls { (calls : List (Call P.A)) × (mine pass.new ≡ mine pass.old ++ made_by (number pass.old) calls) × IsTry P.A.Q.key (P.gives prover.now) result calls }
-    ensures room { HasRoom (mine pass.new) result }
+    ensures room { HasRoom (length (mine pass.old) + 1) result }
 {
     let Ok(receipt) = board.claim(rt, pass) else {
         return Tried::Ended(Ended::Memory);

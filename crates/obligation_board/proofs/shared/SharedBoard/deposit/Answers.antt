@@ -1,7 +1,7 @@
-use Rattle.std.proofs.Common.{refl, sym, subst, ◌∙◌}
+use Rattle.std.proofs.Common.{sym, subst, ◌∙◌}
 use Rattle.std.specs.Prelude.{Contains}
 use Rattle.std.specs.Arc.{arc_value}
-use Rattle.board_core.specs.Board.{Call, deposit, deposited, give_back, given_back}
+use Rattle.board_core.specs.Board.{Call, deposit, deposited}
 use Rattle.board_core.specs.Handed.{ticket}
 use Rattle.board_core.specs.declared.claim.Claim.{Claim}
 use Rattle.obligation_board.specs.declared.posted.Posted.{Posted}
@@ -14,12 +14,12 @@ deposit-reply-requires-clause-out g c =
     let fit = c.enter-turn.ensures.fitting in
     let t = ticket g.A.Q.Question.key c.args.claim in
     subst (λ (x : Posted g.row.A.Denot g.row.A-Q.Denot). Contains x.board.out t) (c.enter-turn.ensures.turn.1 ∙ sym c.state-posted.ensures.value)
-      (is_out _ _ c.enter-turn.new.pass c.enter-turn.result.was.value.board fit.0 t fit.1.0 fit.1.2 (holds_in_turn c.args.pass.now c.enter-turn.new.pass t c.enter-turn.ensures.pass c.requires.held))
+    (is_out _ _ c.enter-turn.new.pass c.enter-turn.result.was.value.board fit.0 t fit.1.0 fit.1.2 (holds_in_turn c.args.pass.now c.enter-turn.new.pass t c.enter-turn.ensures.pass c.requires.held))
 
 pub finish_deposit-place-requires-clause-held : goal.finish_deposit-place-requires-clause-held
 finish_deposit-place-requires-clause-held g c =
     subst (λ (v : Claim g.row.A.Denot g.row.A-Q.Denot). Holds c.enter-turn.new.pass (ticket g.A.Q.Question.key v)) (sym c.of-claimed.ensures)
-      (holds_in_turn c.args.pass.now c.enter-turn.new.pass (ticket g.A.Q.Question.key c.args.claim) c.enter-turn.ensures.pass c.requires.held)
+    (holds_in_turn c.args.pass.now c.enter-turn.new.pass (ticket g.A.Q.Question.key c.args.claim) c.enter-turn.ensures.pass c.requires.held)
 
 pub returns-clause-call : goal.returns-clause-call
 returns-clause-call g c =
