@@ -21,7 +21,7 @@ tickets_left number key n (o ∷ os) = by_test (nat_eq (number o) n) (tickets_le
   where
     by_test : (b : Bool) → map (λ o. record { number = number o; key = key o }) (filter (λ o. not (nat_eq (number o) n)) os) ≡ without n (map (λ o. record { number = number o; key = key o }) os)
         → map (λ o. record { number = number o; key = key o }) (cond (not b) (o ∷ filter (λ o. not (nat_eq (number o) n)) os) (filter (λ o. not (nat_eq (number o) n)) os))
-          ≡ cond (not b) (record { number = number o; key = key o } ∷ without n (map (λ o. record { number = number o; key = key o }) os)) (without n (map (λ o. record { number = number o; key = key o }) os))
+        ≡ cond (not b) (record { number = number o; key = key o } ∷ without n (map (λ o. record { number = number o; key = key o }) os)) (without n (map (λ o. record { number = number o; key = key o }) os))
     by_test true r = r
     by_test false r = ap (λ ts. record { number = number o; key = key o } ∷ ts) r
 
@@ -32,9 +32,10 @@ number_turned m n h = false_from_ne_true (nat_eq n m) (λ e. let c : true ≡ fa
 same_tests : (ts : List Ticket) (t : Ticket) → IsDistinct bytes_eq (out_keys ts) → IsDistinct nat_eq (map (λ u. u.number) ts) → Contains ts t → AllByRecursion (λ d. bytes_eq t.key d.key ≡ nat_eq d.number t.number) ts
 unfolding IsDistinct
 same_tests [] t k n h = tt
-same_tests (x ∷ xs) t k n (zero, inside, at) =
-    (subst (λ (z : Ticket). bytes_eq z.key x.key ≡ nat_eq x.number z.number) at (key_itself x.key ∙ sym (eq-eqb x.number x.number refl)),
-      subst (λ (z : Ticket). AllByRecursion (λ d. bytes_eq z.key d.key ≡ nat_eq d.number z.number) xs) at (heads xs k.0 n.0))
+same_tests (x ∷ xs) t k n (zero, inside, at) = (
+  subst (λ (z : Ticket). bytes_eq z.key x.key ≡ nat_eq x.number z.number) at (key_itself x.key ∙ sym (eq-eqb x.number x.number refl)),
+  subst (λ (z : Ticket). AllByRecursion (λ d. bytes_eq z.key d.key ≡ nat_eq d.number z.number) xs) at (heads xs k.0 n.0),
+)
   where
     heads : (ds : List Ticket) → AllByRecursion (λ j. bytes_eq x.key j ≡ false) (out_keys ds) → AllByRecursion (λ m. nat_eq x.number m ≡ false) (map (λ u. u.number) ds) → AllByRecursion (λ d. bytes_eq x.key d.key ≡ nat_eq d.number x.number) ds
     heads [] e f = tt
@@ -121,9 +122,10 @@ module _ {A : Type 0} (key_of : A → Key) (Right : A → Type 0) where
   opened_kept s t places after ks h e f = (subst (IsSound A key_of Right) (sym e) (step_sound key_of Right s (open_keys ks) tt h.0), f ∙ h.1 ∙ sym (ap (λ u. out_keys u.out) e))
 
   pub claimed_kept : (s t : State A) (places after : List Key) (k : Key) → Kept s places → wanted s ≡ Some k → t ≡ with_claim s (Some k) → after ≡ places ++ k ∷ [] → Kept t after
-  claimed_kept s t places after k h w e f =
-      (subst (IsSound A key_of Right) (sym e) (claim_sound key_of Right s (Some k) w h.0),
-        f ∙ ap (λ ks. ks ++ k ∷ []) h.1 ∙ sym (map-last (λ u. u.key) s.out (record { number = s.next; key = k })) ∙ sym (ap (λ u. out_keys u.out) e))
+  claimed_kept s t places after k h w e f = (
+    subst (IsSound A key_of Right) (sym e) (claim_sound key_of Right s (Some k) w h.0),
+    f ∙ ap (λ ks. ks ++ k ∷ []) h.1 ∙ sym (map-last (λ u. u.key) s.out (record { number = s.next; key = k })) ∙ sym (ap (λ u. out_keys u.out) e),
+  )
 
   pub given_back_kept : (s t : State A) (places after : List Key) (c : Ticket) → Kept s places → Contains s.out c → t ≡ step s (give_back c) → after ≡ without_key c.key places → Kept t after
   given_back_kept s t places after c h out e f =

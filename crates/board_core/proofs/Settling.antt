@@ -31,10 +31,12 @@ answered A (e ∷ es) j k a h = by_test (bytes_eq j e.0) refl h (answered A es j
     no_other : (b : Bool) → bytes_eq k e.0 ≡ true → bytes_eq k j ≡ b → bytes_eq j e.0 ≡ false → Some e.1 ≡ cond b (Some a) (Some e.1)
     no_other true here there apart = let c : false ≡ true = sym apart ∙ sym (ap (λ i. bytes_eq i e.0) (same_key k j there)) ∙ here in absurd cc
     no_other false here there apart = refl
+
     by_key : (b : Bool) → bytes_eq k e.0 ≡ b → bytes_eq j e.0 ≡ false → kept_at (es ++ (j, a) ∷ []) k ≡ cond (bytes_eq k j) (Some a) (kept_at es k)
         → option_map {T = Key × A} (λ p. p.1) (cond b (Some e) (find (λ p. bytes_eq k p.0) (es ++ (j, a) ∷ []))) ≡ cond (bytes_eq k j) (Some a) (option_map {T = Key × A} (λ p. p.1) (cond b (Some e) (find (λ p. bytes_eq k p.0) es)))
     by_key true here apart rest = no_other (bytes_eq k j) here refl apart
     by_key false here apart rest = rest
+
     by_test : (b : Bool) → bytes_eq j e.0 ≡ b → (b || is_among (kept_keys es) j) ≡ false → (is_among (kept_keys es) j ≡ false → kept_at (es ++ (j, a) ∷ []) k ≡ cond (bytes_eq k j) (Some a) (kept_at es k))
         → kept_at (e ∷ es ++ (j, a) ∷ []) k ≡ cond (bytes_eq k j) (Some a) (kept_at (e ∷ es) k)
     by_test true apart f rest = let c : true ≡ false = f in absurd cc
@@ -55,7 +57,8 @@ module _ {A : Type 0} (key_of : A → Key) (Right : A → Type 0) where
   pub claims_settle_by_key : ClaimsSettleByKey A key_of Right
   claims_settle_by_key h ks t a k legal stands =
       let sound : IsSound A key_of Right (step (replay h) (open_keys ks)) = step_sound key_of Right (replay h) (open_keys ks) tt (histories_sound key_of Right h legal) in
-      let alone = out_item (λ j. is_among (kept_keys (step (replay h) (open_keys ks)).kept) j ≡ false) (replay h).out t sound.out_or_kept stands.0 in
-      (stands,
+      let alone = out_item (λ j. is_among (kept_keys (step (replay h) (open_keys ks)).kept) j ≡ false) (replay h).out t sound.out_or_kept stands.0 in (
+        stands,
         ap (λ b. kept_at (cond b (step (replay h) (open_keys ks)).kept ((step (replay h) (open_keys ks)).kept ++ (t.key, a) ∷ [])) k) alone
-          ∙ answered A (step (replay h) (open_keys ks)).kept t.key k a alone)
+            ∙ answered A (step (replay h) (open_keys ks)).kept t.key k a alone,
+      )

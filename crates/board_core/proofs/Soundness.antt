@@ -27,9 +27,10 @@ lower_is_other m n h = false_from_ne_true (nat_eq m n) (λ e. let same : m ≡ n
 other_key : (cs : List Ticket) (c : Ticket) → IsDistinct bytes_eq (out_keys cs) → Contains cs c → AllByRecursion (λ d. nat_eq d.number c.number ≡ false → bytes_eq d.key c.key ≡ false) cs
 unfolding IsDistinct
 other_key [] c h k = tt
-other_key (x ∷ xs) c h (zero, inside, at) =
-    (λ e. let same : nat_eq x.number c.number ≡ true = eq-eqb x.number c.number (ap (λ d. d.number) at) in absurd cc,
-      weaken _ _ xs (λ d e n. turned c.key d.key (subst (λ (z : Ticket). bytes_eq z.key d.key ≡ false) at e)) (under_map _ (λ d. d.key) xs h.0))
+other_key (x ∷ xs) c h (zero, inside, at) = (
+  λ e. let same : nat_eq x.number c.number ≡ true = eq-eqb x.number c.number (ap (λ d. d.number) at) in absurd cc,
+  weaken _ _ xs (λ d e n. turned c.key d.key (subst (λ (z : Ticket). bytes_eq z.key d.key ≡ false) at e)) (under_map _ (λ d. d.key) xs h.0),
+)
 other_key (x ∷ xs) c h (suc i, inside, at) = (λ e. subst (λ (z : Ticket). bytes_eq x.key z.key ≡ false) at (item_at (λ (z : Ticket). bytes_eq x.key z.key ≡ false) xs i c (omega arith) (under_map _ (λ d. d.key) xs h.0)), other_key xs c h.1 (i, omega arith, at))
 
 module _ {A : Type 0} (key_of : A → Key) (Right : A → Type 0) where
@@ -42,7 +43,7 @@ module _ {A : Type 0} (key_of : A → Key) (Right : A → Type 0) where
     numbers = h.numbers;
     below = h.below;
     kept_once = distinct_filter bytes_eq (λ e. e.0) t s.kept h.kept_once;
-    right = kept_by_filter _ t s.kept h.right
+    right = kept_by_filter _ t s.kept h.right;
   }
   fewer_kept t false s ks v h = record { out_once = h.out_once; out_or_kept = h.out_or_kept; numbers = h.numbers; below = h.below; kept_once = h.kept_once; right = h.right }
 
@@ -53,14 +54,14 @@ module _ {A : Type 0} (key_of : A → Key) (Right : A → Type 0) where
       let free = neither _ _ (found_passes (λ j. not (is_among (kept_keys s.kept) j || is_among (out_keys s.out) j)) s.present k e) in
       record {
         out_once = subst (IsDistinct bytes_eq) (sym (map-last (λ c. c.key) s.out (record { number = s.next; key = k })))
-          (distinct_last bytes_eq (out_keys s.out) k h.out_once (weaken _ _ (out_keys s.out) (λ y d. turned k y d) (none_passes (bytes_eq k) (out_keys s.out) free.1)));
+            (distinct_last bytes_eq (out_keys s.out) k h.out_once (weaken _ _ (out_keys s.out) (λ y d. turned k y d) (none_passes (bytes_eq k) (out_keys s.out) free.1)));
         out_or_kept = subst (AllByRecursion (λ j. IsFalse (is_among (kept_keys s.kept) j))) (sym (map-last (λ c. c.key) s.out (record { number = s.next; key = k })))
-          (with_last _ (out_keys s.out) k h.out_or_kept free.0);
+            (with_last _ (out_keys s.out) k h.out_or_kept free.0);
         numbers = subst (IsDistinct nat_eq) (sym (map-last (λ c. c.number) s.out (record { number = s.next; key = k })))
-          (distinct_last nat_eq (map (λ c. c.number) s.out) s.next h.numbers (over_map _ (λ c. c.number) s.out (weaken _ _ s.out (λ c b. lower_is_other c.number s.next b) h.below)));
+            (distinct_last nat_eq (map (λ c. c.number) s.out) s.next h.numbers (over_map _ (λ c. c.number) s.out (weaken _ _ s.out (λ c b. lower_is_other c.number s.next b) h.below)));
         below = with_last _ s.out (record { number = s.next; key = k }) (weaken _ _ s.out (λ c b. omega arith) h.below) (omega arith);
         kept_once = h.kept_once;
-        right = h.right
+        right = h.right;
       }
 
   unless_closed : (b : Bool) (s t : State A) → IsSound A key_of Right s → IsSound A key_of Right t → IsSound A key_of Right (cond b s t)
@@ -75,7 +76,7 @@ module _ {A : Type 0} (key_of : A → Key) (Right : A → Type 0) where
     numbers = distinct_filter nat_eq (λ d. d.number) (λ d. not (nat_eq d.number c.number)) s.out h.numbers;
     below = kept_by_filter _ _ s.out h.below;
     kept_once = h.kept_once;
-    right = h.right
+    right = h.right;
   }
 
   -- of those that stay no key is the one that left
@@ -100,8 +101,8 @@ module _ {A : Type 0} (key_of : A → Key) (Right : A → Type 0) where
     numbers = h.numbers;
     below = h.below;
     kept_once = subst (IsDistinct bytes_eq) (sym (map-last (λ e. e.0) s.kept (k, a)))
-      (distinct_last bytes_eq (kept_keys s.kept) k h.kept_once (weaken _ _ (kept_keys s.kept) (λ y d. turned k y d) (none_passes (bytes_eq k) (kept_keys s.kept) e)));
-    right = with_last _ s.kept (k, a) h.right (has, right)
+        (distinct_last bytes_eq (kept_keys s.kept) k h.kept_once (weaken _ _ (kept_keys s.kept) (λ y d. turned k y d) (none_passes (bytes_eq k) (kept_keys s.kept) e)));
+    right = with_last _ s.kept (k, a) h.right (has, right);
   }
 
   pub step_sound : EventsKeepSound A key_of Right
@@ -109,7 +110,7 @@ module _ {A : Type 0} (key_of : A → Key) (Right : A → Type 0) where
   step_sound s claim m h = unless_closed s.closed s (with_claim s (wanted s)) h (claim_sound s (wanted s) refl h)
   step_sound s (deposit c a) m h =
       answer_sound (record s { out = without c.number s.out }) c.key a (is_among (kept_keys s.kept) c.key) refl (without_sound s c h)
-        (left_apart c s.out (other_key s.out c h.out_once m.0)) m.1 m.2
+      (left_apart c s.out (other_key s.out c h.out_once m.0)) m.1 m.2
   step_sound s (give_back c) m h = without_sound s c h
   step_sound s look m h = h
   step_sound s gather m h = h

@@ -19,7 +19,7 @@ module _ {A Q : Type 0} (key : Q → Key) where
     out = tickets b.out.items;
     next = b.next;
     version = b.version;
-    closed = b.closed
+    closed = b.closed;
   }
 
   -- the state is sound, and the places without an answer in the cache are those of the keys out

@@ -36,7 +36,7 @@ module _ (A : Type 0) (key_of : A → Key) (Right : A → Type 0) where
   abbrev pub ClaimsSettleByKey : Type 0
   ClaimsSettleByKey = (h : List (Entry A)) (ks : List Key) (t : Ticket) (a : A) (k : Key) → Legal A key_of Right h → MayStand key_of Right (replay h) (deposit t a)
       → let o = step (replay h) (open_keys ks) in
-        MayStand key_of Right o (deposit t a) × (kept_at (step o (deposit t a)).kept k ≡ cond (bytes_eq k t.key) (Some a) (kept_at o.kept k))
+      MayStand key_of Right o (deposit t a) × (kept_at (step o (deposit t a)).kept k ≡ cond (bytes_eq k t.key) (Some a) (kept_at o.kept k))
 
   -- a claim that a caller holds by its own calls was given to it, and is out
   abbrev pub HeldAreOut : Type 0

@@ -9,6 +9,8 @@ mod board;
 mod call;
 mod claim;
 mod laws;
+#[cfg(test)]
+mod tests;
 
 pub use board::Board;
 pub use call::Call;

@@ -73,7 +73,7 @@ module _ {A : Type 0} (key_of : A → Key) (Right : A → Type 0) where
     room = omega (arith, length-append c.places (k ∷ []));
     apart = distinct_last bytes_eq c.places k h.apart (weaken _ _ c.places (λ j e. turned k j e) (none_passes (bytes_eq k) c.places alone));
     waits = with_last _ c.places k h.waits free;
-    right = h.right
+    right = h.right;
   }
 
   -- a place is taken away
@@ -82,7 +82,7 @@ module _ {A : Type 0} (key_of : A → Key) (Right : A → Type 0) where
     room = omega (arith, no_longer k c.places, h.room);
     apart = distinct_without k c.places h.apart;
     waits = kept_by_filter _ _ c.places h.waits;
-    right = h.right
+    right = h.right;
   }
 
   -- an answer takes the place
@@ -94,7 +94,7 @@ module _ {A : Type 0} (key_of : A → Key) (Right : A → Type 0) where
         room = omega (arith, shorter k c.places there, h.room);
         apart = less.apart;
         waits = weaken _ _ (without_key k c.places) (λ j p. among_more c.kept j k a p.0 p.1) (both _ _ (without_key k c.places) less.waits (others_differ k c.places));
-        right = with_last _ c.kept (k, a) h.right (has, right)
+        right = with_last _ c.kept (k, a) h.right (has, right);
       }
 
   -- fewer answers are kept
@@ -106,6 +106,6 @@ module _ {A : Type 0} (key_of : A → Key) (Right : A → Type 0) where
         room = omega (arith, h.room);
         apart = h.apart;
         waits = weaken _ _ c.places (λ k e. among_fewer (λ e. is_among present e.0) c.kept k e) h.waits;
-        right = kept_by_filter _ (λ e. is_among present e.0) c.kept h.right
+        right = kept_by_filter _ (λ e. is_among present e.0) c.kept h.right;
       }
       by_test false = record { room = omega (arith, h.room); apart = h.apart; waits = h.waits; right = h.right }

@@ -28,11 +28,11 @@ module _ {V W A : Type 0} (bytes : V → Key) (value : W → A) (ks : List (Bor 
   size_same [] = refl
   size_same (e ∷ es) =
       ap (λ b. sum_by (λ d. length (bytes d.0)) (cond (not b) (e ∷ filter (λ d. not (is_present ks (bytes d.0))) es) (filter (λ d. not (is_present ks (bytes d.0))) es))) (same (bytes e.0))
-        ∙ by_test (is_among present (bytes e.0)) (size_same es)
+      ∙ by_test (is_among present (bytes e.0)) (size_same es)
     where
       by_test : (b : Bool) → absent_size bytes ks es ≡ absent_bytes present (shown bytes value es)
           → sum_by (λ d. length (bytes d.0)) (cond (not b) (e ∷ filter (λ d. not (is_present ks (bytes d.0))) es) (filter (λ d. not (is_present ks (bytes d.0))) es))
-            ≡ sum_by (λ d. length d.0) (cond (not b) ((bytes e.0, value e.1) ∷ filter (λ d. not (is_among present d.0)) (shown bytes value es)) (filter (λ d. not (is_among present d.0)) (shown bytes value es)))
+          ≡ sum_by (λ d. length d.0) (cond (not b) ((bytes e.0, value e.1) ∷ filter (λ d. not (is_among present d.0)) (shown bytes value es)) (filter (λ d. not (is_among present d.0)) (shown bytes value es)))
       by_test true r = r
       by_test false r = sum_by-cons (λ d. length (bytes d.0)) e (filter (λ d. not (is_present ks (bytes d.0))) es) ∙ ap (λ n. length (bytes e.0) + n) r ∙ sym (sum_by-cons (λ d. length d.0) (bytes e.0, value e.1) (filter (λ d. not (is_among present d.0)) (shown bytes value es)))
 
@@ -40,11 +40,11 @@ module _ {V W A : Type 0} (bytes : V → Key) (value : W → A) (ks : List (Bor 
   shown_filter [] = refl
   shown_filter (e ∷ es) =
       ap (λ b. shown bytes value (cond b (e ∷ filter (λ d. is_present ks (bytes d.0)) es) (filter (λ d. is_present ks (bytes d.0)) es))) (same (bytes e.0))
-        ∙ by_test (is_among present (bytes e.0)) (shown_filter es)
+      ∙ by_test (is_among present (bytes e.0)) (shown_filter es)
     where
       by_test : (b : Bool) → shown bytes value (filter (λ d. is_present ks (bytes d.0)) es) ≡ filter (λ d. is_among present d.0) (shown bytes value es)
           → shown bytes value (cond b (e ∷ filter (λ d. is_present ks (bytes d.0)) es) (filter (λ d. is_present ks (bytes d.0)) es))
-            ≡ cond b ((bytes e.0, value e.1) ∷ filter (λ d. is_among present d.0) (shown bytes value es)) (filter (λ d. is_among present d.0) (shown bytes value es))
+          ≡ cond b ((bytes e.0, value e.1) ∷ filter (λ d. is_among present d.0) (shown bytes value es)) (filter (λ d. is_among present d.0) (shown bytes value es))
       by_test true r = ap (λ l. (bytes e.0, value e.1) ∷ l) r
       by_test false r = r
 

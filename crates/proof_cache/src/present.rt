@@ -41,10 +41,7 @@ fn size_of_absent<T>(kept: &IndexMap<Vec<u8>, T>, present: &IndexSet<&[u8]>) -> 
 }
 
 // Drops the entries whose keys are not present.
-fn drop_absent<T: Drop>(
-    kept: &mut IndexMap<Vec<u8>, T>,
-    present: &IndexSet<&[u8]>,
-)
+fn drop_absent<T: Drop>(kept: &mut IndexMap<Vec<u8>, T>, present: &IndexSet<&[u8]>)
     ensures entries { kept.new.entries ≡ filter (λ e. is_present present.now.keys e.0.items) kept.old.entries }
     ensures room { spare kept.old ≤ spare kept.new }
 {

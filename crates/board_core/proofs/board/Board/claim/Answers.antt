@@ -15,31 +15,32 @@ invariant_of-self-2 g c =
     let own : g.A.Q.Question.key (arc_value c.in_ok-question.question) ≡ g.A.Q.Question.key (arc_value c.in-Some.wanted.now) = ap g.A.Q.Question.key c.in_ok-question.ensures.cases in
     let held : g.A.Q.Question.key (arc_value c.in_ok-clone.field-0) ≡ g.A.Q.Question.key (arc_value c.in-Some.wanted.now) = ap g.A.Q.Question.key c.in_ok-clone.ensures.cases in
     let found : find (λ k. not (has_place c.self.inside.cache k)) (map (λ q. g.A.Q.Question.key (arc_value q)) c.self.inside.present.items) ≡ Some (g.A.Q.Question.key (arc_value c.in-Some.wanted.now)) =
-        ap (λ qs. find (λ k. not (has_place c.self.inside.cache k)) (map (λ q. g.A.Q.Question.key (arc_value q)) qs)) (sym c.deref.ensures.value) ∙ sym c.first_without_place.ensures ∙ ap (option_map (λ q. g.A.Q.Question.key (arc_value q.now))) c.in-Some.is in
+    ap (λ qs. find (λ k. not (has_place c.self.inside.cache k)) (map (λ q. g.A.Q.Question.key (arc_value q)) qs)) (sym c.deref.ensures.value) ∙ sym c.first_without_place.ensures ∙ ap (option_map (λ q. g.A.Q.Question.key (arc_value q.now))) c.in-Some.is in
     let first = sym (wanted_place (λ a. g.A.Q.Question.key (g.A.Answered.asked a)) g.A.Answered.right (state_of g.A.Q.Question.key c.self.inside) c.self.inside.cache.places c.self.invariant.1) ∙ found in
     let free = passes_not (has_place c.self.inside.cache (g.A.Q.Question.key (arc_value c.in-Some.wanted.now))) (found_passes (λ k. not (has_place c.self.inside.cache k)) (map (λ q. g.A.Q.Question.key (arc_value q)) c.self.inside.present.items) (g.A.Q.Question.key (arc_value c.in-Some.wanted.now)) found) in
     let cache : c.place.new.self ≡ record c.self.inside.cache { places = c.self.inside.cache.places ++ g.A.Q.Question.key (arc_value c.in-Some.wanted.now) ∷ [] } =
-        c.in_default-place.ensures.placed ∙ ap (with_place c.self.inside.cache) own ∙ ap (λ b. cond b c.self.inside.cache (record c.self.inside.cache { places = c.self.inside.cache.places ++ g.A.Q.Question.key (arc_value c.in-Some.wanted.now) ∷ [] })) free in
+    c.in_default-place.ensures.placed ∙ ap (with_place c.self.inside.cache) own ∙ ap (λ b. cond b c.self.inside.cache (record c.self.inside.cache { places = c.self.inside.cache.places ++ g.A.Q.Question.key (arc_value c.in-Some.wanted.now) ∷ [] })) free in
     let out : tickets g.A.Q.Question.key c.push.new.self.items ≡ tickets g.A.Q.Question.key c.self.inside.out.items ++ record { number = c.self.inside.next; key = g.A.Q.Question.key (arc_value c.in-Some.wanted.now) } ∷ [] =
-        ap (tickets g.A.Q.Question.key) c.in_ok-push.ensures.items ∙ map-last _ c.self.inside.out.items _ ∙ (λ i. tickets g.A.Q.Question.key c.self.inside.out.items ++ record { number = c.self.inside.next; key = held i } ∷ []) in
+    ap (tickets g.A.Q.Question.key) c.in_ok-push.ensures.items ∙ map-last _ c.self.inside.out.items _ ∙ (λ i. tickets g.A.Q.Question.key c.self.inside.out.items ++ record { number = c.self.inside.next; key = held i } ∷ []) in
     claimed_kept (λ a. g.A.Q.Question.key (g.A.Answered.asked a)) g.A.Answered.right (state_of g.A.Q.Question.key c.self.inside) _ c.self.inside.cache.places _ (g.A.Q.Question.key (arc_value c.in-Some.wanted.now)) c.self.invariant first
-      (λ i. record { present = map (λ q. g.A.Q.Question.key (arc_value q)) c.self.inside.present.items; kept = (cache i).kept; out = out i; next = c.self.inside.next + 1; version = c.self.inside.version; closed = c.self.inside.closed })
-      (ap (λ s. s.places) cache)
+    (λ i. record { present = map (λ q. g.A.Q.Question.key (arc_value q)) c.self.inside.present.items; kept = (cache i).kept; out = out i; next = c.self.inside.next + 1; version = c.self.inside.version; closed = c.self.inside.closed })
+    (ap (λ s. s.places) cache)
 
 pub returns-clause-step : goal.returns-clause-step
 returns-clause-step g c =
     let own : g.A.Q.Question.key (arc_value c.in_ok-question.question) ≡ g.A.Q.Question.key (arc_value c.in-Some.wanted.now) = ap g.A.Q.Question.key c.in_ok-question.ensures.cases in
     let held : g.A.Q.Question.key (arc_value c.in_ok-clone.field-0) ≡ g.A.Q.Question.key (arc_value c.in-Some.wanted.now) = ap g.A.Q.Question.key c.in_ok-clone.ensures.cases in
     let found : find (λ k. not (has_place c.self.inside.cache k)) (map (λ q. g.A.Q.Question.key (arc_value q)) c.self.inside.present.items) ≡ Some (g.A.Q.Question.key (arc_value c.in-Some.wanted.now)) =
-        ap (λ qs. find (λ k. not (has_place c.self.inside.cache k)) (map (λ q. g.A.Q.Question.key (arc_value q)) qs)) (sym c.deref.ensures.value) ∙ sym c.first_without_place.ensures ∙ ap (option_map (λ q. g.A.Q.Question.key (arc_value q.now))) c.in-Some.is in
+    ap (λ qs. find (λ k. not (has_place c.self.inside.cache k)) (map (λ q. g.A.Q.Question.key (arc_value q)) qs)) (sym c.deref.ensures.value) ∙ sym c.first_without_place.ensures ∙ ap (option_map (λ q. g.A.Q.Question.key (arc_value q.now))) c.in-Some.is in
     let first = sym (wanted_place (λ a. g.A.Q.Question.key (g.A.Answered.asked a)) g.A.Answered.right (state_of g.A.Q.Question.key c.self.inside) c.self.inside.cache.places c.self.invariant.1) ∙ found in
     let free = passes_not (has_place c.self.inside.cache (g.A.Q.Question.key (arc_value c.in-Some.wanted.now))) (found_passes (λ k. not (has_place c.self.inside.cache k)) (map (λ q. g.A.Q.Question.key (arc_value q)) c.self.inside.present.items) (g.A.Q.Question.key (arc_value c.in-Some.wanted.now)) found) in
     let cache : c.place.new.self ≡ record c.self.inside.cache { places = c.self.inside.cache.places ++ g.A.Q.Question.key (arc_value c.in-Some.wanted.now) ∷ [] } =
-        c.in_default-place.ensures.placed ∙ ap (with_place c.self.inside.cache) own ∙ ap (λ b. cond b c.self.inside.cache (record c.self.inside.cache { places = c.self.inside.cache.places ++ g.A.Q.Question.key (arc_value c.in-Some.wanted.now) ∷ [] })) free in
+    c.in_default-place.ensures.placed ∙ ap (with_place c.self.inside.cache) own ∙ ap (λ b. cond b c.self.inside.cache (record c.self.inside.cache { places = c.self.inside.cache.places ++ g.A.Q.Question.key (arc_value c.in-Some.wanted.now) ∷ [] })) free in
     let out : tickets g.A.Q.Question.key c.push.new.self.items ≡ tickets g.A.Q.Question.key c.self.inside.out.items ++ record { number = c.self.inside.next; key = g.A.Q.Question.key (arc_value c.in-Some.wanted.now) } ∷ [] =
-        ap (tickets g.A.Q.Question.key) c.in_ok-push.ensures.items ∙ map-last _ c.self.inside.out.items _ ∙ (λ i. tickets g.A.Q.Question.key c.self.inside.out.items ++ record { number = c.self.inside.next; key = held i } ∷ []) in
-    rw (← c.self.view_is)
-      ((λ i. record { present = map (λ q. g.A.Q.Question.key (arc_value q)) c.self.inside.present.items; kept = (cache i).kept; out = out i; next = c.self.inside.next + 1; version = c.self.inside.version; closed = c.self.inside.closed })
+    ap (tickets g.A.Q.Question.key) c.in_ok-push.ensures.items ∙ map-last _ c.self.inside.out.items _ ∙ (λ i. tickets g.A.Q.Question.key c.self.inside.out.items ++ record { number = c.self.inside.next; key = held i } ∷ []) in
+    rw (← c.self.view_is) (
+      (λ i. record { present = map (λ q. g.A.Q.Question.key (arc_value q)) c.self.inside.present.items; kept = (cache i).kept; out = out i; next = c.self.inside.next + 1; version = c.self.inside.version; closed = c.self.inside.closed })
           ∙ (λ i. with_claim (state_of g.A.Q.Question.key c.self.inside) (sym first i)) ∙ sym (ap (λ b. cond b (state_of g.A.Q.Question.key c.self.inside) (with_claim (state_of g.A.Q.Question.key c.self.inside) (wanted (state_of g.A.Q.Question.key c.self.inside)))) c.if-self.false),
-        (λ i. claimed (record { number = c.self.inside.next; key = own i }))
-          ∙ (λ i. claim_reply (state_of g.A.Q.Question.key c.self.inside) (sym first i)) ∙ sym (ap (λ b. cond b was_closed (claim_reply (state_of g.A.Q.Question.key c.self.inside) (wanted (state_of g.A.Q.Question.key c.self.inside)))) c.if-self.false))
+      (λ i. claimed (record { number = c.self.inside.next; key = own i }))
+          ∙ (λ i. claim_reply (state_of g.A.Q.Question.key c.self.inside) (sym first i)) ∙ sym (ap (λ b. cond b was_closed (claim_reply (state_of g.A.Q.Question.key c.self.inside) (wanted (state_of g.A.Q.Question.key c.self.inside)))) c.if-self.false),
+    )
