@@ -1,20 +1,20 @@
 -- Rounds of a worker, one after another.
-use Rattle.std.proofs.Common.{◌≡◌, ◌⊎◌, inr, ℕ, ◌+◌, ◌<◌, ◌≤◌, ◌==◌, Bool, true, false, cond, List, [], ◌∷◌, ◌++◌, map, length, refl, sym, ap, ◌∙◌, subst, append_assoc, length-append, arith}
+use Rattle.std.proofs.Common.{◌≡◌, ◌⊎◌, inr, ℕ, ◌+◌, ◌<◌, ◌≤◌, ◌==◌, Bool, true, false, cond, List, [], ◌∷◌, ◌++◌, map, length, refl, sym, ap, ◌∙◌, subst, append_assoc, length-append, length-map, Option, Result, Ok, Err, arith}
 use Rattle.std.specs.Prelude.{All}
 use Rattle.std.specs.List.{flat_map, sum_by}
-use Rattle.std.proofs.lemmas.Grind.{flat_map-append}
-use Rattle.std.proofs.lemmas.List.{map-append}
+use Rattle.std.proofs.lemmas.List.{map-append, flat_map_more}
 use Rattle.std.proofs.lemmas.List.Sums.{sum_by-append}
-use Rattle.std.proofs.lemmas.List.Concat.{length-flat_map}
 use Rattle.std.proofs.lemmas.List.Elements.{All-push}
 use Rattle.turn_lock.specs.History.{calls_by}
-use Rattle.board_core.specs.Board.{Ticket, claim, claimed, Call}
+use Rattle.board_core.specs.Board.{Ticket, Event, Reply, claim, claimed, Call}
 use Rattle.board_core.specs.History.{Entry}
 use Rattle.proof_cache.specs.Kept.{Key}
-use Rattle.proof_workers.specs.Rounds.{made_by, Round, no_question, answered, calls_of, deposits_of, IsRight, AreRounds, IsTry, IsSettled}
-use Rattle.proof_workers.specs.declared.worker.Ended.TheVariants as end
-use Rattle.proof_workers.specs.declared.round.Tried.{Tried}
-use Rattle.proof_workers.specs.declared.round.Tried.TheVariants as tried
+use Rattle.proof_workers.specs.Rounds.{made_by, Round, no_question, answered, calls_of, deposits_of, IsRight, IsEnd, AreRounds, IsTry, IsSettled}
+use Rattle.proof_workers.specs.declared.worker.Ended.{Ended}
+use Rattle.atomic_table.specs.declared.shared.Seat.{Seat}
+use Rattle.turn_lock.specs.declared.rule.View.{View}
+use Rattle.turn_lock.specs.Lock.{number, mine}
+use Rattle.obligation_board.specs.Calls.{IsCall}
 
 -- a pass made no more calls than all passes did
 pub no_more : {A : Type 0} (by : ℕ) (h : List (Entry A)) → length (calls_by by h) ≤ length h
@@ -31,14 +31,14 @@ made_more n m m' m'' cs ds p q = q ∙ (ap (λ l. l ++ made_by n ds) p ∙ (appe
 
 module _ {A Q : Type 0} (key : Q → Key) (gives : Q → A → Type 0) where
   pub no_rounds : AreRounds key gives 0 []
-  no_rounds = record { rounds = []; right = ?; made = refl; counted = refl }
+  no_rounds = record { rounds = []; right = λ k d less. absurd (omega arith); made = refl; counted = refl }
 
   pub one_round : (r : Round A Q) (d d' : ℕ) (cs : List (Call A)) → IsRight key gives r → d' ≡ d + deposits_of r → AreRounds key gives d cs → AreRounds key gives d' (cs ++ calls_of r)
   one_round r d d' cs right is h = record {
     rounds = h.rounds ++ r ∷ [];
     right = All-push (IsRight key gives) h.rounds r h.right right;
-    made = ap (λ l. l ++ calls_of r) h.made ∙ ?;
-    counted = ?
+    made = ap (λ l. l ++ calls_of r) h.made ∙ flat_map_more calls_of [] h.rounds r;
+    counted = let more = sum_by-append deposits_of h.rounds (r ∷ []) in let was = h.counted in omega arith
   }
 
   few : (r : Round A Q) → deposits_of r ≤ length (calls_of r)
@@ -47,15 +47,34 @@ module _ {A Q : Type 0} (key : Q → Key) (gives : Q → A → Type 0) where
 
   few_each : (rs : List (Round A Q)) → sum_by deposits_of rs ≤ length (flat_map calls_of rs)
   few_each [] = omega arith
-  few_each (r ∷ rs) = let f = few r in let g = few_each rs in ?
+  few_each (r ∷ rs) = let f = few r in let g = few_each rs in let s = sum_by-append deposits_of (r ∷ []) rs in let l = length-append (calls_of r) (flat_map calls_of rs) in omega arith
 
   -- there are no more deposits than calls
   pub few_deposits : (d : ℕ) (cs : List (Call A)) → AreRounds key gives d cs → d ≤ length cs
   few_deposits d cs h = let f = few_each h.rounds in subst (λ (l : List (Call A)). d ≤ length l) (sym h.made) (subst (λ n. n ≤ length (flat_map calls_of h.rounds)) (sym h.counted) f)
 
--- a claim that came to this is a try that came to this
-pub settled_try : {A Q : Type 0} (key : Q → Key) (gives : Q → A → Type 0) (t : Ticket) (r : Tried) (ds : List (Call A)) → IsSettled key gives t r ds → IsTry key gives r (record { event = claim; reply = claimed t } ∷ ds)
-settled_try key gives t tried.Deposited ds h = (t, h.0, h.1, h.2, ap (λ l. record { event = claim; reply = claimed t } ∷ l) h.3, h.4, h.5)
-settled_try key gives t tried.Empty ds h = absurd h
-settled_try key gives t (tried.Ended end.Closed) ds h = absurd h
-settled_try key gives t (tried.Ended end.Memory) ds h = inr (t, ap (λ l. record { event = claim; reply = claimed t } ∷ l) h)
+  -- so one more deposit can be counted where a place can count the calls
+  pub fits : (n d more most : ℕ) (m m' : List (Entry A)) (cs : List (Call A)) → m' ≡ m ++ made_by n cs → AreRounds key gives d cs → length m' + more < most → d + more < most
+  fits n d more most m m' cs is rounds less =
+      let f = few_deposits d cs rounds in
+      let a : length m' ≡ length (m ++ made_by n cs) = ap length is in
+      let b = length-append m (made_by n cs) in
+      let c : length (made_by n cs) ≡ length cs = length-map (λ (k : Call A). (n, k)) cs in
+      omega arith
+
+  -- what became of a claim, after the claim
+  pub after_claim : (t : Ticket) (r : Result ℕ Ended) (ds : List (Call A)) → IsSettled key gives t r ds → IsTry key gives r (record { event = claim; reply = claimed t } ∷ ds)
+  after_claim t (Ok d) ds h = (answered t h.0 h.1 h.2, (h.5, h.6), ap (λ l. record { event = claim; reply = claimed t } ∷ l) h.4, h.3)
+  after_claim t (Err e) ds h = subst (λ x. IsEnd x (record { event = claim; reply = claimed t } ∷ ds)) (sym h.0) (inr (t, ap (λ l. record { event = claim; reply = claimed t } ∷ l) h.1))
+
+  -- one claim more after some rounds
+  pub rounds_more : (d d' : ℕ) (cs ds : List (Call A)) → AreRounds key gives d cs → IsTry key gives (Ok d') ds → AreRounds key gives (d + d') (cs ++ ds)
+  rounds_more d d' cs ds h t = subst (λ l. AreRounds key gives (d + d') (cs ++ l)) (sym t.2) (one_round t.0 d (d + d') cs t.1 (ap (λ n. d + n) t.3) h)
+
+-- the pass has made no more calls than the place of its next one
+pub few_own : {S A : Type 0} (key_of : A → Key) (Right : A → Type 0) (p q : Seat (Option S) (View S (Call A))) (e : Event A) (place : ℕ) (r : Reply A) → IsCall key_of Right p q e place r → length (mine p) ≤ place
+few_own key_of Right p q e place r call =
+    let few = no_more (number p) call.before in
+    let own : length (calls_by (number p) call.before) ≡ length (mine p) = ap length call.own_calls in
+    let at = call.at_its_place in
+    omega arith

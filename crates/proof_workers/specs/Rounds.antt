@@ -6,8 +6,6 @@ use Rattle.board_core.specs.Board.{Ticket, claim, deposit, give_back, no_memory,
 use Rattle.board_core.specs.History.{Entry}
 use Rattle.proof_workers.specs.declared.worker.Ended.{Ended}
 use Rattle.proof_workers.specs.declared.worker.Ended.TheVariants as end
-use Rattle.proof_workers.specs.declared.round.Tried.{Tried}
-use Rattle.proof_workers.specs.declared.round.Tried.TheVariants as tried
 
 -- the calls of a pass with this number
 abbrev pub made_by : {A : Type 0} → ℕ → List (Call A) → List (Entry A)
@@ -54,21 +52,12 @@ module _ {A Q : Type 0} (key : Q → Key) (gives : Q → A → Type 0) where
     pub rounds : AreRounds deposits before
     pub end : IsEnd ended last
 
-  -- what a worker's try came to
-  abbrev pub IsTry : Tried → List (Call A) → Type 0
-  IsTry tried.Deposited calls = (t : Ticket) × (q : Q) × (a : A) × (n : ℕ) × (calls ≡ record { event = claim; reply = claimed t } ∷ record { event = deposit t a; reply = deposited n } ∷ []) × (key q ≡ t.key) × gives q a
-  IsTry tried.Empty calls = calls ≡ record { event = claim; reply = was_empty } ∷ []
-  IsTry (tried.Ended end) calls = IsEnd end calls
+  -- what one claim came to: a round with so many deposits, or the end
+  abbrev pub IsTry : Result ℕ Ended → List (Call A) → Type 0
+  IsTry (Ok deposits) calls = (r : Round A Q) × IsRight r × (calls ≡ calls_of r) × (deposits ≡ deposits_of r)
+  IsTry (Err ended) calls = IsEnd ended calls
 
-  -- what a claim came to
-  abbrev pub IsSettled : Ticket → Tried → List (Call A) → Type 0
-  IsSettled t tried.Deposited calls = (q : Q) × (a : A) × (n : ℕ) × (calls ≡ record { event = deposit t a; reply = deposited n } ∷ []) × (key q ≡ t.key) × gives q a
-  IsSettled t tried.Empty calls = ⊥
-  IsSettled t (tried.Ended end.Closed) calls = ⊥
-  IsSettled t (tried.Ended end.Memory) calls = calls ≡ record { event = give_back t; reply = given_back } ∷ []
-
--- where an answer was deposited, a place can count so many calls
-abbrev pub HasRoom : ℕ → Tried → Type 0
-HasRoom calls tried.Deposited = calls < 2 ^ 64
-HasRoom calls tried.Empty = ⊤
-HasRoom calls (tried.Ended end) = ⊤
+  -- what became of a claim that was given
+  abbrev pub IsSettled : Ticket → Result ℕ Ended → List (Call A) → Type 0
+  IsSettled t (Ok deposits) calls = (q : Q) × (a : A) × (n : ℕ) × (deposits ≡ 1) × (calls ≡ record { event = deposit t a; reply = deposited n } ∷ []) × (key q ≡ t.key) × gives q a
+  IsSettled t (Err ended) calls = (ended ≡ end.Memory) × (calls ≡ record { event = give_back t; reply = given_back } ∷ [])

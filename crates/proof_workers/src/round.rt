@@ -1,28 +1,22 @@
 //! One claim, and what becomes of it.
-ghost use Rattle.std.specs.Prelude.{◌≡◌, ◌++◌, ◌+◌, List, length, IfOk};
+ghost use Rattle.std.specs.Prelude.{◌≡◌, ◌++◌, ◌+◌, ◌<◌, ◌^◌, List, length, IfOk};
 ghost use Rattle.std.specs.Arc.{arc_value};
 ghost use Rattle.turn_lock.specs.Lock.{mine, number};
 ghost use Rattle.board_core.specs.Board.{Call};
 ghost use Rattle.obligation_board.specs.Calls.{Holds};
 ghost use Rattle.obligation_board.specs.Passes.{IsPassOf, StaysPassOf};
 ghost use Rattle.board_core.specs.Handed.{ticket};
-ghost use Rattle.proof_workers.specs.Rounds.{made_by, IsTry, IsSettled, HasRoom};
+ghost use Rattle.proof_workers.specs.Rounds.{made_by, IsTry, IsSettled};
 
 use crate::gate::Gate;
 use crate::prover::Prover;
 use crate::worker::Ended;
 use board_core::{Claim, Claimed};
 use bv_base::Answered;
-use obligation_board::{Pass, SharedBoard};
+use obligation_board::{Pass, Receipt, SharedBoard};
 use std::alloc::{AllocError, Global};
 use std::sync::{Arc, Wait};
-
-// What came of one claim.
-pub(crate) enum Tried {
-    Deposited,
-    Empty,
-    Ended(Ended),
-}
+use std::thread;
 
 // The prover's answer, to be shared.
 fn answer<P: Prover>(
@@ -42,7 +36,7 @@ where
     }
 }
 
-// Searches for the answer of a claim, and deposits it, or gives the claim back where there is no memory.
+// Searches for the answer of a claim, and deposits it, or gives the claim back where there is no memory, which ends the worker.
 fn settle<P: Prover, G: Gate, R: Wait>(
     rt: &R,
     alloc: Global,
@@ -51,7 +45,7 @@ fn settle<P: Prover, G: Gate, R: Wait>(
     prover: &P,
     gate: &G,
     claim: Claim<P::A>,
-) -> Tried
+) -> Result<u64, Ended>
 where
     P::A: Drop,
     <P::A as Answered>::Q: Drop,
@@ -59,22 +53,22 @@ where
     requires held { Holds pass.old (ticket P.A.Q.key claim) }
     ensures pass { StaysPassOf board.now pass.old pass.new }
     ensures calls { (calls : List (Call P.A)) × (mine pass.new ≡ mine pass.old ++ made_by (number pass.old) calls) × IsSettled P.A.Q.key (P.gives prover.now) (ticket P.A.Q.key claim) result calls }
-    ensures room { HasRoom (length (mine pass.old)) result }
+    ensures room { IfOk result (λ _. length (mine pass.old) < 2 ^ 64) }
 {
     gate.begin(claim.number());
     match answer(alloc, prover, claim.question()) {
         Ok(answer) => {
             board.deposit(rt, pass, claim, answer);
-            Tried::Deposited
+            Ok(1)
         }
         Err(_) => {
             board.give_back(rt, pass, claim);
-            Tried::Ended(Ended::Memory)
+            Err(Ended::Memory)
         }
     }
 }
 
-// Claims a question and settles the claim.
+// Claims a question and settles the claim: how many answers were deposited, or why the worker ends.
 pub(crate) fn round<P: Prover, G: Gate, R: Wait>(
     rt: &R,
     alloc: Global,
@@ -82,21 +76,27 @@ pub(crate) fn round<P: Prover, G: Gate, R: Wait>(
     pass: &mut Pass<P::A>,
     prover: &P,
     gate: &G,
-) -> Tried
+) -> Result<u64, Ended>
 where
     P::A: Drop,
     <P::A as Answered>::Q: Drop,
     requires { IsPassOf board.now pass.old }
     ensures pass { StaysPassOf board.now pass.old pass.new }
     ensures calls { (calls : List (Call P.A)) × (mine pass.new ≡ mine pass.old ++ made_by (number pass.old) calls) × IsTry P.A.Q.key (P.gives prover.now) result calls }
-    ensures room { HasRoom (length (mine pass.old) + 1) result }
+    ensures room { IfOk result (λ deposits. length (mine pass.old) + deposits < 2 ^ 64) }
 {
-    let Ok(receipt) = board.claim(rt, pass) else {
-        return Tried::Ended(Ended::Memory);
-    };
-    match receipt.reply {
-        Claimed::Claim(claim) => settle(rt, alloc, board, pass, prover, gate, claim),
-        Claimed::Empty => Tried::Empty,
-        Claimed::Closed => Tried::Ended(Ended::Closed),
+    match board.claim(rt, pass) {
+        Ok(receipt) => {
+            let Receipt { place: _, reply } = receipt;
+            match reply {
+                Claimed::Claim(claim) => settle(rt, alloc, board, pass, prover, gate, claim),
+                Claimed::Empty => {
+                    thread::yield_now();
+                    Ok(0)
+                }
+                Claimed::Closed => Err(Ended::Closed),
+            }
+        }
+        Err(_) => Err(Ended::Memory),
     }
 }

@@ -7,12 +7,11 @@ ghost use Rattle.proof_workers.specs.Rounds.{made_by, IsWork};
 
 use crate::gate::Gate;
 use crate::prover::Prover;
-use crate::round::{Tried, round};
+use crate::round::round;
 use bv_base::Answered;
 use obligation_board::{Pass, SharedBoard};
 use std::alloc::Global;
 use std::sync::Wait;
-use std::thread;
 
 /// Why a worker ended.
 #[derive(Clone, Copy, PartialEq, Eq, Debug)]
@@ -51,9 +50,8 @@ where
     let mut deposits = 0;
     for _ in rt.forever() {
         match round(rt, alloc, board, pass, prover, gate) {
-            Tried::Deposited => deposits += 1,
-            Tried::Empty => thread::yield_now(),
-            Tried::Ended(ended) => return Worked { deposits, ended },
+            Ok(made) => deposits += made,
+            Err(ended) => return Worked { deposits, ended },
         }
     }
     unreachable!()
