@@ -1,6 +1,6 @@
 -- Rounds of a worker, one after another.
-use Rattle.std.proofs.Common.{◌≡◌, ◌⊎◌, inr, ℕ, ◌+◌, ◌<◌, ◌≤◌, ◌==◌, Bool, true, false, cond, List, [], ◌∷◌, ◌++◌, map, length, refl, sym, ap, ◌∙◌, subst, append_assoc, length-append, length-map, Option, Result, Ok, Err, arith}
-use Rattle.std.specs.Prelude.{All}
+use Rattle.std.proofs.Common.{◌≡◌, ◌⊎◌, inr, ℕ, zero, suc, ◌+◌, ◌<◌, ◌≤◌, ◌==◌, Bool, true, false, cond, List, [], ◌∷◌, ◌++◌, map, length, refl, sym, ap, ◌∙◌, subst, append_assoc, length-append, Option, Result, Ok, Err, arith}
+use Rattle.std.specs.Prelude.{All, IfOk}
 use Rattle.std.specs.List.{flat_map, sum_by}
 use Rattle.std.proofs.lemmas.List.{map-append, flat_map_more}
 use Rattle.std.proofs.lemmas.List.Sums.{sum_by-append}
@@ -29,6 +29,10 @@ no_more by (e ∷ es) = by_test (e.0 == by) (no_more by es)
 pub made_more : {A : Type 0} (n : ℕ) (m m' m'' : List (Entry A)) (cs ds : List (Call A)) → m' ≡ m ++ made_by n cs → m'' ≡ m' ++ made_by n ds → m'' ≡ m ++ made_by n (cs ++ ds)
 made_more n m m' m'' cs ds p q = q ∙ (ap (λ l. l ++ made_by n ds) p ∙ (append_assoc m (made_by n cs) (made_by n ds) ∙ ap (λ l. m ++ l) (sym (map-append (λ c. (n, c)) cs ds))))
 
+made_length : {A : Type 0} (n : ℕ) (cs : List (Call A)) → length (made_by n cs) ≡ length cs
+made_length n [] = refl
+made_length n (c ∷ cs) = let rest = made_length n cs in omega arith
+
 module _ {A Q : Type 0} (key : Q → Key) (gives : Q → A → Type 0) where
   pub no_rounds : AreRounds key gives 0 []
   no_rounds = record { rounds = []; right = λ k d less. absurd (omega arith); made = refl; counted = refl }
@@ -53,14 +57,21 @@ module _ {A Q : Type 0} (key : Q → Key) (gives : Q → A → Type 0) where
   pub few_deposits : (d : ℕ) (cs : List (Call A)) → AreRounds key gives d cs → d ≤ length cs
   few_deposits d cs h = let f = few_each h.rounds in subst (λ (l : List (Call A)). d ≤ length l) (sym h.made) (subst (λ n. n ≤ length (flat_map calls_of h.rounds)) (sym h.counted) f)
 
-  -- so one more deposit can be counted where a place can count the calls
-  pub fits : (n d more most : ℕ) (m m' : List (Entry A)) (cs : List (Call A)) → m' ≡ m ++ made_by n cs → AreRounds key gives d cs → length m' + more < most → d + more < most
-  fits n d more most m m' cs is rounds less =
+  -- so more deposits can be counted where a place can count the calls
+  pub fits : (n d more most : ℕ) (m m' : List (Entry A)) (cs : List (Call A)) → m' ≡ m ++ made_by n cs → AreRounds key gives d cs → (0 < more → length m' + more < most) → d < most → d + more < most
+  fits n d zero most m m' cs is rounds room own = omega arith
+  fits n d (suc k) most m m' cs is rounds room own =
+      let less : length m' + suc k < most = room (omega arith) in
       let f = few_deposits d cs rounds in
       let a : length m' ≡ length (m ++ made_by n cs) = ap length is in
       let b = length-append m (made_by n cs) in
-      let c : length (made_by n cs) ≡ length cs = length-map (λ (k : Call A). (n, k)) cs in
+      let c = made_length n cs in
       omega arith
+
+  -- a place counts the calls before the claim too
+  pub room_before : (t : Ticket) (r : Result ℕ Ended) (ds : List (Call A)) (n n' most : ℕ) → IsSettled key gives t r ds → n' ≡ n + 1 → IfOk r (λ _. n' < most) → IfOk r (λ d. 0 < d → n + d < most)
+  room_before t (Ok d) ds n n' most h is less = λ some. let one = h.3 in omega arith
+  room_before t (Err e) ds n n' most h is less = tt
 
   -- what became of a claim, after the claim
   pub after_claim : (t : Ticket) (r : Result ℕ Ended) (ds : List (Call A)) → IsSettled key gives t r ds → IsTry key gives r (record { event = claim; reply = claimed t } ∷ ds)

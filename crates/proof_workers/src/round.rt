@@ -83,7 +83,7 @@ where
     requires { IsPassOf board.now pass.old }
     ensures pass { StaysPassOf board.now pass.old pass.new }
     ensures calls { (calls : List (Call P.A)) × (mine pass.new ≡ mine pass.old ++ made_by (number pass.old) calls) × IsTry P.A.Q.key (P.gives prover.now) result calls }
-    ensures room { IfOk result (λ deposits. length (mine pass.old) + deposits < 2 ^ 64) }
+    ensures room { IfOk result (λ deposits. 0 < deposits → length (mine pass.old) + deposits < 2 ^ 64) }
 {
     match board.claim(rt, pass) {
         Ok(receipt) => {
