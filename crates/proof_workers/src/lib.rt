@@ -12,3 +12,6 @@ mod worker;
 pub use gate::{Gate, OpenGate};
 pub use prover::Prover;
 pub use worker::{Ended, Worked, work};
+
+#[cfg(test)]
+mod tests;
