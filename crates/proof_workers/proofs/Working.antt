@@ -42,7 +42,7 @@ module _ {A Q : Type 0} (key : Q → Key) (gives : Q → A → Type 0) where
     rounds = h.rounds ++ r ∷ [];
     right = All-push (IsRight key gives) h.rounds r h.right right;
     made = ap (λ l. l ++ calls_of r) h.made ∙ flat_map_more calls_of [] h.rounds r;
-    counted = let more = sum_by-append deposits_of h.rounds (r ∷ []) in let was = h.counted in omega arith
+    counted = let more = sum_by-append deposits_of h.rounds (r ∷ []) in let was = h.counted in omega arith;
   }
 
   few : (r : Round A Q) → deposits_of r ≤ length (calls_of r)

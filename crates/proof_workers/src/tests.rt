@@ -55,7 +55,7 @@ struct Scripted {
     waits: bool,
 }
 
-fn scripted(refused: u64, waits: bool) -> Scripted {
+fn prover_that(refused: u64, waits: bool) -> Scripted {
     Scripted {
         begun: AtomicU64::new(0),
         met: AtomicU64::new(0),
@@ -94,7 +94,12 @@ fn questions(alloc: Global, count: u8, distinct: u8) -> Result<Vec<Arc<Asked, Gl
 {
     let mut items = Vec::new(alloc);
     for i in 0..count {
-        let Ok(asked) = Arc::new(alloc, Asked { key: [i % distinct] }) else {
+        let Ok(asked) = Arc::new(
+            alloc,
+            Asked {
+                key: [i % distinct],
+            },
+        ) else {
             return Err(AllocError);
         };
         if items.push(asked).is_err() {
@@ -161,9 +166,15 @@ fn a_worker_without_memory_gives_its_claim_back(rt: HostRuntime) -> Result<(), F
     let (board, mut pass) = SharedBoard::<Found>::new(alloc)?;
     let opened = board.open(&rt, &mut pass, questions(alloc, 1, 1)?)?;
     assert_eq!(rt; opened.place, 0);
-    let prover = scripted(1, false);
+    let prover = prover_that(1, false);
     let worked = work(&rt, alloc, &board, &mut pass, &prover, &OpenGate);
-    assert_eq!(rt; worked, Worked { deposits: 0, ended: Ended::Memory });
+    assert_eq!(rt;
+        worked,
+        Worked {
+            deposits: 0,
+            ended: Ended::Memory
+        }
+    );
     let Receipt { place, reply } = board.claim(&rt, &mut pass).expect(&rt, "there is memory");
     assert_eq!(rt; place, 3);
     match reply {
@@ -184,7 +195,7 @@ fn two_searches_run_beside_each_other(rt: HostRuntime) -> Result<(), Fail> {
     let (board, mut opener) = SharedBoard::<Found>::new(alloc)?;
     let board = &board;
     board.open(rt, &mut opener, questions(alloc, 2, 2)?)?;
-    let prover = &scripted(0, true);
+    let prover = &prover_that(0, true);
     let one = board.split(&mut opener);
     let (done, deposits) = thread::join(
         rt,
@@ -207,7 +218,7 @@ fn four_workers_answer_each_key_once(rt: HostRuntime) -> Result<(), Fail> {
     let (board, mut opener) = SharedBoard::<Found>::new(alloc)?;
     let board = &board;
     board.open(rt, &mut opener, questions(alloc, 200, 150)?)?;
-    let prover = &scripted(0, false);
+    let prover = &prover_that(0, false);
     let mut one = board.split(&mut opener);
     let two = board.split(&mut one);
     let (done, (first, second)) = thread::join(

@@ -26,10 +26,11 @@ returns-in-Claim-clause-calls g c =
     let first : Call g.row.P-A.Denot = record { event = claim; reply = claimed t } in
     let s = c.settle.ensures.calls in
     let given : mine q ≡ mine p ++ made_by (number p) (first ∷ []) =
-        c.in-Ok.ensures.call.mine ∙ ap (λ (x : Claimed g.row.P-A.Denot g.row.P-A-Q.Denot). let k : Call g.row.P-A.Denot = record { event = claim; reply = claim_answer g.P.A.Q.Question.key x } in mine p ++ (number p, k) ∷ []) c.in-Claim.is in
-    (first ∷ s.0,
+    c.in-Ok.ensures.call.mine ∙ ap (λ (x : Claimed g.row.P-A.Denot g.row.P-A-Q.Denot). let k : Call g.row.P-A.Denot = record { event = claim; reply = claim_answer g.P.A.Q.Question.key x } in mine p ++ (number p, k) ∷ []) c.in-Claim.is in (
+      first ∷ s.0,
       made_more (number p) (mine p) (mine q) (mine c.settle.new.pass) (first ∷ []) s.0 given (s.1 ∙ ap (λ n. mine q ++ made_by n s.0) c.claim.ensures.pass.1),
-      after_claim g.P.A.Q.Question.key (g.P.Prover.gives c.args.prover.now) t c.settle.result s.0 s.2)
+      after_claim g.P.A.Q.Question.key (g.P.Prover.gives c.args.prover.now) t c.settle.result s.0 s.2,
+    )
 
 pub returns-in-Claim-clause-room : goal.returns-in-Claim-clause-room
 returns-in-Claim-clause-room g c =
