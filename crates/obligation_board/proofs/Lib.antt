@@ -1,0 +1,5 @@
+pub mod Members
+pub mod Growing
+pub mod Held
+pub mod Deciding
+pub mod Ending

@@ -1,0 +1,7 @@
+use Rattle.std.proofs.Common.{Some}
+use Rattle.board_core.specs.Board.{claim}
+use Rattle.board_core.specs.Step.{reply}
+use Rattle.obligation_board.proofs.shared.SharedBoard.claim.Given as goal
+
+abbrev pub ghosts-finish : goal.ghosts-finish
+ghosts-finish g a = record { what = Some record { event = claim; reply = reply a.turn.was.value.board claim } }

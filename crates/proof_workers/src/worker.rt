@@ -1,0 +1,58 @@
+//! The rounds of a worker.
+ghost use Rattle.std.specs.Prelude.{◌≡◌, ◌++◌, List};
+ghost use Rattle.turn_lock.specs.Lock.{mine, number};
+ghost use Rattle.board_core.specs.Board.{Call};
+ghost use Rattle.obligation_board.specs.Passes.{IsPassOf, StaysPassOf};
+ghost use Rattle.proof_workers.specs.Rounds.{made_by, IsWork};
+
+use crate::gate::Gate;
+use crate::prover::Prover;
+use crate::round::round;
+use bv_base::Answered;
+use obligation_board::{Pass, SharedBoard};
+use std::alloc::Global;
+use std::sync::Wait;
+
+/// Why a worker ended.
+#[derive(Clone, Copy, PartialEq, Eq, Debug)]
+pub enum Ended {
+    /// One of its claims was answered Closed.
+    Closed,
+    /// There was no memory. The claim that it had was given back.
+    Memory,
+}
+
+/// How many answers a worker deposited, and why it ended.
+#[derive(Clone, Copy, PartialEq, Eq, Debug)]
+pub struct Worked {
+    pub deposits: u64,
+    pub ended: Ended,
+}
+
+/// Claims a question, calls the gate, answers the question and deposits the answer, again and again,
+/// until a claim is answered Closed or there is no memory. Where there is no question now it tries
+/// again. The search runs outside every turn.
+pub fn work<P: Prover, G: Gate, R: Wait>(
+    rt: &R,
+    alloc: Global,
+    board: &SharedBoard<P::A>,
+    pass: &mut Pass<P::A>,
+    prover: &P,
+    gate: &G,
+) -> Worked
+where
+    P::A: Drop,
+    <P::A as Answered>::Q: Drop,
+    requires { IsPassOf board.now pass.old }
+    ensures pass { StaysPassOf board.now pass.old pass.new }
+    ensures calls { (calls : List (Call P.A)) × (mine pass.new ≡ mine pass.old ++ made_by (number pass.old) calls) × IsWork P.A.Q.key (P.gives prover.now) result.ended result.deposits calls }
+{
+    let mut deposits = 0;
+    for _ in rt.forever() {
+        match round(rt, alloc, board, pass, prover, gate) {
+            Ok(made) => deposits += made,
+            Err(ended) => return Worked { deposits, ended },
+        }
+    }
+    unreachable!()
+}
