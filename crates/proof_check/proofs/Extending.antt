@@ -21,3 +21,9 @@ extends_itself c = (all_of c.vars, all_of c.facts)
 
 pub extends_more : (c d : Context) (a : Added) → Extends c d → Extends c (extended d a)
 extends_more c d a h = (front_stays c.vars d.vars a.vars h.0, front_stays c.facts d.facts a.facts h.1)
+
+-- what begins with two lists begins with the first
+pub front_of_front : {A : Type 0} (xs ys zs : List A) → take (length (xs ++ ys)) zs ≡ xs ++ ys → take (length xs) zs ≡ xs
+front_of_front [] ys zs h = refl
+front_of_front (x ∷ xs) ys [] h = absurd (cc)
+front_of_front (x ∷ xs) ys (z ∷ zs) h = cc (front_of_front xs ys zs (cc))

@@ -58,12 +58,7 @@ fn read_at_distance(
 
 /// What a Read of a Write at constant distance reads: the value written at distance 0, and otherwise
 /// what the map held before.
-pub fn read_of(
-    alloc: Global,
-    defs: &[Def],
-    context: &Context,
-    t: &Term,
-) -> Result<Term, Refusal>
+pub fn read_of(alloc: Global, defs: &[Def], context: &Context, t: &Term) -> Result<Term, Refusal>
     ensures { Finds result (read_of defs.now context.now t.now) }
 {
     match &t.node {

@@ -117,12 +117,7 @@ fn unequal_cases(
 }
 
 // The formulas of which one holds where the fact does.
-fn cases(
-    alloc: Global,
-    defs: &[Def],
-    context: &Context,
-    fact: &Term,
-) -> Result<CaseFacts, Refusal>
+fn cases(alloc: Global, defs: &[Def], context: &Context, fact: &Term) -> Result<CaseFacts, Refusal>
     ensures { FindsAs (λ c. (c.first, c.others.items)) result (cases defs.now context.now fact.now) }
 {
     match &fact.node {
@@ -219,12 +214,7 @@ fn equal(alloc: Global, a: &Term, b: &Term) -> Result<Term, AllocError>
 
 /// past, of t, a Read of a Write: the index written is below the index read, it is that index, or it
 /// is above it; and t reads what the map held before, the value written, or what it held before.
-pub fn past(
-    alloc: Global,
-    defs: &[Def],
-    context: &Context,
-    t: &Term,
-) -> Result<Signs, Refusal>
+pub fn past(alloc: Global, defs: &[Def], context: &Context, t: &Term) -> Result<Signs, Refusal>
     ensures { FindsAs (λ p. (with_facts context.now p.below.items, with_facts context.now p.same.items, with_facts context.now p.above.items)) result (moved_past defs.now context.now t.now) }
 {
     if context.named(alloc, defs, t)?.is_none() {

@@ -123,12 +123,7 @@ impl Context {
 }
 
 /// The normal form of a formula, as a further fact.
-pub fn append(
-    alloc: Global,
-    defs: &[Def],
-    context: &Context,
-    t: &Term,
-) -> Result<Added, Refusal>
+pub fn append(alloc: Global, defs: &[Def], context: &Context, t: &Term) -> Result<Added, Refusal>
     ensures { FindsAs (λ a. extended context.now a) result (appended defs.now context.now t.now) }
 {
     let form = context.normal(alloc, defs, t)?;

@@ -12,9 +12,9 @@ pub mod children;
 pub mod rules;
 
 // The walk.
-pub mod walk;
 #[cfg(test)]
 mod tests;
+pub mod walk;
 
 pub use fault::CheckFault;
 pub use proof_core::rule::Rule;

@@ -57,12 +57,7 @@ pub fn closes(alloc: Global, context: &Context, f: u64, g: u64) -> Result<bool, 
 }
 
 /// split, of an And: its parts.
-pub fn split(
-    alloc: Global,
-    defs: &[Def],
-    context: &Context,
-    fact: &Term,
-) -> Result<Added, Refusal>
+pub fn split(alloc: Global, defs: &[Def], context: &Context, fact: &Term) -> Result<Added, Refusal>
     ensures { FindsAs (λ a. extended context.now a) result (split defs.now context.now fact.now) }
 {
     match &fact.node {
@@ -93,11 +88,7 @@ pub fn instantiate(
 }
 
 // The new variables of these sorts.
-fn new_variables(
-    alloc: Global,
-    context: &Context,
-    sorts: &[Sort],
-) -> Result<Vec<Term>, AllocError>
+fn new_variables(alloc: Global, context: &Context, sorts: &[Sort]) -> Result<Vec<Term>, AllocError>
     ensures { IfOk result (λ v. v.items ≡ new_variables context.now sorts.now) }
 {
     let mut number = context.vars.len() as u64;
@@ -130,12 +121,7 @@ fn with_variables(
 }
 
 /// skolem, of an Exists: its body with new variables of its sorts, which take the next numbers.
-pub fn skolem(
-    alloc: Global,
-    defs: &[Def],
-    context: &Context,
-    fact: &Term,
-) -> Result<Added, Refusal>
+pub fn skolem(alloc: Global, defs: &[Def], context: &Context, fact: &Term) -> Result<Added, Refusal>
     ensures { FindsAs (λ a. extended context.now a) result (skolemized defs.now context.now fact.now) }
 {
     match &fact.node {
@@ -226,12 +212,7 @@ fn reads_differ(alloc: Global, a: &Term, b: &Term, w: u64) -> Result<Term, Alloc
 }
 
 // Of an Eq whose sides are maps: that they differ at a new variable.
-fn different(
-    alloc: Global,
-    defs: &[Def],
-    context: &Context,
-    t: &Term,
-) -> Result<Added, Refusal>
+fn different(alloc: Global, defs: &[Def], context: &Context, t: &Term) -> Result<Added, Refusal>
     ensures { FindsAs (λ a. extended context.now a) result (different defs.now context.now t.now) }
 {
     match &t.node {
@@ -251,12 +232,7 @@ fn different(
 }
 
 /// differ, of the Not of an Eq of maps: they differ at a new variable.
-pub fn differ(
-    alloc: Global,
-    defs: &[Def],
-    context: &Context,
-    fact: &Term,
-) -> Result<Added, Refusal>
+pub fn differ(alloc: Global, defs: &[Def], context: &Context, fact: &Term) -> Result<Added, Refusal>
     ensures { FindsAs (λ a. extended context.now a) result (differing defs.now context.now fact.now) }
 {
     match &fact.node {

@@ -59,12 +59,7 @@ fn at_node<A>(given: Result<A, Refusal>, node: u64, rule: Rule) -> Result<A, Che
 }
 
 // What a step adds.
-fn after_step(
-    alloc: Global,
-    defs: &[Def],
-    context: &Context,
-    step: &Step,
-) -> Result<Added, Refusal>
+fn after_step(alloc: Global, defs: &[Def], context: &Context, step: &Step) -> Result<Added, Refusal>
     ensures { FindsAs (λ a. extended context.now a) result (after_step defs.now context.now (step_of step.now)) }
 {
     match step {
@@ -89,12 +84,7 @@ fn after_step(
 }
 
 // The facts that a split into cases adds for each child.
-fn after_cases(
-    alloc: Global,
-    defs: &[Def],
-    context: &Context,
-    f: u64,
-) -> Result<CaseFacts, Refusal>
+fn after_cases(alloc: Global, defs: &[Def], context: &Context, f: u64) -> Result<CaseFacts, Refusal>
     ensures { FindsAs (λ p. (with_fact context.now p.first, map (λ t. with_fact context.now t) p.others.items)) result (after_cases defs.now context.now f) }
 {
     split_cases(alloc, defs, context, context.fact(f)?)
@@ -181,7 +171,11 @@ fn judge_end(
             judge_each(alloc, defs, context, node, &cases.others, others)
         }
         End::Condition(f, t, yes, no) => {
-            let facts = at_node(after_condition(alloc, defs, context, *f, t), node, Rule::Split)?;
+            let facts = at_node(
+                after_condition(alloc, defs, context, *f, t),
+                node,
+                Rule::Split,
+            )?;
             let node = judge_child(alloc, defs, context, next(node), facts.yes, yes)?;
             judge_child(alloc, defs, context, node, facts.no, no)
         }

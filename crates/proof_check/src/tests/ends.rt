@@ -20,7 +20,11 @@ fn close(rt: HostRuntime) -> Result<(), Fail> {
     ];
     for (axioms, goal, f, g, wanted) in table {
         let proof = closed(alloc, [], f, g)?;
-        assert_eq!(rt; said(alloc, axioms, goal, &proof)?, wanted, "{axioms} {f} {g}");
+        assert_eq!(rt;
+            said(alloc, axioms, goal, &proof)?,
+            wanted,
+            "{axioms} {f} {g}"
+        );
     }
     Ok(())
 }
@@ -33,7 +37,10 @@ fn split_of_an_or(rt: HostRuntime) -> Result<(), Fail> {
     // one child for two parts, and two for three
     let first = Box::new(alloc, closed(alloc, [], 3, 1)?)?;
     let proof = ended(alloc, End::Cases(0, first, Vec::new(alloc)));
-    assert_eq!(rt; said(alloc, "|2 p q;! p", "q", &proof)?, Said::Refused(1, Rule::Split));
+    assert_eq!(rt;
+        said(alloc, "|2 p q;! p", "q", &proof)?,
+        Said::Refused(1, Rule::Split)
+    );
     let proof = cases(alloc, 0, closed(alloc, [], 3, 1)?, closed(alloc, [], 3, 2)?)?;
     let refused = Said::Refused(1, Rule::Split);
     assert_eq!(rt; said(alloc, "|3 p q <= 0 x;! p", "q", &proof)?, refused);
@@ -50,7 +57,10 @@ fn split_of_an_equation(rt: HostRuntime) -> Result<(), Fail> {
         closed(alloc, [Step::Split(3)], 1, 4)?,
     )?;
     assert_eq!(rt; said(alloc, "= p q;p", "q", &proof)?, Said::Accepted);
-    assert_eq!(rt; said(alloc, "= m n;p", "q", &proof)?, Said::Refused(1, Rule::Split));
+    assert_eq!(rt;
+        said(alloc, "= m n;p", "q", &proof)?,
+        Said::Refused(1, Rule::Split)
+    );
     Ok(())
 }
 
@@ -64,7 +74,10 @@ fn split_of_an_inequation(rt: HostRuntime) -> Result<(), Fail> {
         closed(alloc, [Step::Split(3)], 1, 4)?,
     )?;
     assert_eq!(rt; said(alloc, "! = p q;p", "! q", &proof)?, Said::Accepted);
-    assert_eq!(rt; said(alloc, "! = m n;p", "! q", &proof)?, Said::Refused(1, Rule::Split));
+    assert_eq!(rt;
+        said(alloc, "! = m n;p", "! q", &proof)?,
+        Said::Refused(1, Rule::Split)
+    );
     Ok(())
 }
 
@@ -73,7 +86,10 @@ fn split_by_a_condition(rt: HostRuntime) -> Result<(), Fail> {
     let alloc = rt.alloc();
     let (yes, no) = (closed(alloc, [], 4, 2)?, closed(alloc, [], 1, 3)?);
     let proof = condition(alloc, 0, term(alloc, "? p x y")?, yes, no)?;
-    assert_eq!(rt; said(alloc, "= ? p x y 0;p", "= x 0", &proof)?, Said::Accepted);
+    assert_eq!(rt;
+        said(alloc, "= ? p x y 0;p", "= x 0", &proof)?,
+        Said::Accepted
+    );
     // it doesn't stand in the fact
     let refused = Said::Refused(1, Rule::Split);
     assert_eq!(rt; said(alloc, "= ? p y x 0;p", "= x 0", &proof)?, refused);
@@ -96,7 +112,10 @@ fn past_a_write(rt: HostRuntime) -> Result<(), Fail> {
     // no Read of a Write
     let close = || closed(alloc, [], 0, 0);
     let proof = past(alloc, term(alloc, "[] m x")?, close()?, close()?, close()?)?;
-    assert_eq!(rt; said(alloc, "F", "p", &proof)?, Said::Refused(1, Rule::Past));
+    assert_eq!(rt;
+        said(alloc, "F", "p", &proof)?,
+        Said::Refused(1, Rule::Past)
+    );
     Ok(())
 }
 
@@ -110,10 +129,16 @@ fn three_signs(rt: HostRuntime) -> Result<(), Fail> {
         closed(alloc, [], 3, 0)?,
         closed(alloc, [], 3, 2)?,
     )?;
-    assert_eq!(rt; said(alloc, "! = x 0;<= 0 x", "<= 1 x", &proof)?, Said::Accepted);
+    assert_eq!(rt;
+        said(alloc, "! = x 0;<= 0 x", "<= 1 x", &proof)?,
+        Said::Accepted
+    );
     // no integer
     let close = || closed(alloc, [], 0, 0);
     let proof = trichotomy(alloc, term(alloc, "p")?, close()?, close()?, close()?)?;
-    assert_eq!(rt; said(alloc, "F", "p", &proof)?, Said::Refused(1, Rule::Trichotomy));
+    assert_eq!(rt;
+        said(alloc, "F", "p", &proof)?,
+        Said::Refused(1, Rule::Trichotomy)
+    );
     Ok(())
 }

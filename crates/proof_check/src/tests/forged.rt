@@ -12,7 +12,11 @@ fn multipliers_that_turn_an_inequality_round(rt: HostRuntime) -> Result<(), Fail
     for (p, q) in [(-1, 1), (0, 1), (1, 0), (1, -1)] {
         let proof = closed(alloc, [Step::Combine(0, p, 1, q)], 3, 3)?;
         let refused = Said::Refused(1, Rule::Combine);
-        assert_eq!(rt; said(alloc, "<= 0 x;<= 1 x", "F", &proof)?, refused, "{p} {q}");
+        assert_eq!(rt;
+            said(alloc, "<= 0 x;<= 1 x", "F", &proof)?,
+            refused,
+            "{p} {q}"
+        );
     }
     Ok(())
 }
@@ -32,7 +36,10 @@ fn one_new_variable_for_two_witnesses(rt: HostRuntime) -> Result<(), Fail> {
     let alloc = rt.alloc();
     let proof = closed(alloc, [Step::Skolem(0), Step::Skolem(1)], 3, 4)?;
     let refused = Said::Refused(3, Rule::Close);
-    assert_eq!(rt; said(alloc, "some = k 0;some ! = k 0", "F", &proof)?, refused);
+    assert_eq!(rt;
+        said(alloc, "some = k 0;some ! = k 0", "F", &proof)?,
+        refused
+    );
     Ok(())
 }
 
@@ -55,9 +62,15 @@ fn instances_that_are_open_or_of_another_sort(rt: HostRuntime) -> Result<(), Fai
 fn facts_that_are_not_there(rt: HostRuntime) -> Result<(), Fail> {
     let alloc = rt.alloc();
     let proof = closed(alloc, [], 0, u64::MAX)?;
-    assert_eq!(rt; said(alloc, "p", "p", &proof)?, Said::Refused(1, Rule::Close));
+    assert_eq!(rt;
+        said(alloc, "p", "p", &proof)?,
+        Said::Refused(1, Rule::Close)
+    );
     let proof = closed(alloc, [Step::Tighten(0), Step::Split(3)], 0, 1)?;
-    assert_eq!(rt; said(alloc, "p", "p", &proof)?, Said::Refused(2, Rule::Split));
+    assert_eq!(rt;
+        said(alloc, "p", "p", &proof)?,
+        Said::Refused(2, Rule::Split)
+    );
     Ok(())
 }
 
@@ -95,8 +108,14 @@ fn a_start_that_leaves_128_bits(rt: HostRuntime) -> Result<(), Fail> {
     let axiom =
         "<= -170141183460469231731687303715884105728 -170141183460469231731687303715884105728";
     let proof = closed(alloc, [Step::Tighten(0)], 0, 1)?;
-    assert_eq!(rt; said(alloc, axiom, "F", &proof)?, Said::Refused(1, Rule::Tighten));
+    assert_eq!(rt;
+        said(alloc, axiom, "F", &proof)?,
+        Said::Refused(1, Rule::Tighten)
+    );
     let proof = closed(alloc, [], 0, 1)?;
-    assert_eq!(rt; said(alloc, axiom, "F", &proof)?, Said::Refused(1, Rule::Close));
+    assert_eq!(rt;
+        said(alloc, axiom, "F", &proof)?,
+        Said::Refused(1, Rule::Close)
+    );
     Ok(())
 }

@@ -83,7 +83,11 @@ fn formulas(
 
 /// The obligation with these axioms, separated by semicolons, and this goal; None where one is no
 /// formula.
-pub fn obligation(alloc: Global, axioms: &str, goal: &str) -> Result<Option<Obligation>, AllocError> {
+pub fn obligation(
+    alloc: Global,
+    axioms: &str,
+    goal: &str,
+) -> Result<Option<Obligation>, AllocError> {
     let sig = signature(alloc)?;
     let goal = term(alloc, goal)?;
     let Some(axioms) = formulas(alloc, &sig, axioms)? else {

@@ -88,5 +88,8 @@ pub fn trichotomy(
     above: Proof,
 ) -> Result<Proof, AllocError> {
     let (below, same) = (Box::new(alloc, below)?, Box::new(alloc, same)?);
-    Ok(ended(alloc, End::Trichotomy(d, below, same, Box::new(alloc, above)?)))
+    Ok(ended(
+        alloc,
+        End::Trichotomy(d, below, same, Box::new(alloc, above)?),
+    ))
 }

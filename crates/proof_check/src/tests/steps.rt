@@ -12,7 +12,10 @@ fn split_of_an_and(rt: HostRuntime) -> Result<(), Fail> {
     let proof = closed(alloc, [Step::Split(0)], 3, 1)?;
     assert_eq!(rt; said(alloc, "&2 p q", "q", &proof)?, Said::Accepted);
     let proof = closed(alloc, [Step::Split(1)], 3, 1)?;
-    assert_eq!(rt; said(alloc, "&2 p q", "q", &proof)?, Said::Refused(1, Rule::Split));
+    assert_eq!(rt;
+        said(alloc, "&2 p q", "q", &proof)?,
+        Said::Refused(1, Rule::Split)
+    );
     Ok(())
 }
 
@@ -21,7 +24,10 @@ fn instantiate(rt: HostRuntime) -> Result<(), Fail> {
     let alloc = rt.alloc();
     let terms = Vec::from_array(alloc, [term(alloc, "x")?])?;
     let proof = closed(alloc, [Step::Instantiate(0, terms)], 2, 1)?;
-    assert_eq!(rt; said(alloc, "all <= 0 k", "<= 0 x", &proof)?, Said::Accepted);
+    assert_eq!(rt;
+        said(alloc, "all <= 0 k", "<= 0 x", &proof)?,
+        Said::Accepted
+    );
     let terms = Vec::from_array(alloc, [term(alloc, "x")?])?;
     let proof = closed(alloc, [Step::Instantiate(1, terms)], 2, 1)?;
     let refused = Said::Refused(1, Rule::Instantiate);
@@ -37,7 +43,10 @@ fn skolem(rt: HostRuntime) -> Result<(), Fail> {
     let proof = closed(alloc, [Step::Skolem(0), Step::Instantiate(1, terms)], 3, 4)?;
     assert_eq!(rt; said(alloc, axioms, "F", &proof)?, Said::Accepted);
     let proof = closed(alloc, [Step::Skolem(1)], 3, 3)?;
-    assert_eq!(rt; said(alloc, axioms, "F", &proof)?, Said::Refused(1, Rule::Skolem));
+    assert_eq!(rt;
+        said(alloc, axioms, "F", &proof)?,
+        Said::Refused(1, Rule::Skolem)
+    );
     Ok(())
 }
 
@@ -54,7 +63,11 @@ fn replace(rt: HostRuntime) -> Result<(), Fail> {
     ];
     for (axioms, goal, t) in table {
         let proof = closed(alloc, [Step::Replace(1, 0, term(alloc, t)?)], 3, 3)?;
-        assert_eq!(rt; said(alloc, axioms, goal, &proof)?, Said::Accepted, "{axioms}");
+        assert_eq!(rt;
+            said(alloc, axioms, goal, &proof)?,
+            Said::Accepted,
+            "{axioms}"
+        );
     }
     // a coefficient of 2
     let proof = closed(alloc, [Step::Replace(1, 0, term(alloc, "x")?)], 3, 3)?;
@@ -84,12 +97,19 @@ fn back(rt: HostRuntime) -> Result<(), Fail> {
     ];
     for (axiom, t, goal) in table {
         let proof = closed(alloc, [Step::Back(0, term(alloc, t)?)], 2, 1)?;
-        assert_eq!(rt; said(alloc, axiom, goal, &proof)?, Said::Accepted, "{axiom}");
+        assert_eq!(rt;
+            said(alloc, axiom, goal, &proof)?,
+            Said::Accepted,
+            "{axiom}"
+        );
     }
     // the distance is no number
     let axiom = "= [] [=] m y x 1 0";
     let proof = closed(alloc, [Step::Back(0, term(alloc, "[] [=] m y x 1")?)], 2, 1)?;
-    assert_eq!(rt; said(alloc, axiom, "= x 0", &proof)?, Said::Refused(1, Rule::Back));
+    assert_eq!(rt;
+        said(alloc, axiom, "= x 0", &proof)?,
+        Said::Refused(1, Rule::Back)
+    );
     Ok(())
 }
 
@@ -102,24 +122,31 @@ fn differ(rt: HostRuntime) -> Result<(), Fail> {
     assert_eq!(rt; said(alloc, axioms, "F", &proof)?, Said::Accepted);
     // of integers
     let proof = closed(alloc, [Step::Differ(0)], 2, 2)?;
-    assert_eq!(rt; said(alloc, "! = x y", "F", &proof)?, Said::Refused(1, Rule::Differ));
+    assert_eq!(rt;
+        said(alloc, "! = x y", "F", &proof)?,
+        Said::Refused(1, Rule::Differ)
+    );
     Ok(())
 }
 
 #[test]
 fn combine(rt: HostRuntime) -> Result<(), Fail> {
     let alloc = rt.alloc();
-    let table = [
-        ("<= 1 x;<= x 0", 1, 1),
-        ("<= 1 +1 2 x 0;= x 0", 1, -2),
-    ];
+    let table = [("<= 1 x;<= x 0", 1, 1), ("<= 1 +1 2 x 0;= x 0", 1, -2)];
     for (axioms, p, q) in table {
         let proof = closed(alloc, [Step::Combine(0, p, 1, q)], 3, 3)?;
-        assert_eq!(rt; said(alloc, axioms, "F", &proof)?, Said::Accepted, "{axioms}");
+        assert_eq!(rt;
+            said(alloc, axioms, "F", &proof)?,
+            Said::Accepted,
+            "{axioms}"
+        );
     }
     // no linear facts
     let proof = closed(alloc, [Step::Combine(0, 1, 1, 1)], 3, 3)?;
-    assert_eq!(rt; said(alloc, "p;q", "F", &proof)?, Said::Refused(1, Rule::Combine));
+    assert_eq!(rt;
+        said(alloc, "p;q", "F", &proof)?,
+        Said::Refused(1, Rule::Combine)
+    );
     Ok(())
 }
 
@@ -127,7 +154,10 @@ fn combine(rt: HostRuntime) -> Result<(), Fail> {
 fn tighten(rt: HostRuntime) -> Result<(), Fail> {
     let alloc = rt.alloc();
     let proof = closed(alloc, [Step::Tighten(0)], 2, 1)?;
-    assert_eq!(rt; said(alloc, "<= 1 +1 2 x 0", "<= 1 x", &proof)?, Said::Accepted);
+    assert_eq!(rt;
+        said(alloc, "<= 1 +1 2 x 0", "<= 1 x", &proof)?,
+        Said::Accepted
+    );
     let proof = closed(alloc, [Step::Tighten(2)], 2, 1)?;
     let refused = Said::Refused(1, Rule::Tighten);
     assert_eq!(rt; said(alloc, "<= 1 +1 2 x 0", "<= 1 x", &proof)?, refused);
