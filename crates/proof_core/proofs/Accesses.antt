@@ -82,9 +82,9 @@ module _ (defs : List Def) (vars : List Kind) (bodies : bodies_sorted vars [] de
 
     pub parts_of : (r : Value) → Has defs frees (accessed a) r → (p : Parts) × (r ≡ look (put p.table (int_of p.at) p.value) (int_of p.index))
     parts_of r g = let w = g.2 in (
-        record { table = w.0; at = w.1; value = w.2; index = g.1; table_has = w.3; at_has = w.4; value_has = w.5; index_has = g.3 },
-        g.4 ∙ ap (λ m. look m (int_of g.1)) w.6,
-      )
+      record { table = w.0; at = w.1; value = w.2; index = g.1; table_has = w.3; at_has = w.4; value_has = w.5; index_has = g.3 },
+      g.4 ∙ ap (λ m. look m (int_of g.1)) w.6,
+    )
 
     pub distance_has : (p : Parts) (d : Tree) → normal vars defs [] difference ≡ Some d → Has defs frees d (whole (apart (int_of p.at) (int_of p.index)))
     distance_has p d e = normal_gives vars defs frees (calls_of frees defs) (has_defined frees defs) (keeps_defined frees defs) fit (call_sorts vars defs bodies frees fit) difference d [] [] int (whole (apart (int_of p.at) (int_of p.index))) e difference_sort refl

@@ -1,10 +1,7 @@
 -- Combine, tighten and trichotomy are sound.
-use Rattle.std.proofs.Common.{◌≡◌, ◌∙◌, refl, sym, ap, subst, ℕ, ℤ, pos, ◌+ℤ◌, ◌*ℤ◌, int_lt, int_le, int_eq, Bool, true, false, not, ◌&&◌, IsTrue, Some, List, [], ◌∷◌, arith}
-use Rattle.std.proofs.lemmas.Int.{ints}
-use Rattle.logic_core.specs.Tree.{Kind, int, boolean, Tree, num, linear, equal, at_most}
-use Rattle.logic_core.specs.Value.{Value, whole, flag, int_of, holds, are_of}
-use Rattle.logic_core.specs.Def.{Def}
-use Rattle.logic_core.specs.Wide.{◌>>=◌, when}
+use Rattle.std.proofs.Common.{◌≡◌, refl, ◌&&◌, Some, [], ◌∷◌}
+use Rattle.logic_core.specs.Tree.{int}
+use Rattle.logic_core.specs.Wide.{◌>>=◌}
 use Rattle.logic_core.specs.Sorts.{is}
 use Rattle.logic_core.specs.Tighten.{tighten}
 use Rattle.logic_core.specs.Combine.{linear_of, combined, at_least_zero}
@@ -15,10 +12,10 @@ use Rattle.logic_laws.proofs.Options.{bind_some}
 use Rattle.logic_laws.proofs.SortTests.{is_sort}
 use Rattle.logic_laws.proofs.Tightened.{tighten_sort}
 use Rattle.logic_laws.proofs.Assigned.{same_tightened}
-use Rattle.proof_core.specs.Context.{Context, fact, named, with_fact, appended}
+use Rattle.proof_core.specs.Context.{fact, named, with_fact, appended}
 use Rattle.proof_core.specs.Maps.{below_zero, at_zero, above_zero}
-use Rattle.proof_core.specs.Arithmetic.{combination, tightened, three_ways}
-use Rattle.proof_core.specs.Soundness.{IsFormula, IsSorted, IsUnsatisfiable, IsRefutedBy, CombineIsSound, TightenIsSound, TrichotomyIsSound}
+use Rattle.proof_core.specs.Arithmetic.{combination, tightened}
+use Rattle.proof_core.specs.Soundness.{IsFormula, CombineIsSound, TightenIsSound, TrichotomyIsSound}
 use Rattle.proof_core.proofs.Closed.{HoldsIn, same_holds, has_one, value_sort}
 use Rattle.proof_core.proofs.Conditions.{when_then, three_given}
 use Rattle.proof_core.proofs.Said.{number_value}

@@ -1,5 +1,5 @@
 -- Close is sound, and so is the start.
-use Rattle.std.proofs.Common.{◌≡◌, sym, subst, nat_eq, true, false, ◌&&◌, ◌||◌, IsTrue, List, [], ◌∷◌, ◌++◌}
+use Rattle.std.proofs.Common.{sym, subst, nat_eq, true, false, ◌&&◌, ◌||◌, IsTrue, List, [], ◌∷◌, ◌++◌}
 use Rattle.std.specs.Prelude.{All}
 use Rattle.std.proofs.lemmas.List.Elements.{All-nil, All-push}
 use Rattle.logic_core.specs.Tree.{Tree, truth, negation}

@@ -1,11 +1,11 @@
 -- Verdicts on proofs, by computing.
 use Rattle.std.proofs.Common.{◌≡◌, refl, false, List, [], ◌∷◌}
 use Rattle.std.specs.Prelude.{Ok, Err, pos, negsuc}
-use Rattle.logic_core.specs.Tree.{int, boolean, map, Tree, num, truth, free, bound, linear, read, write, choose, call, negation, all, some, equal, at_most, for_all, exists, no_trees, tree, no_parts, part, no_patterns}
+use Rattle.logic_core.specs.Tree.{int, boolean, map, Tree, num, truth, free, bound, linear, read, write, call, negation, some, equal, at_most, for_all, no_trees, tree, no_parts, part, no_patterns}
 use Rattle.logic_core.specs.Order.{first}
 use Rattle.logic_core.specs.Def.{Obligation}
 use Rattle.logic_core.proofs.Samples.{incremented}
-use Rattle.proof_core.specs.Proof.{Step, by_split, by_instantiate, by_skolem, by_replace, by_unfold, by_back, by_differ, by_combine, by_tighten, Proof, proof, by_close, by_cases, by_condition, by_past, by_trichotomy, no_proofs, one_proof}
+use Rattle.proof_core.specs.Proof.{Step, by_split, by_instantiate, by_replace, by_unfold, by_back, by_differ, by_combine, by_tighten, Proof, proof, by_close, by_cases, by_trichotomy, no_proofs, one_proof}
 use Rattle.proof_core.specs.Rule as rule
 use Rattle.proof_core.specs.Verdict.{verdict}
 

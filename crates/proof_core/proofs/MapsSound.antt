@@ -1,6 +1,6 @@
 -- Back, past and differ are sound.
-use Rattle.std.proofs.Common.{◌≡◌, ◌∙◌, refl, sym, ap, subst, ℕ, ◌+◌, ℤ, pos, int_eq, Bool, true, false, not, cond, ◌&&◌, IsTrue, Option, Some, None, List, [], ◌∷◌, ◌++◌, length, arith}
-use Rattle.std.specs.Prelude.{is_some, slice_get}
+use Rattle.std.proofs.Common.{◌≡◌, ◌∙◌, refl, sym, ap, subst, ℕ, ◌+◌, ℤ, pos, int_eq, true, not, cond, ◌&&◌, IsTrue, Option, Some, None, List, [], ◌∷◌, ◌++◌, length, arith}
+use Rattle.std.specs.Prelude.{is_some}
 use Rattle.std.proofs.lemmas.Bool.Decides.{Decides-int_eq}
 use Rattle.logic_core.specs.Tree.{Kind, int, boolean, map, Tree, num, free, read, negation, equal}
 use Rattle.logic_core.specs.Value.{Value, whole, flag, int_of, same, look, at, are_of}
@@ -9,16 +9,16 @@ use Rattle.logic_core.specs.Wide.{◌>>=◌}
 use Rattle.logic_core.specs.Sorts.{sort_of}
 use Rattle.logic_core.specs.Subterm.{replaced}
 use Rattle.logic_core.proofs.Replaced.{Same}
-use Rattle.logic_laws.proofs.Options.{both_true, bind_some, some_has, cond_has}
+use Rattle.logic_laws.proofs.Options.{both_true, bind_some, cond_has}
 use Rattle.logic_laws.proofs.FormulaSorts.{equal_sort, negation_sort, part_of_negation, parts_of_equal}
 use Rattle.logic_laws.proofs.NormalSorts.{read_sort}
 use Rattle.logic_laws.proofs.SameValue.{same_equal, equal_same, value_stable}
-use Rattle.logic_laws.proofs.WrittenTables.{same_by_reads, other_index}
+use Rattle.logic_laws.proofs.WrittenTables.{same_by_reads}
 use Rattle.proof_core.specs.Context.{Context, fact, named, with_variables, appended, appended_each}
 use Rattle.proof_core.specs.Split.{stands_in}
-use Rattle.proof_core.specs.Maps.{Access, access, before_write, as_number, below_zero, at_zero, above_zero, distance, read_at_distance, moved_back, moved_past, different_at, different, differing}
+use Rattle.proof_core.specs.Maps.{Access, access, before_write, as_number, below_zero, at_zero, above_zero, distance, read_at_distance, moved_back, different_at, different, differing}
 use Rattle.proof_core.specs.Soundness.{IsFormula, IsSorted, IsUnsatisfiable, IsRefutedBy, BackIsSound, PastIsSound, DifferIsSound}
-use Rattle.proof_core.proofs.Closed.{Of, HoldsIn, Has, has_one, value_holds, holds_by_value, value_sort, same_back, same_by_value}
+use Rattle.proof_core.proofs.Closed.{Of, HoldsIn, Has, has_one, value_holds, holds_by_value, value_sort, same_by_value}
 use Rattle.proof_core.proofs.Conditions.{when_then, some_given, three_given, at_test}
 use Rattle.proof_core.proofs.Appended.{appended_extends, each_extends, three_children, at_fact, All-one, All-two}
 use Rattle.proof_core.proofs.Replacing.{replaced_followed}

@@ -1,5 +1,5 @@
 -- New variables: over them the facts before are formulas still and hold with any values for them.
-use Rattle.std.proofs.Common.{◌≡◌, ◌∙◌, refl, sym, ap, subst, ℕ, zero, suc, ◌+◌, ◌-◌, ◌≤◌, true, IsTrue, Some, List, [], ◌∷◌, ◌++◌, length, get_or, arith}
+use Rattle.std.proofs.Common.{◌≡◌, ◌∙◌, refl, sym, ap, ℕ, zero, suc, ◌+◌, ◌-◌, ◌≤◌, true, IsTrue, Some, List, [], ◌∷◌, ◌++◌, length, get_or, arith}
 use Rattle.std.specs.Prelude.{All, slice_get}
 use Rattle.logic_core.specs.Tree.{Kind, boolean, Tree, free}
 use Rattle.logic_core.specs.Value.{Value, holds, at, is_of, are_of}

@@ -15,7 +15,7 @@ use Rattle.logic_laws.proofs.Options.{bind_some}
 use Rattle.logic_laws.proofs.FormulaSorts.{parts_of_quantifier}
 use Rattle.logic_laws.proofs.SubstitutedValues.{substituted_sort, same_substituted}
 use Rattle.logic_laws.proofs.Assigned.{instance_holds, witness_exists, same_more}
-use Rattle.proof_core.specs.Context.{Context, fact, variables_from, new_variables, with_variables, appended}
+use Rattle.proof_core.specs.Context.{Context, fact, new_variables, with_variables, appended}
 use Rattle.proof_core.specs.Quantifiers.{instantiated, skolemized}
 use Rattle.proof_core.specs.Soundness.{IsFormula, IsSorted, IsUnsatisfiable, InstantiateIsSound, SkolemIsSound}
 use Rattle.proof_core.proofs.Closed.{HoldsIn}

@@ -1,8 +1,7 @@
 -- A number is below, at or above zero, as linear facts say it.
-use Rattle.std.proofs.Common.{◌≡◌, ◌∙◌, refl, sym, ap, subst, ℤ, pos, negsuc, ◌+ℤ◌, ◌*ℤ◌, int_le, Bool, true, false, Some, List, [], ◌∷◌, arith}
+use Rattle.std.proofs.Common.{◌≡◌, ◌∙◌, refl, sym, ap, subst, ℤ, pos, negsuc, ◌+ℤ◌, ◌*ℤ◌, int_le, true, false, Some, List, [], arith}
 use Rattle.std.proofs.lemmas.Int.{ints}
-use Rattle.std.proofs.lemmas.Bool.Decides.{Decides-int_eq}
-use Rattle.logic_core.specs.Tree.{Kind, int, boolean, Tree, num, linear, no_parts, part}
+use Rattle.logic_core.specs.Tree.{Kind, int, Tree, num, linear, no_parts, part}
 use Rattle.logic_core.specs.Value.{Value, whole, flag, int_of, same}
 use Rattle.logic_core.specs.Def.{Def}
 use Rattle.logic_core.specs.Sorts.{sort_of, are_ints}

@@ -1,5 +1,5 @@
 -- An accepted proof shows that its goal is valid.
-use Rattle.std.proofs.Common.{◌≡◌, sym, subst, List, [], ◌∷◌}
+use Rattle.std.proofs.Common.{subst, List, [], ◌∷◌}
 use Rattle.std.specs.Prelude.{All}
 use Rattle.std.proofs.lemmas.List.Elements.{All-nil, All-cons, All-head, All-tail}
 use Rattle.logic_core.specs.Def.{Def}

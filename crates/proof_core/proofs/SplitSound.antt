@@ -9,7 +9,6 @@ use Rattle.logic_core.specs.Meaning.{If}
 use Rattle.logic_core.specs.Wide.{◌>>=◌}
 use Rattle.logic_core.specs.Sorts.{is, sort_of, are_formulas}
 use Rattle.logic_core.specs.Subterm.{listed, replaced}
-use Rattle.logic_core.proofs.Replaced.{Same}
 use Rattle.logic_laws.proofs.Options.{bind_some, when_some, when_true}
 use Rattle.logic_laws.proofs.SortTests.{is_sort}
 use Rattle.logic_laws.proofs.FormulaSorts.{first_formula, one_more_formula, parts_of_all, part_of_negation, negation_sort, parts_of_equal}
@@ -19,10 +18,10 @@ use Rattle.logic_laws.proofs.SameValue.{same_equal, equal_same}
 use Rattle.proof_core.specs.Context.{Context, fact, appended, appended_each, children, named}
 use Rattle.proof_core.specs.Split.{stands_in, both, disjuncts, split, equal_cases, unequal_cases, cases, split_cases, conditions, split_condition}
 use Rattle.proof_core.specs.Soundness.{IsFormula, IsSorted, IsUnsatisfiable, IsRefutedBy, SplitIsSound, CasesAreSound, ConditionIsSound}
-use Rattle.proof_core.proofs.Closed.{Of, HoldsIn, AllHold, Has, has_one, value_holds, holds_by_value, value_sort, same_back}
+use Rattle.proof_core.proofs.Closed.{HoldsIn, Has, has_one, value_holds, holds_by_value, value_sort, same_back}
 use Rattle.proof_core.proofs.Conditions.{when_then, some_given, both_given, at_test}
 use Rattle.proof_core.proofs.Junctions.{parts_hold, none_holds, both_hold}
-use Rattle.proof_core.proofs.Appended.{AreChildren, appended_extends, each_extends, followed, one_more_child, children_extend, two_children, at_fact, All-two}
+use Rattle.proof_core.proofs.Appended.{appended_extends, each_extends, followed, one_more_child, children_extend, two_children, at_fact, All-two}
 use Rattle.proof_core.proofs.Replacing.{replaced_formula, replaced_holds}
 
 -- the parts of an And or Or are formulas

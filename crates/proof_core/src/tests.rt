@@ -55,7 +55,12 @@ fn each_step_and_each_end_is_a_node(rt: HostRuntime) -> Result<(), Fail> {
     assert_eq!(rt; three_cases(alloc)?.size(), 10);
     let condition = End::Condition(0, variable(0), boxed(alloc, 1)?, boxed(alloc, 2)?);
     assert_eq!(rt; ended(alloc, condition).size(), 6);
-    let past = End::Past(variable(0), boxed(alloc, 0)?, boxed(alloc, 1)?, boxed(alloc, 2)?);
+    let past = End::Past(
+        variable(0),
+        boxed(alloc, 0)?,
+        boxed(alloc, 1)?,
+        boxed(alloc, 2)?,
+    );
     assert_eq!(rt; ended(alloc, past).size(), 7);
     Ok(())
 }
@@ -69,7 +74,12 @@ fn a_copy_has_the_same_nodes(rt: HostRuntime) -> Result<(), Fail> {
     assert!(rt; matches!(copied.steps.last(), Some(Step::Replace(1, 2, _))));
     let mut terms = Vec::new(alloc);
     terms.push(variable(3))?;
-    assert!(rt; matches!(Step::Instantiate(7, terms).copy(alloc)?, Step::Instantiate(7, _)));
+    assert!(rt;
+        matches!(
+            Step::Instantiate(7, terms).copy(alloc)?,
+            Step::Instantiate(7, _)
+        )
+    );
     let sum = Step::Combine(1, -2, 3, 4).copy(alloc)?;
     assert!(rt; matches!(sum, Step::Combine(1, -2, 3, 4)));
     Ok(())
@@ -78,7 +88,12 @@ fn a_copy_has_the_same_nodes(rt: HostRuntime) -> Result<(), Fail> {
 #[test]
 fn nodes_name_their_rules(rt: HostRuntime) -> Result<(), Fail> {
     let alloc = rt.alloc();
-    let cut = End::Trichotomy(variable(0), boxed(alloc, 0)?, boxed(alloc, 0)?, boxed(alloc, 0)?);
+    let cut = End::Trichotomy(
+        variable(0),
+        boxed(alloc, 0)?,
+        boxed(alloc, 0)?,
+        boxed(alloc, 0)?,
+    );
     let word = cut.rule().to_string(alloc)?;
     assert!(rt; word.as_str() == "trichotomy");
     assert!(rt; three_cases(alloc)?.end.rule() == Rule::Split);

@@ -1,11 +1,11 @@
 -- Rewrite, unfold and split are rules of proofs.
-use Rattle.std.specs.Prelude.{◌≡◌, refl, ℕ, suc, ◌+◌, nat_eq, nat_le, Bool, true, false, ◌&&◌, ◌||◌, not, cond, Option, Some, None, is_some, IsTrue, List, [], ◌∷◌, ◌++◌, length, find, All, map, if◌then◌else◌}
+use Rattle.std.specs.Prelude.{◌≡◌, refl, ℕ, suc, ◌+◌, nat_eq, nat_le, Bool, true, false, ◌&&◌, ◌||◌, not, cond, Option, Some, None, is_some, IsTrue, List, [], ◌∷◌, ◌++◌, length, find, slice_get, All, map, if◌then◌else◌}
 use Rattle.std.specs.List.{list_any}
 use Rattle.std.proofs.Common.{sym, ◌∙◌, ap, subst, arith, inl, inr, ◌⊎◌}
 use Rattle.std.proofs.lemmas.List.{length-append, length_push}
 use Rattle.std.proofs.lemmas.List.Elements.{All-nil, All-cons, All-head, All-tail, All-append, All-push}
 use Rattle.std.proofs.lemmas.Bool.{eqb-true, eq-eqb}
-use Rattle.logic_core.specs.Tree.{Kind, boolean, Tree, all, some, call, no_trees, Trees}
+use Rattle.logic_core.specs.Tree.{Kind, boolean, Tree, all, some, call, no_trees, tree, Trees}
 use Rattle.logic_core.specs.Def.{Def}
 use Rattle.logic_core.specs.Normal.{normal}
 use Rattle.logic_core.specs.Same.{same_term, is_some_and}
@@ -206,6 +206,12 @@ module _ (defs : List Def) where
   abbrev Splits : Context → ℕ → List Context → Type 0
   Splits c n ds = (d : Context) × (rest : List Context) × (ds ≡ d ∷ rest) × (after_cases defs c n ≡ Some (d, rest))
 
+  split_known : (c : Context) (n : ℕ) (g : Tree) (ds : Context × List Context) → fact c n ≡ Some g → split_cases defs c g ≡ Some ds → after_cases defs c n ≡ Some ds
+  split_known c n g ds known h = rw known h
+
+  split_given : (c d : Context) (t : Tree) (us : Trees) (rest : List Context) → appended defs c t ≡ Some d → children defs c (listed us) ≡ Some rest → split_cases defs c (some (tree t us)) ≡ Some (d, rest)
+  split_given c d t us rest h k = rw (h, k) refl
+
   splits : (c : Context) (n : ℕ) (g : Tree) (ts : List Tree) (ds : List Context) → fact c n ≡ Some g → disjuncts_of g ≡ Some ts → children defs c ts ≡ Some ds → Splits c n ds
   splits c n (some (tree t us)) ts ds known form h =
       let is_ts : t ∷ listed us ≡ ts = cc in
@@ -213,8 +219,7 @@ module _ (defs : List Def) where
       let p = bind_some (appended defs c t) (λ d. children defs c (listed us) >>= λ rest. Some (d ∷ rest)) ds first in
       let q = bind_some (children defs c (listed us)) (λ rest. Some (p.0 ∷ rest)) ds p.2 in
       let is_ds : p.0 ∷ q.0 ≡ ds = cc in
-      let after : split_cases defs c (some (tree t us)) ≡ Some (p.0, q.0) = rw (p.1, q.1) refl in
-      (p.0, q.0, sym is_ds, rw known after)
+      (p.0, q.0, sym is_ds, split_known c n (some (tree t us)) (p.0, q.0) known (split_given c p.0 t us q.0 p.1 q.1))
   splits c n (some no_trees) ts ds known form h = absurd (cc)
   splits c n g ts ds known form h = absurd (cc)
 
