@@ -1,5 +1,0 @@
-pub mod Refusals
-pub mod Added
-pub mod ContextCodes
-pub mod ReadOf
-pub mod Checked
