@@ -5,5 +5,7 @@
 
 mod cache;
 mod present;
+#[cfg(test)]
+mod tests;
 
 pub use cache::Cache;

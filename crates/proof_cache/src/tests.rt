@@ -1,0 +1,77 @@
+//! A cache by example.
+ghost use Rattle.std.specs.Prelude.{⊤};
+ghost use Rattle.std.specs.Arc.{arc_value};
+
+use crate::Cache;
+use bv_base::{Answered, Question};
+use std::alloc::Global;
+use std::process::Abort;
+use std::sync::Arc;
+use std::test::Fail;
+
+/// A question that is its key.
+#[derive(Drop)]
+struct Asked {
+    key: Vec<u8>,
+}
+
+impl Question for Asked {
+    ghost key = { λ q. q.key.items };
+
+    fn key(&self) -> &[u8] {
+        &self.key
+    }
+}
+
+/// A question, and whether it was proved.
+#[derive(Drop)]
+struct Settled {
+    question: Arc<Asked, Global>,
+    proved: bool,
+}
+
+impl Answered for Settled {
+    type Q = Asked;
+
+    ghost asked = { λ s. arc_value s.question };
+
+    ghost right = { λ _. ⊤ };
+
+    fn question(&self) -> &Arc<Asked, Global> {
+        &self.question
+    }
+}
+
+fn found(cache: &Cache<Settled>, key: &[u8]) -> Option<bool> {
+    match cache.find(key) {
+        Some(answer) => Some(answer.proved),
+        None => None,
+    }
+}
+
+fn keep<R: Abort>(rt: &R, cache: &mut Cache<Settled>, answer: Arc<Settled, Global>) {
+    assert!(rt; cache.has_place(answer.question().key()));
+    cache.keep(answer);
+}
+
+#[test]
+fn an_older_answer_stays_and_is_found_by_its_key(rt: HostRuntime) -> Result<(), Fail> {
+    let alloc = rt.alloc();
+    let mut cache = Cache::new(alloc);
+    let key = Vec::from_slice(alloc, &[1, 2])?;
+    let question = Arc::new(alloc, Asked { key })?;
+    cache.place(&question)?;
+    assert!(rt; cache.has_place(&[1, 2]) && !cache.has_place(&[2, 1]));
+    assert_eq!(rt; found(&cache, &[1, 2]), None);
+    for proved in [true, false] {
+        let question = question.clone()?;
+        let answer = Arc::new(alloc, Settled { question, proved })?;
+        keep(&rt, &mut cache, answer);
+        assert_eq!(rt; found(&cache, &[1, 2]), Some(true));
+    }
+    cache.unplace(&[1, 2]);
+    cache.trim(&[])?;
+    assert_eq!(rt; found(&cache, &[1, 2]), Some(true));
+    assert_eq!(rt; found(&cache, &[1]), None);
+    Ok(())
+}
