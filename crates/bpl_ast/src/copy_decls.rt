@@ -1,0 +1,188 @@
+// Copies of declarations and of what stands in them. Each is equal to what it copies.
+ghost use Rattle.std.specs.Prelude.{◌≡◌, IfOk};
+ghost use Rattle.bpl_ast.specs.DeclView.{body_of};
+
+use crate::copy_exprs::{copy_each_groups, copy_groups, copy_optional_expr};
+use crate::copy_names::{copy_names, copy_optional_name, copy_type_params};
+use crate::copy_stmts::copy_stmts;
+use crate::decl::{Argument, Body, Decl, DeclBody, Program, Signature, Spec, SpecForm};
+use crate::types::Type;
+use std::alloc::{AllocError, Global};
+
+impl Spec {
+    /// An equal clause.
+    pub fn copy(&self, alloc: Global) -> Result<Spec, AllocError>
+        ensures { IfOk result (λ s. s ≡ self.now) }
+    {
+        let at = self.at;
+        match &self.form {
+            SpecForm::Requires(free, x) => Ok(Spec {
+                at,
+                form: SpecForm::Requires(*free, x.copy(alloc)?),
+            }),
+            SpecForm::Ensures(free, x) => Ok(Spec {
+                at,
+                form: SpecForm::Ensures(*free, x.copy(alloc)?),
+            }),
+            SpecForm::Modifies(names) => Ok(Spec {
+                at,
+                form: SpecForm::Modifies(copy_names(alloc, names)?),
+            }),
+        }
+    }
+}
+
+/// Equal clauses.
+pub fn copy_specs(alloc: Global, clauses: &[Spec]) -> Result<Vec<Spec>, AllocError>
+    ensures { IfOk result (λ v. v.items ≡ clauses.now) }
+{
+    let mut copies = Vec::new(alloc);
+    for clause in clauses {
+        copies.push(clause.copy(alloc)?)?;
+    }
+    Ok(copies)
+}
+
+impl Body {
+    /// An equal body.
+    pub fn copy(&self, alloc: Global) -> Result<Body, AllocError>
+        ensures { IfOk result (λ b. b ≡ self.now) }
+    {
+        Ok(Body {
+            locals: copy_each_groups(alloc, &self.locals)?,
+            stmts: copy_stmts(alloc, &self.stmts)?,
+        })
+    }
+}
+
+fn copy_optional_body(alloc: Global, body: &Option<Body>) -> Result<Option<Body>, AllocError>
+    ensures { IfOk result (λ b. b ≡ body.now) }
+{
+    match body {
+        Some(body) => Ok(Some(body.copy(alloc)?)),
+        None => Ok(None),
+    }
+}
+
+impl Signature {
+    /// An equal signature.
+    pub fn copy(&self, alloc: Global) -> Result<Signature, AllocError>
+        ensures { IfOk result (λ s. s ≡ self.now) }
+    {
+        Ok(Signature {
+            ins: copy_groups(alloc, &self.ins)?,
+            outs: copy_groups(alloc, &self.outs)?,
+        })
+    }
+}
+
+impl Argument {
+    /// An equal parameter.
+    pub fn copy(&self, alloc: Global) -> Result<Argument, AllocError>
+        ensures { IfOk result (λ a. a ≡ self.now) }
+    {
+        Ok(Argument {
+            name: copy_optional_name(alloc, &self.name)?,
+            of: self.of.copy(alloc)?,
+        })
+    }
+}
+
+/// Equal parameters.
+pub fn copy_arguments(alloc: Global, arguments: &[Argument]) -> Result<Vec<Argument>, AllocError>
+    ensures { IfOk result (λ v. v.items ≡ arguments.now) }
+{
+    let mut copies = Vec::new(alloc);
+    for argument in arguments {
+        copies.push(argument.copy(alloc)?)?;
+    }
+    Ok(copies)
+}
+
+fn copy_optional_type(alloc: Global, of: &Option<Type>) -> Result<Option<Type>, AllocError>
+    ensures { IfOk result (λ t. t ≡ of.now) }
+{
+    match of {
+        Some(of) => Ok(Some(of.copy(alloc)?)),
+        None => Ok(None),
+    }
+}
+
+impl DeclBody {
+    /// An equal declaration.
+    pub fn copy(&self, alloc: Global) -> Result<DeclBody, AllocError>
+        ensures { IfOk result (λ b. body_of b ≡ body_of self.now) }
+    {
+        match self {
+            DeclBody::Const(unique, names, of) => Ok(DeclBody::Const(
+                *unique,
+                copy_names(alloc, names)?,
+                of.copy(alloc)?,
+            )),
+            DeclBody::Function(name, params, arguments, of, body) => Ok(DeclBody::Function(
+                name.copy(alloc)?,
+                copy_type_params(alloc, params)?,
+                copy_arguments(alloc, arguments)?,
+                of.copy(alloc)?,
+                copy_optional_expr(alloc, body)?,
+            )),
+            DeclBody::Axiom(x) => Ok(DeclBody::Axiom(x.copy(alloc)?)),
+            DeclBody::Var(groups) => Ok(DeclBody::Var(copy_groups(alloc, groups)?)),
+            DeclBody::TypeName(name, of) => Ok(DeclBody::TypeName(
+                name.copy(alloc)?,
+                copy_optional_type(alloc, of)?,
+            )),
+            DeclBody::Procedure(name, params, signature, clauses, body) => Ok(DeclBody::Procedure(
+                name.copy(alloc)?,
+                copy_type_params(alloc, params)?,
+                signature.copy(alloc)?,
+                copy_specs(alloc, clauses)?,
+                copy_optional_body(alloc, body)?,
+            )),
+            DeclBody::Implementation(name, params, signature, body) => {
+                Ok(DeclBody::Implementation(
+                    name.copy(alloc)?,
+                    copy_type_params(alloc, params)?,
+                    signature.copy(alloc)?,
+                    body.copy(alloc)?,
+                ))
+            }
+        }
+    }
+}
+
+impl Decl {
+    /// An equal declaration, with its name, its span and its source.
+    pub fn copy(&self, alloc: Global) -> Result<Decl, AllocError>
+        ensures { IfOk result (λ d. d ≡ self.now) }
+    {
+        Ok(Decl {
+            name: String::from_str(alloc, self.name.as_str())?,
+            span: self.span,
+            source: self.source.clone()?,
+            body: self.body.copy(alloc)?,
+        })
+    }
+}
+
+/// Equal declarations.
+pub fn copy_decls(alloc: Global, decls: &[Decl]) -> Result<Vec<Decl>, AllocError>
+    ensures { IfOk result (λ v. v.items ≡ decls.now) }
+{
+    let mut copies = Vec::new(alloc);
+    for decl in decls {
+        copies.push(decl.copy(alloc)?)?;
+    }
+    Ok(copies)
+}
+
+impl Program {
+    /// An equal program.
+    pub fn copy(&self, alloc: Global) -> Result<Program, AllocError>
+        ensures { IfOk result (λ p. p ≡ self.now) }
+    {
+        Ok(Program {
+            decls: copy_decls(alloc, &self.decls)?,
+        })
+    }
+}

@@ -1,0 +1,157 @@
+// Declarations, and programs.
+use crate::expr::{Expr, Group};
+use crate::name::{Name, TypeParams};
+use crate::stmt::Stmt;
+use crate::types::Type;
+use bv_base::place::{Place, Span};
+use std::marker::Model;
+
+/// A clause of a procedure's contract, and the place of its word, `free` not counted.
+#[derive(Drop)]
+pub struct Spec {
+    pub at: Place,
+    pub form: SpecForm,
+}
+
+/// The forms of clauses; the truth value says whether the clause is free.
+#[derive(Drop)]
+pub enum SpecForm {
+    /// What holds where the procedure is called.
+    Requires(bool, Expr),
+    /// What holds where it ends.
+    Ensures(bool, Expr),
+    /// The global variables that it may change.
+    Modifies(Vec<Name>),
+}
+
+/// The body of a procedure: each `var` of its locals, and its statements.
+#[derive(Drop)]
+pub struct Body {
+    pub locals: Vec<Vec<Group>>,
+    pub stmts: Vec<Stmt>,
+}
+
+/// The parameters of a procedure, and its results.
+#[derive(Drop)]
+pub struct Signature {
+    pub ins: Vec<Group>,
+    pub outs: Vec<Group>,
+}
+
+/// A parameter of a function, perhaps without a name.
+#[derive(Drop)]
+pub struct Argument {
+    pub name: Option<Name>,
+    pub of: Type,
+}
+
+/// The forms of declarations.
+#[derive(Drop)]
+pub enum DeclBody {
+    /// Constants, with the place of the word `unique`.
+    Const(Option<Place>, Vec<Name>, Type),
+    /// A function, its parameters, the type of its values, and the body that defines it.
+    Function(Name, Option<TypeParams>, Vec<Argument>, Type, Option<Expr>),
+    /// A formula that is taken to hold.
+    Axiom(Expr),
+    /// Global variables.
+    Var(Vec<Group>),
+    /// A user type, or a synonym.
+    TypeName(Name, Option<Type>),
+    /// A procedure, its contract, and its body where it stands there.
+    Procedure(Name, Option<TypeParams>, Signature, Vec<Spec>, Option<Body>),
+    /// The body of a procedure, declared apart.
+    Implementation(Name, Option<TypeParams>, Signature, Body),
+}
+
+/// A declaration. Its name is that of the first thing that it declares, `@k` for the k-th axiom,
+/// or `implementation P`. Its span is in the program's text, and its source the bytes there.
+#[derive(Drop)]
+pub struct Decl {
+    pub name: String,
+    pub span: Span,
+    pub source: Vec<u8>,
+    pub body: DeclBody,
+}
+
+/// A program: its declarations, in the order of its text.
+#[derive(Drop)]
+pub struct Program {
+    pub decls: Vec<Decl>,
+}
+
+impl Model for Spec {
+    ghost use Rattle.bpl_ast.specs.Statement.{Spec as clause};
+    ghost use Rattle.bpl_ast.specs.DeclCodes.{coded_spec};
+
+    ghost Value = { clause };
+
+    ghost coded = { coded_spec };
+
+    ghost use Rattle.bpl_ast.specs.SpecView.{spec_of};
+
+    ghost view = { λ a. spec_of a.at a.form };
+}
+
+impl Model for Body {
+    ghost use Rattle.bpl_ast.specs.Statement.{Body as body};
+    ghost use Rattle.bpl_ast.specs.DeclCodes.{coded_body};
+    ghost use Rattle.bpl_ast.specs.ExprView.{each_groups_of};
+    ghost use Rattle.bpl_ast.specs.StmtView.{stmts_of};
+
+    ghost Value = { body };
+
+    ghost coded = { coded_body };
+
+    ghost view = { λ a. record { locals = each_groups_of a.locals.items; stmts = stmts_of a.stmts.items } };
+}
+
+impl Model for Signature {
+    ghost use Rattle.bpl_ast.specs.Statement.{Signature as signature};
+    ghost use Rattle.bpl_ast.specs.DeclCodes.{coded_signature};
+    ghost use Rattle.bpl_ast.specs.ExprView.{groups_of};
+
+    ghost Value = { signature };
+
+    ghost coded = { coded_signature };
+
+    ghost view = { λ a. record { ins = groups_of a.ins.items; outs = groups_of a.outs.items } };
+}
+
+impl Model for Argument {
+    ghost use Rattle.bpl_ast.specs.Statement.{Argument as argument};
+    ghost use Rattle.bpl_ast.specs.DeclCodes.{coded_argument};
+
+    ghost Value = { argument };
+
+    ghost coded = { coded_argument };
+
+    ghost view = { λ a. record { name = a.name; type = a.of } };
+}
+
+impl Model for Decl {
+    ghost use Rattle.std.specs.Prelude.{string_bytes};
+    ghost use Rattle.bpl_ast.specs.Statement.{Decl as declaration};
+    ghost use Rattle.bpl_ast.specs.DeclCodes.{coded_decl};
+
+    ghost Value = { declaration };
+
+    ghost coded = { coded_decl };
+
+    ghost use Rattle.bpl_ast.specs.DeclView.{body_of};
+
+    ghost view = { λ a. record { name = string_bytes a.name; start = a.span.start; finish = a.span.end; source = a.source.items; body = body_of a.body } };
+}
+
+impl Model for Program {
+    ghost use Rattle.std.specs.Prelude.{List};
+    ghost use Rattle.std.specs.Coded.{coded_list};
+    ghost use Rattle.bpl_ast.specs.Statement.{Decl as declaration};
+    ghost use Rattle.bpl_ast.specs.DeclCodes.{coded_decl};
+
+    ghost Value = { List declaration };
+
+    ghost coded = { coded_list coded_decl };
+
+    ghost view = { λ a. a.decls.items };
+}

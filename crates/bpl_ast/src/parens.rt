@@ -1,0 +1,261 @@
+// Where parentheses are needed.
+ghost use Rattle.std.specs.Prelude.{◌≡◌, [], ◌∷◌};
+ghost use Rattle.bpl_ast.specs.ExprView.{exprs_of, terms_of, node_of};
+ghost use Rattle.bpl_ast.specs.Parens.{level, goes_on, chain_of, last_chain, operand_chain, compared, last_compared, operand_compared, if_takes, takes_in, operand_takes, last_takes, terms_take, is_caught, needs_parens};
+
+use crate::expr::{Expr, ExprForm, Term};
+use crate::sign::{Chain, Sign};
+
+/// The grammar's level of a form without parentheses: 0 for `<==>` up to 8 for an atom.
+pub fn level(form: &ExprForm) -> usize
+    ensures { result ≡ level (node_of form.now) }
+{
+    match form {
+        ExprForm::Iff(_) => 0,
+        ExprForm::Implies(_) => 1,
+        ExprForm::And(_) | ExprForm::Or(_) => 2,
+        ExprForm::Compared(_, _, _) => 3,
+        ExprForm::Sum(_, _) => 4,
+        ExprForm::Product(_) => 5,
+        ExprForm::Not(_) | ExprForm::Minus(_) => 6,
+        ExprForm::Indexed(_, _) => 7,
+        ExprForm::Number(_)
+        | ExprForm::Truth(_)
+        | ExprForm::Variable(_)
+        | ExprForm::Apply(_, _)
+        | ExprForm::Old(_, _)
+        | ExprForm::If(_, _, _)
+        | ExprForm::Quantified(_, _, _, _, _, _) => 8,
+    }
+}
+
+/// Whether an expression that ends in this chain, compared or not, goes on with the sign.
+fn goes_on(sign: Sign, chain: Chain, is_compared: bool) -> bool
+    ensures { result ≡ goes_on sign chain is_compared }
+{
+    match sign {
+        Sign::AndSign => match chain {
+            Chain::OrChain => false,
+            Chain::NoChain | Chain::AndChain => true,
+        },
+        Sign::OrSign => match chain {
+            Chain::AndChain => false,
+            Chain::NoChain | Chain::OrChain => true,
+        },
+        Sign::RelationSign => !is_compared,
+        Sign::IffSign | Sign::ImpliesSign | Sign::TermSign | Sign::FactorSign | Sign::IndexSign =>
+            true,
+    }
+}
+
+/// The chain that the form ends in.
+#[cycle(chain)]
+fn chain_of(form: &ExprForm) -> Chain
+    ensures { result ≡ chain_of (node_of form.now) }
+{
+    match form {
+        ExprForm::Iff(xs) => last_chain(1, xs),
+        ExprForm::Implies(xs) => last_chain(2, xs),
+        ExprForm::And(_) => Chain::AndChain,
+        ExprForm::Or(_) => Chain::OrChain,
+        ExprForm::Compared(_, _, _)
+        | ExprForm::Sum(_, _)
+        | ExprForm::Product(_)
+        | ExprForm::Not(_)
+        | ExprForm::Minus(_)
+        | ExprForm::Indexed(_, _)
+        | ExprForm::Number(_)
+        | ExprForm::Truth(_)
+        | ExprForm::Variable(_)
+        | ExprForm::Apply(_, _)
+        | ExprForm::Old(_, _)
+        | ExprForm::If(_, _, _)
+        | ExprForm::Quantified(_, _, _, _, _, _) => Chain::NoChain,
+    }
+}
+
+/// The chain that an operand ends in where that level stands; in parentheses it ends in none.
+#[cycle(chain)]
+fn operand_chain(at: usize, x: &Expr) -> Chain
+    ensures { result ≡ operand_chain at x.now }
+{
+    if level(&x.form) < at {
+        Chain::NoChain
+    } else {
+        chain_of(&x.form)
+    }
+}
+
+/// The chain that the last of the operands ends in.
+#[cycle(chain)]
+#[tactic(auto, using(crate::proofs::LastOperand::last_chain_is, crate::proofs::LastOperand::last_counts))]
+fn last_chain(at: usize, xs: &[Expr]) -> Chain
+    ensures { result ≡ last_chain at (exprs_of xs.now) }
+{
+    match xs.split_last() {
+        Some((last, _)) => operand_chain(at, last),
+        None => Chain::NoChain,
+    }
+}
+
+/// Whether the last operand of the form is compared.
+#[cycle(compared)]
+fn compared(form: &ExprForm) -> bool
+    ensures { result ≡ compared (node_of form.now) }
+{
+    match form {
+        ExprForm::Iff(xs) => last_compared(1, xs),
+        ExprForm::Implies(xs) => last_compared(2, xs),
+        ExprForm::And(xs) | ExprForm::Or(xs) => last_compared(3, xs),
+        ExprForm::Compared(_, _, _) => true,
+        ExprForm::Sum(_, _)
+        | ExprForm::Product(_)
+        | ExprForm::Not(_)
+        | ExprForm::Minus(_)
+        | ExprForm::Indexed(_, _)
+        | ExprForm::Number(_)
+        | ExprForm::Truth(_)
+        | ExprForm::Variable(_)
+        | ExprForm::Apply(_, _)
+        | ExprForm::Old(_, _)
+        | ExprForm::If(_, _, _)
+        | ExprForm::Quantified(_, _, _, _, _, _) => false,
+    }
+}
+
+/// Whether an operand ends compared where that level stands.
+#[cycle(compared)]
+fn operand_compared(at: usize, x: &Expr) -> bool
+    ensures { result ≡ operand_compared at x.now }
+{
+    if level(&x.form) < at {
+        false
+    } else {
+        compared(&x.form)
+    }
+}
+
+/// Whether the last of the operands ends compared.
+#[cycle(compared)]
+#[tactic(auto, using(crate::proofs::LastOperand::last_compared_is, crate::proofs::LastOperand::last_counts))]
+fn last_compared(at: usize, xs: &[Expr]) -> bool
+    ensures { result ≡ last_compared at (exprs_of xs.now) }
+{
+    match xs.split_last() {
+        Some((last, _)) => operand_compared(at, last),
+        None => false,
+    }
+}
+
+/// Whether an `if` that ends the form, outside parentheses, takes the sign in.
+#[cycle(takes)]
+fn if_takes(sign: Sign, form: &ExprForm) -> bool
+    ensures { result ≡ if_takes sign (node_of form.now) }
+{
+    match form {
+        ExprForm::If(_, _, y) => takes_in(sign, y),
+        ExprForm::Iff(xs) => last_takes(sign, 1, xs),
+        ExprForm::Implies(xs) => last_takes(sign, 2, xs),
+        ExprForm::And(xs) | ExprForm::Or(xs) => last_takes(sign, 3, xs),
+        ExprForm::Compared(_, _, y) => operand_takes(sign, 4, y),
+        ExprForm::Sum(_, terms) => terms_take(sign, terms),
+        ExprForm::Product(xs) => last_takes(sign, 6, xs),
+        ExprForm::Not(x) | ExprForm::Minus(x) => operand_takes(sign, 6, x),
+        ExprForm::Indexed(_, _)
+        | ExprForm::Number(_)
+        | ExprForm::Truth(_)
+        | ExprForm::Variable(_)
+        | ExprForm::Apply(_, _)
+        | ExprForm::Old(_, _)
+        | ExprForm::Quantified(_, _, _, _, _, _) => false,
+    }
+}
+
+/// Whether the operand after `else` takes the sign in.
+#[cycle(takes)]
+fn takes_in(sign: Sign, x: &Expr) -> bool
+    ensures { result ≡ takes_in sign x.now }
+{
+    goes_on(sign, chain_of(&x.form), compared(&x.form)) || if_takes(sign, &x.form)
+}
+
+/// Whether an operand takes the sign in where that level stands.
+#[cycle(takes)]
+fn operand_takes(sign: Sign, at: usize, x: &Expr) -> bool
+    ensures { result ≡ operand_takes sign at x.now }
+{
+    if level(&x.form) < at {
+        false
+    } else {
+        if_takes(sign, &x.form)
+    }
+}
+
+/// Whether the last of the operands takes the sign in.
+#[cycle(takes)]
+#[tactic(auto, using(crate::proofs::LastOperand::last_takes_is, crate::proofs::LastOperand::last_counts))]
+fn last_takes(sign: Sign, at: usize, xs: &[Expr]) -> bool
+    ensures { result ≡ last_takes sign at (exprs_of xs.now) }
+{
+    match xs.split_last() {
+        Some((last, _)) => operand_takes(sign, at, last),
+        None => false,
+    }
+}
+
+/// Whether the last part of a sum takes the sign in.
+#[cycle(takes)]
+#[tactic(auto, using(crate::proofs::LastOperand::terms_take_is, crate::proofs::LastOperand::last_term_counts))]
+fn terms_take(sign: Sign, terms: &[Term]) -> bool
+    ensures { result ≡ terms_take sign (terms_of terms.now) }
+{
+    match terms.split_last() {
+        Some((last, _)) => term_takes(sign, last),
+        None => false,
+    }
+}
+
+/// Whether a part of a sum takes the sign in.
+#[cycle(takes)]
+fn term_takes(sign: Sign, term: &Term) -> bool
+    ensures { result ≡ terms_take sign (terms_of (term.now ∷ [])) }
+{
+    match term {
+        Term::Plus(x) | Term::Less(x) => operand_takes(sign, 5, x),
+    }
+}
+
+/// Whether the form is an `if` that would take in the sign behind it.
+fn is_caught(behind: Option<Sign>, form: &ExprForm) -> bool
+    ensures { result ≡ is_caught behind (node_of form.now) }
+{
+    match behind {
+        Some(sign) => match form {
+            ExprForm::If(_, _, y) => takes_in(sign, y),
+            ExprForm::Iff(_)
+            | ExprForm::Implies(_)
+            | ExprForm::And(_)
+            | ExprForm::Or(_)
+            | ExprForm::Compared(_, _, _)
+            | ExprForm::Sum(_, _)
+            | ExprForm::Product(_)
+            | ExprForm::Not(_)
+            | ExprForm::Minus(_)
+            | ExprForm::Indexed(_, _)
+            | ExprForm::Number(_)
+            | ExprForm::Truth(_)
+            | ExprForm::Variable(_)
+            | ExprForm::Apply(_, _)
+            | ExprForm::Old(_, _)
+            | ExprForm::Quantified(_, _, _, _, _, _) => false,
+        },
+        None => false,
+    }
+}
+
+/// Whether parentheses stand around the form where that level stands and that sign comes next.
+pub fn needs_parens(at: usize, behind: Option<Sign>, form: &ExprForm) -> bool
+    ensures { result ≡ needs_parens at behind (node_of form.now) }
+{
+    level(form) < at || is_caught(behind, form)
+}
