@@ -1,0 +1,9 @@
+pub mod Identifiers
+pub mod Refused
+pub mod SeenLaws
+pub mod TokensLie
+pub mod Turns
+pub mod Standing
+pub mod Steps
+pub mod Programs
+pub mod Exactly

@@ -1,0 +1,12 @@
+use Rattle.std.proofs.Common.{◌≡◌, ◌++◌, length, codes}
+use Rattle.bpl_grammar.specs.Terminal.{fixed, sees}
+use Rattle.bpl_grammar.specs.Reading.{read_as, repeated}
+use Rattle.bpl_grammar.specs.ReadStatements.{entry_with, entries_with}
+use Rattle.bpl_parse.proofs.cursor.Cursor.entries.Given as goal
+
+-- the indices are those so far and those that are still to be read
+abbrev pub invariant-loop-alloc : goal.invariant-loop-alloc
+invariant-loop-alloc l = entries_with l.room l.fn.self ≡ read_as (λ xs. l.found.items ++ xs) (repeated (sees (fixed (codes "["))) (entry_with l.room) l.self)
+
+abbrev pub decreases-loop-alloc : goal.decreases-loop-alloc
+decreases-loop-alloc l = length l.self

@@ -1,0 +1,6 @@
+pub mod InText
+pub mod Answer
+pub mod Seen
+pub mod SeenStatements
+pub mod SeenDeclarations
+pub mod Program
