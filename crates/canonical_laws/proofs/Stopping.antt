@@ -1,0 +1,311 @@
+-- Where reading stops before a sign, no production on the way goes on with it.
+use Rattle.std.specs.Prelude.{◌≡◌, ℕ, zero, suc, ◌<◌, ◌≤◌, nat_lt, Bool, true, false, not, ◌&&◌, ◌||◌, List, IsTrue, Option, Some, None}
+use Rattle.std.proofs.Common.{refl, subst, arith}
+use Rattle.std.proofs.lemmas.Bool.Decides.{nat_tests}
+use Rattle.bv_base.specs.declared.place.Place.{Place}
+use Rattle.bpl_ast.specs.Tree.{expr, Node, number, truth, variable, apply, old, choose, quantified, iffs, implies, ands, ors, related, sums, products, negation, minus, indexed}
+use Rattle.bpl_ast.specs.Parens.{level, goes_on, chain_of, compared, is_caught, needs_parens}
+use Rattle.bpl_ast.specs.declared.sign.Sign.{Sign}
+use Rattle.bpl_ast.specs.declared.sign.Sign.TheVariants.{IffSign, ImpliesSign, AndSign, OrSign, RelationSign, TermSign, FactorSign, IndexSign}
+use Rattle.bpl_ast.specs.declared.sign.Chain.{Chain}
+use Rattle.bpl_ast.specs.declared.sign.Chain.TheVariants.{NoChain}
+use Rattle.bpl_grammar.specs.Lexeme.{Lexeme}
+use Rattle.canonical_laws.specs.Ahead.{weight, sees_text, sees_sign, is_iff, is_implies, is_and, is_or, is_relation, is_term, is_factor, is_index, only, ahead, stops, stops_operand}
+use Rattle.canonical_laws.proofs.Levels.{either_no, is_passed, both_true, no_not}
+
+-- not a sign of this level
+abbrev pub Differs : ℕ → Option Sign → Type 0
+Differs k None = Unit {0}
+Differs k (Some q) = weight q ≡ k → ⊥
+
+-- what is ahead, taken apart
+pub record IsAhead (s : Option Sign) (us : List Lexeme) : Type 0 where
+  pub iff : IsTrue (only (is_iff s) (sees_sign IffSign us))
+  pub implies : IsTrue (only (is_implies s) (sees_sign ImpliesSign us))
+  pub conjunct : IsTrue (only (is_and s) (sees_sign AndSign us))
+  pub disjunct : IsTrue (only (is_or s) (sees_sign OrSign us))
+  pub relation : IsTrue (only (is_relation s) (sees_sign RelationSign us))
+  pub term : IsTrue (only (is_term s) (sees_sign TermSign us))
+  pub factor : IsTrue (only (is_factor s) (sees_sign FactorSign us))
+  pub index : IsTrue (only (is_index s) (sees_sign IndexSign us))
+  pub call : IsTrue (not (sees_text "(" us))
+
+pub is_ahead : (s : Option Sign) (us : List Lexeme) → IsTrue (ahead s us) → IsAhead s us
+is_ahead s us h =
+    let a = both_true _ _ h in
+    let b = both_true _ _ a.0 in
+    let c = both_true _ _ b.0 in
+    let d = both_true _ _ c.0 in
+    let e = both_true _ _ d.0 in
+    let f = both_true _ _ e.0 in
+    let g = both_true _ _ f.0 in
+    let i = both_true _ _ g.0 in
+    record { iff = i.0; implies = i.1; conjunct = g.1; disjunct = f.1; relation = e.1; term = d.1; factor = c.1; index = b.1; call = a.1 }
+
+pub only_no : (b c : Bool) → b ≡ false → IsTrue (only b c) → IsTrue (not c)
+only_no true c e h = absurd (cc)
+only_no false c e h = h
+
+pub unseen : (b c : Bool) → b ≡ false → IsTrue (only b c) → c ≡ false
+unseen b c e h = no_not c (only_no b c e h)
+
+both_too : (a b : Bool) → IsTrue a → IsTrue b → IsTrue (a && b)
+both_too true b h k = k
+both_too false b h k = absurd (cc)
+
+pub no_iff : (s : Option Sign) → Differs 0 s → is_iff s ≡ false
+no_iff None d = refl
+no_iff (Some IffSign) d = absurd (d refl)
+no_iff (Some ImpliesSign) d = refl
+no_iff (Some AndSign) d = refl
+no_iff (Some OrSign) d = refl
+no_iff (Some RelationSign) d = refl
+no_iff (Some TermSign) d = refl
+no_iff (Some FactorSign) d = refl
+no_iff (Some IndexSign) d = refl
+
+pub no_implies : (s : Option Sign) → Differs 1 s → is_implies s ≡ false
+no_implies None d = refl
+no_implies (Some IffSign) d = refl
+no_implies (Some ImpliesSign) d = absurd (d refl)
+no_implies (Some AndSign) d = refl
+no_implies (Some OrSign) d = refl
+no_implies (Some RelationSign) d = refl
+no_implies (Some TermSign) d = refl
+no_implies (Some FactorSign) d = refl
+no_implies (Some IndexSign) d = refl
+
+no_and : (s : Option Sign) → Differs 2 s → is_and s ≡ false
+no_and None d = refl
+no_and (Some IffSign) d = refl
+no_and (Some ImpliesSign) d = refl
+no_and (Some AndSign) d = absurd (d refl)
+no_and (Some OrSign) d = refl
+no_and (Some RelationSign) d = refl
+no_and (Some TermSign) d = refl
+no_and (Some FactorSign) d = refl
+no_and (Some IndexSign) d = refl
+
+no_or : (s : Option Sign) → Differs 2 s → is_or s ≡ false
+no_or None d = refl
+no_or (Some IffSign) d = refl
+no_or (Some ImpliesSign) d = refl
+no_or (Some AndSign) d = refl
+no_or (Some OrSign) d = absurd (d refl)
+no_or (Some RelationSign) d = refl
+no_or (Some TermSign) d = refl
+no_or (Some FactorSign) d = refl
+no_or (Some IndexSign) d = refl
+
+no_relation_sign : (s : Option Sign) → Differs 3 s → is_relation s ≡ false
+no_relation_sign None d = refl
+no_relation_sign (Some IffSign) d = refl
+no_relation_sign (Some ImpliesSign) d = refl
+no_relation_sign (Some AndSign) d = refl
+no_relation_sign (Some OrSign) d = refl
+no_relation_sign (Some RelationSign) d = absurd (d refl)
+no_relation_sign (Some TermSign) d = refl
+no_relation_sign (Some FactorSign) d = refl
+no_relation_sign (Some IndexSign) d = refl
+
+pub no_term : (s : Option Sign) → Differs 4 s → is_term s ≡ false
+no_term None d = refl
+no_term (Some IffSign) d = refl
+no_term (Some ImpliesSign) d = refl
+no_term (Some AndSign) d = refl
+no_term (Some OrSign) d = refl
+no_term (Some RelationSign) d = refl
+no_term (Some TermSign) d = absurd (d refl)
+no_term (Some FactorSign) d = refl
+no_term (Some IndexSign) d = refl
+
+pub no_factor : (s : Option Sign) → Differs 5 s → is_factor s ≡ false
+no_factor None d = refl
+no_factor (Some IffSign) d = refl
+no_factor (Some ImpliesSign) d = refl
+no_factor (Some AndSign) d = refl
+no_factor (Some OrSign) d = refl
+no_factor (Some RelationSign) d = refl
+no_factor (Some TermSign) d = refl
+no_factor (Some FactorSign) d = absurd (d refl)
+no_factor (Some IndexSign) d = refl
+
+pub no_index : (s : Option Sign) → Differs 7 s → is_index s ≡ false
+no_index None d = refl
+no_index (Some IffSign) d = refl
+no_index (Some ImpliesSign) d = refl
+no_index (Some AndSign) d = refl
+no_index (Some OrSign) d = refl
+no_index (Some RelationSign) d = refl
+no_index (Some TermSign) d = refl
+no_index (Some FactorSign) d = refl
+no_index (Some IndexSign) d = absurd (d refl)
+
+-- a production of another level doesn't go on with it
+pub passed : (k : ℕ) (s : Option Sign) (us : List Lexeme) → IsTrue (ahead s us) → Differs k s → IsTrue (is_passed k us)
+passed zero s us h d = only_no _ _ (no_iff s d) (is_ahead s us h).iff
+passed (suc zero) s us h d = only_no _ _ (no_implies s d) (is_ahead s us h).implies
+passed (suc (suc zero)) s us h d =
+    let a = is_ahead s us h in
+    both_too _ _ (only_no _ _ (no_and s d) a.conjunct) (only_no _ _ (no_or s d) a.disjunct)
+passed (suc (suc (suc zero))) s us h d = only_no _ _ (no_relation_sign s d) (is_ahead s us h).relation
+passed (suc (suc (suc (suc zero)))) s us h d = only_no _ _ (no_term s d) (is_ahead s us h).term
+passed (suc (suc (suc (suc (suc zero))))) s us h d = only_no _ _ (no_factor s d) (is_ahead s us h).factor
+passed (suc (suc (suc (suc (suc (suc zero)))))) s us h d = refl
+passed (suc (suc (suc (suc (suc (suc (suc zero))))))) s us h d = only_no _ _ (no_index s d) (is_ahead s us h).index
+passed (suc (suc (suc (suc (suc (suc (suc (suc k)))))))) s us h d = refl
+
+pub none_goes : (q : Sign) → goes_on q NoChain false ≡ false → ⊥
+none_goes IffSign h = cc
+none_goes ImpliesSign h = cc
+none_goes AndSign h = cc
+none_goes OrSign h = cc
+none_goes RelationSign h = cc
+none_goes TermSign h = cc
+none_goes FactorSign h = cc
+none_goes IndexSign h = cc
+
+above_iff : (q : Sign) (c : Chain) (b : Bool) → goes_on q c b ≡ false → 2 ≤ weight q
+above_iff IffSign c b h = absurd (cc)
+above_iff ImpliesSign c b h = absurd (cc)
+above_iff AndSign c b h = omega arith
+above_iff OrSign c b h = omega arith
+above_iff RelationSign c b h = omega arith
+above_iff TermSign c b h = omega arith
+above_iff FactorSign c b h = omega arith
+above_iff IndexSign c b h = omega arith
+
+above_and : (q : Sign) (b : Bool) → goes_on q NoChain b ≡ false → 3 ≤ weight q
+above_and IffSign b h = absurd (cc)
+above_and ImpliesSign b h = absurd (cc)
+above_and AndSign b h = absurd (cc)
+above_and OrSign b h = absurd (cc)
+above_and RelationSign b h = omega arith
+above_and TermSign b h = omega arith
+above_and FactorSign b h = omega arith
+above_and IndexSign b h = omega arith
+
+-- where a node can't go on with the sign, its own level is no higher than the sign's
+level_below : (q : Sign) (n : Node) → goes_on q (chain_of n) (compared n) ≡ false → level n ≤ weight q
+level_below q (number n) h = absurd (none_goes q h)
+level_below q (truth b) h = absurd (none_goes q h)
+level_below q (variable n) h = absurd (none_goes q h)
+level_below q (apply n xs) h = absurd (none_goes q h)
+level_below q (old p x) h = absurd (none_goes q h)
+level_below q (choose c x y) h = absurd (none_goes q h)
+level_below q (quantified o p ps gs rs x) h = absurd (none_goes q h)
+level_below q (iffs xs) h = omega arith
+level_below q (implies xs) h = omega (arith, above_iff q _ _ h)
+level_below q (ands xs) h = above_iff q _ _ h
+level_below q (ors xs) h = above_iff q _ _ h
+level_below q (related o x y) h = above_and q _ h
+level_below q (sums x ts) h = absurd (none_goes q h)
+level_below q (products xs) h = absurd (none_goes q h)
+level_below q (negation x) h = absurd (none_goes q h)
+level_below q (minus x) h = absurd (none_goes q h)
+level_below q (indexed x is) h = absurd (none_goes q h)
+
+pub lt_true : (m n : ℕ) → nat_lt m n ≡ true → m < n
+lt_true m n h = grind (arith, nat_tests)
+
+pub lt_false : (m n : ℕ) → nat_lt m n ≡ false → n ≤ m
+lt_false m n h = grind (arith, nat_tests)
+
+apart : (m n : ℕ) → m < n → m ≡ n → ⊥
+apart m n h e = omega arith
+
+apart_too : (m n : ℕ) → n < m → m ≡ n → ⊥
+apart_too m n h e = omega arith
+
+sum_differs : (w k l : ℕ) (q : Sign) (b g : Bool) → nat_lt (weight q) w ≡ b → (g ≡ false → l ≤ weight q) → IsTrue (b || not g) → w ≤ k → k < l → weight q ≡ k → ⊥
+sum_differs w k l q true g e f h a c = apart (weight q) k (below (lt_true (weight q) w e))
+  where
+    below : weight q < w → weight q < k
+    below d = omega arith
+sum_differs w k l q false g e f h a c = apart_too (weight q) k (above (f (no_not g h)))
+  where
+    above : l ≤ weight q → k < weight q
+    above d = omega arith
+
+-- no production between the level where the node stands and its own goes on with the sign
+pub stops_differs : (w k : ℕ) (s : Option Sign) (n : Node) → IsTrue (stops w s n) → w ≤ k → k < level n → Differs k s
+stops_differs w k None n h a b = tt
+stops_differs w k (Some q) n h a b = sum_differs w k (level n) q (nat_lt (weight q) w) (goes_on q (chain_of n) (compared n)) refl (level_below q n) h a b
+
+-- an operand in parentheses
+
+no_operand : (w : ℕ) (q : Sign) (b : Bool) → nat_lt (weight q) w ≡ b → IsTrue (b || not (goes_on q NoChain false)) → weight q < w
+no_operand w q true e h = lt_true (weight q) w e
+no_operand w q false e h = absurd (none_goes q (no_not _ h))
+
+caught_alone : (w : ℕ) (q : Sign) (n : Node) → is_caught (Some q) n ≡ true → IsTrue (nat_lt (weight q) w || not (goes_on q (chain_of n) (compared n))) → weight q < w
+caught_alone w q (number n) c h = absurd (cc)
+caught_alone w q (truth b) c h = absurd (cc)
+caught_alone w q (variable n) c h = absurd (cc)
+caught_alone w q (apply n xs) c h = absurd (cc)
+caught_alone w q (old p x) c h = absurd (cc)
+caught_alone w q (choose d x y) c h = no_operand w q (nat_lt (weight q) w) refl h
+caught_alone w q (quantified o p ps gs rs x) c h = absurd (cc)
+caught_alone w q (iffs xs) c h = absurd (cc)
+caught_alone w q (implies xs) c h = absurd (cc)
+caught_alone w q (ands xs) c h = absurd (cc)
+caught_alone w q (ors xs) c h = absurd (cc)
+caught_alone w q (related o x y) c h = absurd (cc)
+caught_alone w q (sums x ts) c h = absurd (cc)
+caught_alone w q (products xs) c h = absurd (cc)
+caught_alone w q (negation x) c h = absurd (cc)
+caught_alone w q (minus x) c h = absurd (cc)
+caught_alone w q (indexed x is) c h = absurd (cc)
+
+-- by whether the operand stands in parentheses
+abbrev stops_by : ℕ → Sign → Node → Bool → Bool
+stops_by w q n b = nat_lt (weight q) w || not (goes_on q (elim b [ true ↦ NoChain | false ↦ chain_of n ]) (elim b [ true ↦ false | false ↦ compared n ]))
+
+operand_below : (w : ℕ) (q : Sign) (p : Place) (n : Node) (b : Bool) → nat_lt (level n) w ≡ b → (b || is_caught (Some q) n) ≡ true → IsTrue (stops_operand w (Some q) (expr p n)) → weight q < w
+operand_below w q p n true e c h = no_operand w q (nat_lt (weight q) w) refl (subst (λ b. IsTrue (stops_by w q n b)) e h)
+operand_below w q p n false e c h = caught_alone w q n c (subst (λ b. IsTrue (stops_by w q n b)) e h)
+
+pub parens_differ : (w k : ℕ) (s : Option Sign) (p : Place) (n : Node) → needs_parens w s n ≡ true → IsTrue (stops_operand w s (expr p n)) → w ≤ k → Differs k s
+parens_differ w k None p n e h a = tt
+parens_differ w k (Some q) p n e h a = apart (weight q) k (below (operand_below w q p n (nat_lt (level n) w) refl e h))
+  where
+    below : weight q < w → weight q < k
+    below d = omega arith
+
+-- an operand without them
+
+pub record IsPlain (w : ℕ) (s : Option Sign) (n : Node) : Type 0 where
+  pub within : w ≤ level n
+  pub uncaught : is_caught s n ≡ false
+  pub halts : IsTrue (stops w s n)
+  pub halts_there : IsTrue (stops (level n) s n)
+
+plain_stops : (w : ℕ) (s : Option Sign) (p : Place) (n : Node) → nat_lt (level n) w ≡ false → IsTrue (stops_operand w s (expr p n)) → IsTrue (stops w s n)
+plain_stops w None p n e h = refl
+plain_stops w (Some q) p n e h = subst (λ b. IsTrue (stops_by w q n b)) e h
+
+pub lt_is : (m n : ℕ) → m < n → nat_lt m n ≡ true
+lt_is m n h = grind (arith, nat_tests)
+
+wider : (w l : ℕ) (q : Sign) (b g : Bool) → nat_lt (weight q) w ≡ b → w ≤ l → IsTrue (b || g) → IsTrue (nat_lt (weight q) l || g)
+wider w l q true g e a h = rw (lt_is (weight q) l (below (lt_true (weight q) w e))) refl
+  where
+    below : weight q < w → weight q < l
+    below d = omega arith
+wider w l q false true e a h = or_yes (nat_lt (weight q) l)
+  where
+    or_yes : (b : Bool) → IsTrue (b || true)
+    or_yes true = refl
+    or_yes false = refl
+wider w l q false false e a h = absurd (cc)
+
+pub stops_wider : (w l : ℕ) (s : Option Sign) (n : Node) → w ≤ l → IsTrue (stops w s n) → IsTrue (stops l s n)
+stops_wider w l None n a h = refl
+stops_wider w l (Some q) n a h = wider w l q (nat_lt (weight q) w) (not (goes_on q (chain_of n) (compared n))) refl a h
+
+pub is_plain : (w : ℕ) (s : Option Sign) (p : Place) (n : Node) → needs_parens w s n ≡ false → IsTrue (stops_operand w s (expr p n)) → IsPlain w s n
+is_plain w s p n e h =
+    let q = either_no _ _ e in
+    let a = lt_false (level n) w q.0 in
+    let b = plain_stops w s p n q.0 h in
+    record { within = a; uncaught = q.1; halts = b; halts_there = stops_wider w (level n) s n a b }

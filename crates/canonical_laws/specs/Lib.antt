@@ -1,0 +1,13 @@
+pub mod Same
+pub mod Written
+pub mod Nestings
+pub mod Spelled
+pub mod Ahead
+pub mod ReadBack
+pub mod Tokens
+pub mod SameStatement
+pub mod WrittenStatement
+pub mod StatementNestings
+pub mod ReadBackDecl
+pub mod Lexed
+pub mod RoundTrip
