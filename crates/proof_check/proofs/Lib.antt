@@ -1,0 +1,7 @@
+pub mod Appending
+pub mod Extending
+pub mod Listed
+pub mod Made
+pub mod Judging
+pub mod Combining
+pub mod Deciding

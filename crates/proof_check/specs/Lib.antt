@@ -1,0 +1,5 @@
+pub mod Refusals
+pub mod Added
+pub mod ContextCodes
+pub mod ReadOf
+pub mod Checked

@@ -1,0 +1,151 @@
+// Where a node of a proof stands: the sorts of the variables there, and the normal facts so far.
+ghost use Rattle.std.specs.Prelude.{◌≡◌, [], ◌∷◌, IfOk, OnOk, option_copied};
+ghost use Rattle.logic_core.specs.Normal.{normal};
+ghost use Rattle.proof_core.specs.Context.{Context as context, fact, named, with_fact, appended, appended_each};
+ghost use Rattle.proof_check.specs.Refusals.{Finds, FindsAs};
+ghost use Rattle.proof_check.specs.Added.{extended, with_facts, normal_forms};
+
+use crate::fault::Refusal;
+use logic_core::def::Def;
+use logic_core::normal::normal_over;
+use logic_core::sort::Sort;
+use logic_core::term::Term;
+use std::alloc::{AllocError, Global};
+use std::marker::Model;
+
+/// The sorts of the variables, by number, and the facts, by number.
+#[derive(Drop)]
+pub struct Context {
+    pub vars: Vec<Sort>,
+    pub facts: Vec<Term>,
+}
+
+impl Model for Context {
+    ghost use Rattle.proof_core.specs.Context.{Context as context};
+    ghost use Rattle.proof_check.specs.ContextCodes.{coded_context};
+
+    ghost Value = { context };
+
+    ghost coded = { coded_context };
+
+    ghost view = { λ a. record { vars = a.vars.items; facts = a.facts.items } };
+}
+
+/// What a rule adds: the sorts of new variables, which take the next numbers, and new facts.
+#[derive(Drop)]
+pub struct Added {
+    pub vars: Vec<Sort>,
+    pub facts: Vec<Term>,
+}
+
+impl Model for Added {
+    ghost use Rattle.proof_check.specs.Added.{Added as added};
+    ghost use Rattle.proof_check.specs.ContextCodes.{coded_added};
+
+    ghost Value = { added };
+
+    ghost coded = { coded_added };
+
+    ghost view = { λ a. record { vars = a.vars.items; facts = a.facts.items } };
+}
+
+impl Added {
+    /// One fact.
+    pub fn fact(alloc: Global, fact: Term) -> Result<Added, AllocError>
+        ensures { IfOk result (λ a. (c : context) → extended c a ≡ with_fact c fact) }
+    {
+        Ok(Added {
+            vars: Vec::new(alloc),
+            facts: Vec::from_array(alloc, [fact])?,
+        })
+    }
+
+    /// These facts.
+    pub fn facts(alloc: Global, facts: Vec<Term>) -> Added
+        ensures { (c : context) → extended c result ≡ with_facts c facts.items }
+    {
+        Added {
+            vars: Vec::new(alloc),
+            facts,
+        }
+    }
+}
+
+impl Context {
+    /// The fact of this number, where there is one.
+    pub fn known(&self, f: u64) -> Option<&Term>
+        ensures { option_copied result ≡ fact self.now f }
+    {
+        self.facts.get(f as usize)
+    }
+
+    /// The fact of this number. Unmet where there is none.
+    pub fn fact(&self, f: u64) -> Result<&Term, Refusal>
+        ensures { FindsAs (λ t. t.now) result (fact self.now f) }
+    {
+        self.known(f).ok_or(Refusal::Unmet)
+    }
+
+    /// The sort of a named term, which is to be closed, well sorted and over the variables here.
+    pub fn named(&self, alloc: Global, defs: &[Def], t: &Term) -> Result<Option<Sort>, AllocError>
+        ensures { IfOk result (λ s. s ≡ named defs.now self.now t.now) }
+    {
+        t.sort_over(alloc, &self.vars, defs, &[])
+    }
+
+    /// The normal form over the variables here. Unmet where making it leaves 128 bits.
+    pub fn normal(&self, alloc: Global, defs: &[Def], t: &Term) -> Result<Term, Refusal>
+        ensures { Finds result (normal self.now.vars defs.now [] t.now) }
+    {
+        Ok(normal_over(alloc, t, &self.vars, defs)?)
+    }
+
+    /// The normal form of each of these formulas.
+    pub fn normal_forms(
+        &self,
+        alloc: Global,
+        defs: &[Def],
+        terms: &[Term],
+    ) -> Result<Vec<Term>, Refusal>
+        ensures { FindsAs (λ v. v.items) result (normal_forms self.now.vars defs.now terms.now) }
+    {
+        let mut forms = Vec::new(alloc);
+        for term in terms {
+            forms.push(self.normal(alloc, defs, term)?)?;
+        }
+        Ok(forms)
+    }
+
+    /// What is added is there too.
+    pub fn add(&mut self, added: Added) -> Result<(), AllocError>
+        ensures { OnOk result (self.new ≡ extended self.old added) }
+    {
+        let Added { vars, facts } = added;
+        let mut vars = vars;
+        self.vars.append(&mut vars)?;
+        let mut facts = facts;
+        self.facts.append(&mut facts)?;
+        Ok(())
+    }
+}
+
+/// The normal form of a formula, as a further fact.
+pub fn append(alloc: Global, defs: &[Def], context: &Context, t: &Term) -> Result<Added, Refusal>
+    ensures { FindsAs (λ a. extended context.now a) result (appended defs.now context.now t.now) }
+{
+    let form = context.normal(alloc, defs, t)?;
+    Ok(Added::fact(alloc, form)?)
+}
+
+/// The normal forms of formulas, as further facts.
+pub fn append_each(
+    alloc: Global,
+    defs: &[Def],
+    context: &Context,
+    terms: &[Term],
+) -> Result<Added, Refusal>
+    ensures { FindsAs (λ a. extended context.now a) result (appended_each defs.now context.now terms.now) }
+{
+    let forms = context.normal_forms(alloc, defs, terms)?;
+    Ok(Added::facts(alloc, forms))
+}
