@@ -2,7 +2,7 @@
 ghost use Rattle.std.specs.Prelude.{◌≡◌, [], ◌∷◌, false, IfOk};
 ghost use Rattle.logic_core.specs.Tree.{int, bound as bound_tree};
 
-use crate::{Def, Node, Sequence, Signature, Sort, SortKind, Term};
+use logic_core::{Def, Node, Sequence, Signature, Sort, SortKind, Term};
 use std::alloc::{AllocError, Global};
 
 /// The sort of maps to integers.
@@ -47,15 +47,38 @@ pub fn signature(alloc: Global) -> Result<Signature, AllocError> {
 
 // The terms that an operator still wants, the next one last.
 #[derive(Drop)]
-struct Operands {
+pub struct Operands {
     alloc: Global,
     terms: Vec<Term>,
 }
 
 impl Operands {
-    // The next term, and 0 where there is none.
-    fn next(&mut self) -> Term {
-        self.terms.pop().unwrap_or(Term::new(Node::Num(0)))
+    /// None.
+    pub fn new(alloc: Global) -> Operands {
+        Operands {
+            alloc,
+            terms: Vec::new(alloc),
+        }
+    }
+
+    /// The next term, and 0 where there is none.
+    pub fn next(&mut self) -> Term {
+        match self.terms.pop() {
+            Some(term) => term,
+            None => Term::new(Node::Num(0)),
+        }
+    }
+
+    /// The next term as a number.
+    pub fn number(&mut self) -> i128 {
+        self.next().node.number()
+    }
+
+    /// The construct of this word is the next term.
+    pub fn read(&mut self, word: &str) -> Result<(), AllocError> {
+        let node = self.node(word)?;
+        self.terms.push(Term::new(node))?;
+        Ok(())
     }
 
     fn boxed(&mut self) -> Result<Box<Term>, AllocError> {
@@ -63,7 +86,8 @@ impl Operands {
         Ok(Box::new(self.alloc, term)?)
     }
 
-    fn list(&mut self, count: u32) -> Result<Vec<Term>, AllocError> {
+    /// The next terms.
+    pub fn list(&mut self, count: u32) -> Result<Vec<Term>, AllocError> {
         let mut terms = Vec::new(self.alloc);
         for _ in 0..count {
             terms.push(self.next())?;
@@ -75,7 +99,7 @@ impl Operands {
     fn parts(&mut self, count: u32) -> Result<Vec<(i128, Term)>, AllocError> {
         let mut parts = Vec::new(self.alloc);
         for _ in 0..count {
-            let coefficient = self.next().node.number();
+            let coefficient = self.number();
             parts.push((coefficient, self.next()))?;
         }
         Ok(parts)
@@ -83,7 +107,7 @@ impl Operands {
 
     fn sum(&mut self, count: u32) -> Result<Node, AllocError> {
         let parts = self.parts(count)?;
-        Ok(Node::Sum(parts, self.next().node.number()))
+        Ok(Node::Sum(parts, self.number()))
     }
 
     // One trigger of one term.
@@ -142,6 +166,7 @@ impl Operands {
             "|0" => Node::Or(self.list(0)?),
             "|1" => Node::Or(self.list(1)?),
             "|2" => Node::Or(self.list(2)?),
+            "|3" => Node::Or(self.list(3)?),
             _ => return self.quantifier(word),
         })
     }
@@ -157,6 +182,14 @@ impl Operands {
             "all_bool" => {
                 sorts.push(Sort::boolean())?;
                 self.for_all(sorts)
+            }
+            "every" => {
+                sorts.push(Sort::int())?;
+                Ok(Node::ForAll(sorts, Vec::new(self.alloc), self.boxed()?))
+            }
+            "one" => {
+                sorts.push(Sort::int())?;
+                Ok(Node::Exists(sorts, Vec::new(self.alloc), self.boxed()?))
             }
             "all_int_bool" => {
                 sorts.push(Sort::int())?;
@@ -193,23 +226,21 @@ fn variable(word: &str) -> Option<u64> {
         "p" => Some(2),
         "q" => Some(3),
         "m" => Some(4),
-        "v5" => Some(5),
+        "v5" | "n" => Some(5),
+        "v6" => Some(6),
+        "v7" => Some(7),
         _ => None,
     }
 }
 
 /// The term of a text in Polish notation: an operator stands before its operands, a list has its
-/// length in its operator, and a quantifier is followed by a trigger and a body. x and y are
-/// integers, p and q formulas and m a map; k is the last variable of the nearest binder, and l the
-/// one before it.
+/// length in its operator, and a quantifier is followed by a trigger and a body, but for `every` and
+/// `one`, which have no trigger. x and y are integers, p and q formulas, m and n maps, v6 and v7 the
+/// variables after n; k is the last variable of the nearest binder, and l the one before it.
 pub fn term(alloc: Global, text: &str) -> Result<Term, AllocError> {
-    let mut operands = Operands {
-        alloc,
-        terms: Vec::new(alloc),
-    };
+    let mut operands = Operands::new(alloc);
     for word in text.rsplit(' ') {
-        let node = operands.node(word)?;
-        operands.terms.push(Term::new(node))?;
+        operands.read(word)?;
     }
     Ok(operands.next())
 }
