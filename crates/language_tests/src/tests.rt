@@ -30,11 +30,11 @@ type Fronts<'a> = &'a [(&'a [u8], u32)];
 /// Texts at which reading stops, with the column of the faulty token, or 0 for the text's end.
 type Faults<'a> = &'a [(&'a [u8], Stop, u32)];
 
-/// The formula of an axiom.
-fn formula(rt: &impl Abort, found: Option<Decl>) -> Result<Expr, Fail> {
-    match found {
-        Some(decl) => match decl.body {
-            DeclBody::Axiom(formula) => Ok(formula),
+/// The formula of the axiom that stands alone.
+fn formula(rt: &impl Abort, alloc: Global, found: &[Decl]) -> Result<Expr, Fail> {
+    match found.first() {
+        Some(decl) => match &decl.body {
+            DeclBody::Axiom(formula) => Ok(formula.copy(alloc)?),
             _ => panic!(rt; "no axiom"),
         },
         None => panic!(rt; "no declaration"),
@@ -50,7 +50,7 @@ fn read(rt: &impl Abort, alloc: Global, text: &[u8]) -> Result<Result<Expr, (Sto
     axiom.push(b';')?;
     assert!(rt; axiom.len() < u32::MAX as usize);
     let (stop, at) = match parse_decls(alloc, &axiom) {
-        Ok(decls) => return Ok(Ok(formula(rt, decls.into_iter().next())?)),
+        Ok(decls) => return Ok(Ok(formula(rt, alloc, &decls)?)),
         Err(Fault::Syntax { at }) => (Stop::Syntax, at),
         Err(Fault::Deep { at }) => (Stop::Deep, at),
         Err(Fault::Wide { at }) => (Stop::Wide, at),
