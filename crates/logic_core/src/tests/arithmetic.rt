@@ -1,9 +1,9 @@
 // Normal forms of sums, products, equations and inequalities, and numbers at the edge of 128 bits.
 use super::build::{signature, term};
-use logic_core::fault::NormalFault;
-use logic_core::normal::normal;
-use logic_core::sum::{Linear, affine, difference, in_order, product};
-use logic_core::{Signature, Term};
+use crate::fault::NormalFault;
+use crate::normal::normal;
+use crate::sum::{Linear, affine, difference, in_order, product};
+use crate::{Signature, Term};
 use std::alloc::Global;
 use std::test::Fail;
 
@@ -115,7 +115,7 @@ fn normal_terms_are_added_and_multiplied(rt: HostRuntime) -> Result<(), Fail> {
     let alloc = rt.alloc();
     let triple = affine(alloc, 3, term(alloc, "x")?, -2)?;
     assert!(rt; triple.equals(&term(alloc, "+1 3 x -2")?));
-    let less = difference(alloc, triple, Term::new(logic_core::Node::Num(4)))?;
+    let less = difference(alloc, triple, Term::new(crate::Node::Num(4)))?;
     assert!(rt; less.equals(&term(alloc, "+1 3 x -6")?));
     let turned = product(alloc, term(alloc, "y")?, term(alloc, "x")?)?;
     assert!(rt; turned.equals(&term(alloc, "* x y")?));

@@ -1,11 +1,11 @@
 // Sizes, the order, sorts, copies, and the terms in a term.
 use super::build::{map_sort, signature, term};
-use logic_core::copy::{copy_patterns, copy_sorts, copy_terms};
-use logic_core::def::copy_defs;
-use logic_core::order::compare_sorts;
-use logic_core::replace::replace;
-use logic_core::same::equal_sorts;
-use logic_core::{Signature, Sort, SortKind, Term};
+use crate::copy::{copy_patterns, copy_sorts, copy_terms};
+use crate::def::copy_defs;
+use crate::order::compare_sorts;
+use crate::replace::replace;
+use crate::same::equal_sorts;
+use crate::{Signature, Sort, SortKind, Term};
 use std::alloc::{AllocError, Global};
 use std::cmp::Ordering;
 use std::test::Fail;

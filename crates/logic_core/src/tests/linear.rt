@@ -1,7 +1,7 @@
 // Linear facts and sums of their multiples.
 use super::build::term;
-use logic_core::fault::NormalFault;
-use logic_core::{Linear, Term};
+use crate::fault::NormalFault;
+use crate::{Linear, Term};
 use std::alloc::{AllocError, Global};
 use std::test::Fail;
 

@@ -1,7 +1,7 @@
 // Binders taken away, sorts under binders, and terms outside quantifiers.
 use super::build::{signature, term};
-use logic_core::substitute::substitute;
-use logic_core::{Sort, SortKind, Term};
+use crate::substitute::substitute;
+use crate::{Sort, SortKind, Term};
 use std::alloc::{AllocError, Global};
 use std::test::Fail;
 

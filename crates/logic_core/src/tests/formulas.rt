@@ -1,8 +1,8 @@
 // Normal forms of junctions, negations, choices and quantifiers.
 use super::arithmetic::gives;
 use super::build::{signature, term};
-use logic_core::junction::{conjunction, disjunction};
-use logic_core::negation::negated;
+use crate::junction::{conjunction, disjunction};
+use crate::negation::negated;
 use std::test::Fail;
 
 #[test]
