@@ -3,7 +3,6 @@ use Rattle.std.proofs.Common.{◌≡◌, ◌∙◌, ◌<◌, ◌+◌, ℕ, zero,
 use Rattle.bv_base.specs.declared.place.Place.{Place}
 use Rattle.std.specs.List.{list_all, AllByRecursion}
 use Rattle.proof_core.specs.Proof.{Proof}
-use Rattle.proof_core.specs.Soundness as proofs
 use Rattle.proof_core.proofs.Sound.{acceptance_is_sound}
 use Rattle.tableau.proofs.Refuting.{finds_accepted}
 use Rattle.tableau.proofs.FoundWhereProved.{finds_where_proved}
@@ -16,7 +15,7 @@ use Rattle.edit_server.specs.Execution.{IsSafe}
 use Rattle.edit_server.specs.Conditions.{Goal, goals_of}
 use Rattle.edit_server.specs.Report.{is_correct, is_proved, goal_line, goal_lines, verdict_text, last_line, last_words}
 use Rattle.edit_server.specs.Check.{turns as allowed, verdict_on, verdicts, report_on, correct_line}
-use Rattle.obligation_text.specs.WellSorted.{IsWellSorted}
+use Rattle.logic_core.specs.WellSorted.{IsWellSorted}
 use Rattle.edit_server.proofs.GoalsSorted.{goals_are_well_sorted}
 use Rattle.edit_server.proofs.FailuresRefuted.{valid_goals_are_safe}
 
@@ -24,12 +23,9 @@ use Rattle.edit_server.proofs.FailuresRefuted.{valid_goals_are_safe}
 proved_is_valid : (o : Obligation) (n : ℕ) → IsWellSorted o → (answer o n).verdict ≡ proved → Valid o
 proved_is_valid o n w h = from_found (answer o n).found refl
   where
-    sorted : proofs.IsWellSorted o
-    sorted = record { definitions = w.definitions; axioms = w.axioms; goal = w.goal }
-
     from_found : (found : Option Proof) → (answer o n).found ≡ found → Valid o
     from_found None e = absurd (let none : is_some (answer o n).found ≡ false = ap is_some e in let some : is_some (answer o n).found ≡ true = finds_where_proved o n ∙ ap only_proved h in cc)
-    from_found (Some p) e = acceptance_is_sound o p sorted (finds_accepted o n p sorted e)
+    from_found (Some p) e = acceptance_is_sound o p w (finds_accepted o n p w e)
 
 ends_correct : (b : Bool) → cond b (codes " correct") (codes " not proved") ≡ codes " correct" → b ≡ true
 ends_correct true e = refl

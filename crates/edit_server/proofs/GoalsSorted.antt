@@ -2,7 +2,7 @@
 use Rattle.std.specs.Prelude.{refl, zero, suc, List, [], ◌∷◌, ◌++◌, fold, All}
 use Rattle.std.specs.List.{AllByRecursion}
 use Rattle.std.proofs.Common.{arith, subst}
-use Rattle.obligation_text.specs.WellSorted.{IsWellSorted}
+use Rattle.logic_core.specs.WellSorted.{IsWellSorted}
 use Rattle.edit_server.specs.FirstForm.{Statement, assign, assume, assert, Comparison}
 use Rattle.edit_server.specs.Formula.{conjunction}
 use Rattle.edit_server.specs.Conditions.{body_of, Goal, goals_of}

@@ -5,7 +5,7 @@ use Rattle.logic_core.specs.Value.{Value, are_of}
 use Rattle.logic_core.specs.Meaning.{Holds}
 use Rattle.logic_core.specs.Valid.{calls_of, Valid}
 use Rattle.logic_core.specs.Def.{Obligation}
-use Rattle.obligation_text.specs.WellSorted.{IsWellSorted}
+use Rattle.logic_core.specs.WellSorted.{IsWellSorted}
 use Rattle.edit_server.specs.FirstForm.{Procedure}
 use Rattle.edit_server.specs.Execution.{Fails, IsSafe}
 use Rattle.edit_server.specs.Conditions.{goals_of}

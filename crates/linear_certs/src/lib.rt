@@ -9,8 +9,6 @@ pub mod tightening;
 
 // What combined facts mean.
 pub mod laws;
-#[cfg(test)]
-mod tests;
 
 pub use logic_core::fault::NormalFault as LinearFault;
 pub use logic_core::sum::Linear;

@@ -1,2 +1,1 @@
-pub mod WellSorted
 pub mod ObligationCodes

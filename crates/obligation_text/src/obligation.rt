@@ -1,7 +1,7 @@
 // Obligations.
 ghost use Rattle.std.specs.Prelude.{◌≡◌, [], IsTrue, All};
 ghost use Rattle.logic_core.specs.Sorts.{bodies_sorted};
-ghost use Rattle.obligation_text.specs.WellSorted.{IsFormula, IsWellSorted};
+ghost use Rattle.logic_core.specs.WellSorted.{IsFormula, IsWellSorted};
 
 use logic_core::def::Signature;
 use logic_core::sequence::Sequence;
@@ -25,7 +25,7 @@ impl Model for Obligation {
 
     ghost coded = { coded_obligation };
 
-    ghost use Rattle.obligation_text.specs.WellSorted.{IsWellSorted};
+    ghost use Rattle.logic_core.specs.WellSorted.{IsWellSorted};
 
     ghost view = { λ a. record { vars = a.signature.vars; defs = a.signature.defs; axioms = a.axioms; goal = a.goal } };
 

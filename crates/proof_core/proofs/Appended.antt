@@ -9,7 +9,8 @@ use Rattle.logic_core.specs.Def.{Def}
 use Rattle.logic_core.specs.Wide.{◌>>=◌}
 use Rattle.logic_core.specs.Normal.{normal}
 use Rattle.proof_core.specs.Context.{Context, with_fact, appended, appended_each, children}
-use Rattle.proof_core.specs.Soundness.{IsFormula, IsSorted, IsUnsatisfiable, IsRefutedBy}
+use Rattle.proof_core.specs.Soundness.{IsSorted, IsUnsatisfiable, IsRefutedBy}
+use Rattle.logic_core.specs.WellSorted.{IsFormula}
 use Rattle.logic_laws.proofs.Options.{bind_some}
 use Rattle.proof_core.proofs.Closed.{HoldsIn, AllHold, same_holds, normal_sort, normal_value}
 

@@ -15,7 +15,8 @@ use Rattle.logic_laws.proofs.Assigned.{same_tightened}
 use Rattle.proof_core.specs.Context.{fact, named, with_fact, appended}
 use Rattle.proof_core.specs.Maps.{below_zero, at_zero, above_zero}
 use Rattle.proof_core.specs.Arithmetic.{combination, tightened}
-use Rattle.proof_core.specs.Soundness.{IsFormula, CombineIsSound, TightenIsSound, TrichotomyIsSound}
+use Rattle.proof_core.specs.Soundness.{CombineIsSound, TightenIsSound, TrichotomyIsSound}
+use Rattle.logic_core.specs.WellSorted.{IsFormula}
 use Rattle.proof_core.proofs.Closed.{HoldsIn, same_holds, has_one, value_sort}
 use Rattle.proof_core.proofs.Conditions.{when_then, three_given}
 use Rattle.proof_core.proofs.Said.{number_value}

@@ -10,7 +10,8 @@ use Rattle.logic_core.specs.Junction.{negated, is_truth}
 use Rattle.logic_core.proofs.SameTerm.{same_is_equal}
 use Rattle.proof_core.specs.Context.{Context, fact}
 use Rattle.proof_core.specs.Close.{is_negation_of}
-use Rattle.proof_core.specs.Soundness.{IsFormula, CloseIsSound, StartIsSound}
+use Rattle.proof_core.specs.Soundness.{CloseIsSound, StartIsSound}
+use Rattle.logic_core.specs.WellSorted.{IsFormula}
 use Rattle.logic_laws.proofs.Options.{both_true}
 use Rattle.logic_laws.proofs.FormulaSorts.{negation_sort}
 use Rattle.proof_core.proofs.Closed.{HoldsIn, same_holds, holds_stable, negated_value}

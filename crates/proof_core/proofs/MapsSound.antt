@@ -17,7 +17,8 @@ use Rattle.logic_laws.proofs.WrittenTables.{same_by_reads}
 use Rattle.proof_core.specs.Context.{Context, fact, named, with_variables, appended, appended_each}
 use Rattle.proof_core.specs.Split.{stands_in}
 use Rattle.proof_core.specs.Maps.{Access, access, before_write, as_number, below_zero, at_zero, above_zero, distance, read_at_distance, moved_back, different_at, different, differing}
-use Rattle.proof_core.specs.Soundness.{IsFormula, IsSorted, IsUnsatisfiable, IsRefutedBy, BackIsSound, PastIsSound, DifferIsSound}
+use Rattle.proof_core.specs.Soundness.{IsSorted, IsUnsatisfiable, IsRefutedBy, BackIsSound, PastIsSound, DifferIsSound}
+use Rattle.logic_core.specs.WellSorted.{IsFormula}
 use Rattle.proof_core.proofs.Closed.{Of, HoldsIn, Has, has_one, value_holds, holds_by_value, value_sort, same_by_value}
 use Rattle.proof_core.proofs.Conditions.{when_then, some_given, three_given, at_test}
 use Rattle.proof_core.proofs.Appended.{appended_extends, each_extends, three_children, at_fact, All-one, All-two}

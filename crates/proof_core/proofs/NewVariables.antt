@@ -19,7 +19,8 @@ use Rattle.logic_laws.proofs.Bodies.{bodies_over}
 use Rattle.logic_laws.proofs.Assigned.{same_more}
 use Rattle.logic_laws.proofs.Gives.{GivesEach}
 use Rattle.proof_core.specs.Context.{Context, variables_from, with_variables}
-use Rattle.proof_core.specs.Soundness.{IsFormula, IsSorted, IsUnsatisfiable}
+use Rattle.proof_core.specs.Soundness.{IsSorted, IsUnsatisfiable}
+use Rattle.logic_core.specs.WellSorted.{IsFormula}
 use Rattle.proof_core.proofs.Closed.{HoldsIn, AllHold, Has}
 use Rattle.proof_core.proofs.Appended.{Extends, refuted}
 

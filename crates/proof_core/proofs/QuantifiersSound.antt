@@ -17,7 +17,8 @@ use Rattle.logic_laws.proofs.SubstitutedValues.{substituted_sort, same_substitut
 use Rattle.logic_laws.proofs.Assigned.{instance_holds, witness_exists, same_more}
 use Rattle.proof_core.specs.Context.{Context, fact, new_variables, with_variables, appended}
 use Rattle.proof_core.specs.Quantifiers.{instantiated, skolemized}
-use Rattle.proof_core.specs.Soundness.{IsFormula, IsSorted, IsUnsatisfiable, InstantiateIsSound, SkolemIsSound}
+use Rattle.proof_core.specs.Soundness.{IsSorted, IsUnsatisfiable, InstantiateIsSound, SkolemIsSound}
+use Rattle.logic_core.specs.WellSorted.{IsFormula}
 use Rattle.proof_core.proofs.Closed.{HoldsIn}
 use Rattle.proof_core.proofs.Conditions.{when_then}
 use Rattle.proof_core.proofs.Appended.{appended_extends, one_followed, at_fact, All-one}

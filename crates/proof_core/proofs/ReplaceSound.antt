@@ -12,7 +12,8 @@ use Rattle.proof_core.specs.Context.{Context, fact, appended, named}
 use Rattle.proof_core.specs.Says.{says}
 use Rattle.proof_core.specs.Split.{stands_in}
 use Rattle.proof_core.specs.Replace.{replacement, body_of, unfolded}
-use Rattle.proof_core.specs.Soundness.{IsFormula, IsSorted, IsUnsatisfiable, ReplaceIsSound, UnfoldIsSound}
+use Rattle.proof_core.specs.Soundness.{IsSorted, IsUnsatisfiable, ReplaceIsSound, UnfoldIsSound}
+use Rattle.logic_core.specs.WellSorted.{IsFormula}
 use Rattle.logic_laws.proofs.Options.{both_true, bind_some}
 use Rattle.logic_laws.proofs.NormalSorts.{parts_of_call}
 use Rattle.proof_core.proofs.Closed.{Of, HoldsIn, body_sort, called_value}

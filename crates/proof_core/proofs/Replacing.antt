@@ -7,7 +7,8 @@ use Rattle.logic_core.specs.Sorts.{sort_of}
 use Rattle.logic_core.specs.Subterm.{replaced}
 use Rattle.logic_core.proofs.Replaced.{Same}
 use Rattle.proof_core.specs.Context.{Context, fact, appended}
-use Rattle.proof_core.specs.Soundness.{IsFormula, IsSorted, IsUnsatisfiable}
+use Rattle.proof_core.specs.Soundness.{IsSorted, IsUnsatisfiable}
+use Rattle.logic_core.specs.WellSorted.{IsFormula}
 use Rattle.proof_core.proofs.Closed.{Of, HoldsIn, AllHold, same_holds, replaced_sort, replaced_value}
 use Rattle.proof_core.proofs.Appended.{appended_extends, one_followed, at_fact}
 

@@ -10,7 +10,7 @@ use Rattle.logic_laws.proofs.SumSorts.{one_more_int, at_most_sort}
 use Rattle.logic_laws.proofs.FormulaSorts.{equal_sort}
 use Rattle.logic_laws.proofs.SameValue.{equal_same}
 use Rattle.proof_core.specs.Maps.{below_zero, at_zero, above_zero}
-use Rattle.proof_core.specs.Soundness.{IsFormula}
+use Rattle.logic_core.specs.WellSorted.{IsFormula}
 use Rattle.proof_core.proofs.Closed.{HoldsIn, Has, holds_by_value}
 use Rattle.proof_core.proofs.Conditions.{at_test}
 

@@ -17,7 +17,8 @@ use Rattle.logic_laws.proofs.Tables.{of_boolean}
 use Rattle.logic_laws.proofs.SameValue.{same_equal, equal_same}
 use Rattle.proof_core.specs.Context.{Context, fact, appended, appended_each, children, named}
 use Rattle.proof_core.specs.Split.{stands_in, both, disjuncts, split, equal_cases, unequal_cases, cases, split_cases, conditions, split_condition}
-use Rattle.proof_core.specs.Soundness.{IsFormula, IsSorted, IsUnsatisfiable, IsRefutedBy, SplitIsSound, CasesAreSound, ConditionIsSound}
+use Rattle.proof_core.specs.Soundness.{IsSorted, IsUnsatisfiable, IsRefutedBy, SplitIsSound, CasesAreSound, ConditionIsSound}
+use Rattle.logic_core.specs.WellSorted.{IsFormula}
 use Rattle.proof_core.proofs.Closed.{HoldsIn, Has, has_one, value_holds, holds_by_value, value_sort, same_back}
 use Rattle.proof_core.proofs.Conditions.{when_then, some_given, both_given, at_test}
 use Rattle.proof_core.proofs.Junctions.{parts_hold, none_holds, both_hold}

@@ -1,26 +1,18 @@
 -- What each rule has to keep, so that an accepted proof shows its goal: where no assignment makes all facts hold after a rule, none does before it.
 use Rattle.std.specs.Prelude.{◌≡◌, ℕ, ℤ, IsTrue, Some, List, [], ◌∷◌, All}
-use Rattle.logic_core.specs.Tree.{Kind, boolean, Tree}
+use Rattle.logic_core.specs.Tree.{Tree}
 use Rattle.logic_core.specs.Value.{Value, are_of}
 use Rattle.logic_core.specs.Def.{Def, Obligation}
 use Rattle.logic_core.specs.Meaning.{Holds}
 use Rattle.logic_core.specs.Valid.{Valid, calls_of}
-use Rattle.logic_core.specs.Sorts.{sort_of, bodies_sorted}
+use Rattle.logic_core.specs.Sorts.{bodies_sorted}
+use Rattle.logic_core.specs.WellSorted.{IsFormula, IsWellSorted}
 use Rattle.proof_core.specs.Proof.{Step, by_split, by_instantiate, by_skolem, by_replace, by_unfold, by_back, by_differ, by_combine, by_tighten, Proof}
 use Rattle.proof_core.specs.Context.{Context, start}
 use Rattle.proof_core.specs.Close.{closes}
 use Rattle.proof_core.specs.Steps.{after_step}
 use Rattle.proof_core.specs.Ends.{after_cases, after_condition, after_past, after_trichotomy}
 use Rattle.proof_core.specs.Accepted.{IsAccepted}
-
--- a closed, well-sorted term of Bool over these variables and definitions
-abbrev pub IsFormula : List Kind → List Def → Tree → Type 0
-IsFormula vars defs t = sort_of vars defs [] t ≡ Some boolean
-
-pub record IsWellSorted (o : Obligation) : Type 0 where
-  pub definitions : IsTrue (bodies_sorted o.vars [] o.defs)
-  pub axioms : All (IsFormula o.vars o.defs) o.axioms
-  pub goal : IsFormula o.vars o.defs o.goal
 
 pub record IsSorted (defs : List Def) (c : Context) : Type 0 where
   pub definitions : IsTrue (bodies_sorted c.vars [] defs)

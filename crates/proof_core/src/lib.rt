@@ -8,5 +8,3 @@ pub mod proof;
 pub mod rule;
 pub mod says;
 pub mod soundness;
-#[cfg(test)]
-mod tests;

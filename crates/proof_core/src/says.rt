@@ -2,13 +2,13 @@
 ghost use Rattle.std.specs.Prelude.{◌≡◌, pos, negsuc, option_map, IfOk};
 ghost use Rattle.logic_core.specs.Tree.{truth};
 ghost use Rattle.logic_core.specs.View.{parts_of};
-ghost use Rattle.logic_core.specs.Sum.{sum_term, affine};
+ghost use Rattle.logic_core.specs.Sum.{affine};
 ghost use Rattle.logic_core.specs.Junction.{is_zero};
 ghost use Rattle.logic_core.specs.Combine.{sum_of};
 ghost use Rattle.proof_core.specs.Says.{coefficient, without, rest_of, solved, other_side, by_equation, by_truth, says};
 
 use logic_core::fault::NormalFault;
-use logic_core::sum::affine;
+use logic_core::sum::{Linear, affine};
 use logic_core::term::{Node, Term};
 use std::alloc::{AllocError, Global};
 
@@ -50,28 +50,12 @@ fn without(alloc: Global, t: &Term, parts: &[(i128, Term)]) -> Result<Vec<(i128,
     Ok(others)
 }
 
-// The sum as a term.
-fn sum_term(parts: Vec<(i128, Term)>, rest: i128) -> Term
-    ensures { result ≡ sum_term (parts_of parts.items) rest }
-{
-    if parts.is_empty() {
-        return Term::new(Node::Num(rest));
-    }
-    if parts.len() > 1 || parts[0].0 != 1 || rest != 0 {
-        return Term::new(Node::Sum(parts, rest));
-    }
-    let mut parts = parts;
-    match parts.pop() {
-        Some((_, atom)) => atom,
-        None => Term::new(Node::Num(rest)),
-    }
-}
-
 // The rest of the sum beside the atom t.
 fn rest_of(alloc: Global, parts: &[(i128, Term)], rest: i128, t: &Term) -> Result<Term, AllocError>
     ensures { IfOk result (λ u. u ≡ rest_of (record { parts = parts_of parts.now; rest = rest }) t.now) }
 {
-    Ok(sum_term(without(alloc, t, parts)?, rest))
+    let parts = without(alloc, t, parts)?;
+    Ok(Linear { parts, rest }.into_term())
 }
 
 // -t, and None where a number leaves 128 bits.

@@ -5,7 +5,8 @@ use Rattle.logic_core.specs.Def.{Def, Obligation}
 use Rattle.proof_core.specs.Proof.{Proof}
 use Rattle.proof_core.specs.Context.{Context, start}
 use Rattle.proof_core.specs.Accepted.{Refutes, IsAccepted}
-use Rattle.proof_core.specs.Soundness.{IsSorted, IsWellSorted}
+use Rattle.proof_core.specs.Soundness.{IsSorted}
+use Rattle.logic_core.specs.WellSorted.{IsWellSorted}
 use Rattle.proof_core.proofs.CloseSound.{start_is_sound}
 use Rattle.tableau.specs.Branch.{Branch, Attempt, none, leaves, gives}
 use Rattle.tableau.specs.Move.{Move, Played, cost, branches_of, steps_of}

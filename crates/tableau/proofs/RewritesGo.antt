@@ -24,7 +24,8 @@ use Rattle.proof_core.specs.Steps.{after_step}
 use Rattle.proof_core.specs.Close.{is_negation_of}
 use Rattle.proof_core.specs.Ends.{after_cases}
 use Rattle.proof_core.specs.Accepted.{Leads}
-use Rattle.proof_core.specs.Soundness.{IsFormula, IsSorted}
+use Rattle.proof_core.specs.Soundness.{IsSorted}
+use Rattle.logic_core.specs.WellSorted.{IsFormula}
 use Rattle.proof_core.proofs.Appended.{at_fact}
 use Rattle.proof_core.proofs.SplitSound.{split_is_sound, cases_are_sound}
 use Rattle.proof_core.proofs.ReplaceSound.{replace_is_sound, unfold_is_sound}

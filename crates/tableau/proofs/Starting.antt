@@ -6,11 +6,10 @@ use Rattle.logic_core.specs.Def.{Def, Obligation}
 use Rattle.logic_core.specs.Normal.{normal}
 use Rattle.logic_core.specs.Wide.{◌>>=◌}
 use Rattle.logic_laws.proofs.Options.{bind_some}
-use Rattle.obligation_text.specs.WellSorted as text
 use Rattle.proof_core.specs.Proof.{Proof}
 use Rattle.proof_core.specs.Context.{Context, appended, appended_each, start}
 use Rattle.proof_core.specs.Accepted.{IsAccepted}
-use Rattle.proof_core.specs.Soundness.{IsWellSorted}
+use Rattle.logic_core.specs.WellSorted.{IsWellSorted}
 use Rattle.tableau.specs.Branch.{Branch, normal_in}
 use Rattle.tableau.specs.Closing.{each}
 use Rattle.tableau.specs.Search.{wide, Run, run, first_branch, Answer, answer_of, answer}
@@ -96,6 +95,6 @@ module _ (o : Obligation) where
       at_start (Some c) k = absurd (cc)
 
   -- the proof of the answer, where there is one, is accepted
-  pub answer_accepted : (n : ℕ) → text.IsWellSorted o → (found : Option Proof) → (answer o n).found ≡ found → IfSome found (IsAccepted o)
+  pub answer_accepted : (n : ℕ) → IsWellSorted o → (found : Option Proof) → (answer o n).found ≡ found → IfSome found (IsAccepted o)
   answer_accepted n sorted None h = tt
-  answer_accepted n sorted (Some p) h = finds_accepted o n p (record { definitions = sorted.definitions; axioms = sorted.axioms; goal = sorted.goal }) h
+  answer_accepted n sorted (Some p) h = finds_accepted o n p sorted h

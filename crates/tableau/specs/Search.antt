@@ -5,7 +5,7 @@ use Rattle.proof_core.specs.Proof.{Step, Proof, proof, by_close, by_cases}
 use Rattle.proof_core.specs.View.{proofs_of}
 use Rattle.proof_core.specs.Context.{Context, start}
 use Rattle.proof_core.specs.Accepted.{IsAccepted}
-use Rattle.proof_core.specs.Soundness.{IsWellSorted}
+use Rattle.logic_core.specs.WellSorted.{IsWellSorted}
 use Rattle.tableau.specs.Branch.{Branch, Attempt, none, leaves, gives, numbered}
 use Rattle.tableau.specs.Move.{Ending, goes_on, closes, forks, Move, cost, branches_of, Played, played}
 use Rattle.tableau.specs.Closing.{close, flatten}

@@ -2,7 +2,7 @@ use Rattle.std.proofs.Common.{◌≡◌, refl, ap, sym, subst, ◌∙◌, ℕ, O
 use Rattle.std.specs.Prelude.{option_map, map}
 use Rattle.std.specs.Arc.{arc_value}
 use Rattle.logic_core.specs.Def.{Signature, Obligation}
-use Rattle.obligation_text.specs.WellSorted.{IsWellSorted}
+use Rattle.logic_core.specs.WellSorted.{IsWellSorted}
 use Rattle.proof_core.specs.Proof.{Proof}
 use Rattle.proof_core.specs.Context.{start}
 use Rattle.tableau.specs.declared.branch.Branch as coded

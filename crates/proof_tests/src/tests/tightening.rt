@@ -1,5 +1,5 @@
 // Tightened facts, worked out by hand.
-use crate::{may_multiply, tighten};
+use linear_certs::{may_multiply, tighten};
 use logic_core::{Node, Term};
 use std::alloc::{AllocError, Global};
 use std::test::Fail;

@@ -1,7 +1,7 @@
 // Sizes and copies of small proofs, by counting their nodes, words of rules, and what facts say of terms.
-use crate::proof::{End, Proof, Step};
-use crate::rule::Rule;
-use crate::says::says;
+use proof_core::proof::{End, Proof, Step};
+use proof_core::rule::Rule;
+use proof_core::says::says;
 use logic_core::term::{Node, Term};
 use std::alloc::{AllocError, Global};
 use std::test::Fail;

@@ -1,0 +1,6 @@
+//! Tests of terms and of the checker of proofs, in a crate of their own, so that these crates are
+//! proved once.
+#![tactic(auto)]
+
+#[cfg(test)]
+mod tests;
