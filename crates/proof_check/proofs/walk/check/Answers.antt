@@ -18,5 +18,4 @@ returns-clause-accepted c =
 pub returns-clause-valid : goal.returns-clause-valid
 returns-clause-valid c =
     let fine : IsOk (verdict c.args.o.now c.args.proof.now) = search rules in
-    let sorted = c.signature.ensures.sorted in
-    acceptance_is_sound c.args.o.now c.args.proof.now (record { definitions = sorted.definitions; axioms = sorted.axioms; goal = sorted.goal }) ((refuses_the_others c.args.o.now c.args.proof.now).0 fine)
+    acceptance_is_sound c.args.o.now c.args.proof.now c.signature.ensures.sorted ((refuses_the_others c.args.o.now c.args.proof.now).0 fine)
