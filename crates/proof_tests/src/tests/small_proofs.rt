@@ -1,8 +1,8 @@
 // Sizes and copies of small proofs, by counting their nodes, words of rules, and what facts say of terms.
+use logic_core::term::{Node, Term};
 use proof_core::proof::{End, Proof, Step};
 use proof_core::rule::Rule;
 use proof_core::says::says;
-use logic_core::term::{Node, Term};
 use std::alloc::{AllocError, Global};
 use std::test::Fail;
 
