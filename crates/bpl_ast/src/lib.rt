@@ -28,8 +28,6 @@ mod print_heads;
 mod print_stmts;
 mod print_types;
 mod sign;
-#[cfg(test)]
-mod tests;
 
 pub use bv_base::place::{Place, Span};
 pub use decl::{Argument, Body, Decl, DeclBody, Program, Signature, Spec, SpecForm};

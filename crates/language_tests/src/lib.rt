@@ -1,5 +1,6 @@
-//! Tests of the parser and of the canonical text, over texts and trees that were written by hand from
-//! the grammar, in a crate of their own, so that these crates are proved once.
+//! Tests of the trees' canonical text and of the parser, over trees and texts that were written by
+//! hand from the grammar and from the rules of that text, in a crate of their own, so that the crates
+//! that they test are proved once.
 #![tactic(auto)]
 
 ghost use Rattle.std.specs.Prelude.{◌<◌, ◌-◌, ◌^◌, length, List, MatchOption};

@@ -1,4 +1,5 @@
-// Texts that are read and texts that are refused, written by hand from the grammar.
+// Texts that are read, texts that are refused and trees that are printed, written by hand from the
+// grammar and from the rules of the canonical text.
 use bpl_ast::{Decl, DeclBody, Expr};
 use bpl_parse::{Fault, parse_decls};
 use std::alloc::Global;
@@ -7,10 +8,13 @@ use std::test::Fail;
 
 mod canonical;
 mod declared_names;
+mod each_production;
 mod nesting;
+mod printed;
 mod productions;
 mod program_nestings;
 mod programs;
+mod small_procedures;
 mod trees;
 
 /// The faults of a text whose tokens are found.

@@ -2,7 +2,7 @@
 use super::nesting::nested;
 use super::programs::{declared, is_refused};
 use bpl_ast::{Program, print};
-use bpl_parse::Fault::{Deep, Lex, Syntax, Wide};
+use bpl_parse::Fault::Deep;
 use std::alloc::Global;
 use std::process::Abort;
 use std::test::Fail;
@@ -89,28 +89,4 @@ fn canonical_texts_are_read_back(rt: HostRuntime) -> Result<(), Fail> {
     assert!(rt; printed(&rt, alloc, &shallow)? == shallow, "198 signs");
     let deep = printed(&rt, alloc, &nested(alloc, CHOICES, 199)?)?;
     is_refused(&rt, alloc, &deep, Deep { at: 6 + 4 + 199 })
-}
-
-#[test]
-fn faults_of_procedures(rt: HostRuntime) -> Result<(), Fail> {
-    let alloc = rt.alloc();
-    is_refused(&rt, alloc, b"procedure S() { @ }", Lex { at: 16 })?;
-    is_refused(
-        &rt,
-        alloc,
-        b"procedure S() { assert 1 <; }",
-        Syntax { at: 26 },
-    )?;
-    is_refused(&rt, alloc, b"procedure S() { assert", Syntax { at: 22 })?;
-    let wide = b"procedure L() { assert 170141183460469231731687303715884105728 > 0; }";
-    is_refused(&rt, alloc, wide, Wide { at: 23 })?;
-    let parentheses: [&[u8]; 5] = [b"procedure D() { assert ", b"(", b"true", b")", b"; }"];
-    is_refused(
-        &rt,
-        alloc,
-        &nested(alloc, parentheses, 200)?,
-        Deep { at: 223 },
-    )?;
-    printed(&rt, alloc, &nested(alloc, parentheses, 199)?)?;
-    Ok(())
 }

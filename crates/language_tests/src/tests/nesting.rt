@@ -1,5 +1,5 @@
 // Nestings of each kind: two hundred are read, and one more is too deep.
-use super::Stop::{self, Deep, Syntax};
+use super::Stop::{self, Deep, Syntax, Wide};
 use super::read;
 use std::alloc::Global;
 use std::process::Abort;
@@ -111,6 +111,52 @@ fn too_deep_and_no_expression(rt: HostRuntime) -> Result<(), Fail> {
         200,
         (Syntax, 205),
     )?;
+    Ok(())
+}
+
+/// A number of 2^127, in parentheses and before them, and a parenthesis too many.
+const FAULTS: &[([&[u8]; 5], u32, (Stop, u32))] = &[
+    (
+        [
+            b"",
+            b"(",
+            b"170141183460469231731687303715884105728",
+            b")",
+            b"",
+        ],
+        200,
+        (Wide, 201),
+    ),
+    (
+        [
+            b"",
+            b"(",
+            b"170141183460469231731687303715884105728",
+            b")",
+            b"",
+        ],
+        201,
+        (Deep, 202),
+    ),
+    (
+        [
+            b"170141183460469231731687303715884105728 + ",
+            b"(",
+            b"x",
+            b")",
+            b"",
+        ],
+        201,
+        (Wide, 1),
+    ),
+    ([b"", b"(", b"x", b")", b" )"], 201, (Deep, 202)),
+];
+
+#[test]
+fn the_first_token_with_a_fault_counts(rt: HostRuntime) -> Result<(), Fail> {
+    for (parts, times, expected) in FAULTS {
+        is_refused(&rt, rt.alloc(), *parts, *times, *expected)?;
+    }
     Ok(())
 }
 

@@ -70,16 +70,21 @@ fn programs_nest(rt: HostRuntime) -> Result<(), Fail> {
     Ok(())
 }
 
-/// Branches of one `if` don't nest.
+/// What stands behind one another: branches, procedures, labels, operands, indices.
+const CHAINS: &[[&[u8]; 5]] = &[
+    [b"procedure P() { ", b"if (*) { } else ", b"{ }", b"", b" }"],
+    [b"", b"procedure P() { } ", b"", b"", b""],
+    [b"procedure P() { ", b"l: ", b"return;", b"", b" }"],
+    [b"axiom ", b"a ==> ", b"a", b"", b";"],
+    [b"axiom ", b"a - ", b"a", b"", b";"],
+    [b"axiom m", b"[0]", b"", b"", b";"],
+];
+
 #[test]
 fn chains_do_not_nest(rt: HostRuntime) -> Result<(), Fail> {
-    let text = nested(
-        rt.alloc(),
-        [b"procedure P() { ", b"if (*) { } else ", b"{ }", b"", b" }"],
-        300,
-    )?;
-    assert!(&rt; declared(&rt, rt.alloc(), &text).is_ok());
-    let text = nested(rt.alloc(), [b"", b"procedure P() { } ", b"", b"", b""], 300)?;
-    assert!(&rt; declared(&rt, rt.alloc(), &text).is_ok());
+    for parts in CHAINS {
+        let text = nested(rt.alloc(), *parts, 300)?;
+        assert!(&rt; declared(&rt, rt.alloc(), &text).is_ok(), "{parts:?}");
+    }
     Ok(())
 }

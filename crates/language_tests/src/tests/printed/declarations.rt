@@ -1,23 +1,13 @@
 // The lines of declarations, and their contracts.
 use super::build::{HERE, bool, expr, group, group_of, int, map, name, named, names, params};
 use super::statements::one;
-use crate::page::append_lines;
-use crate::{
-    Argument, Body, Decl, DeclBody, Expr, ExprForm, Group, Quantifier, Signature, Span, Spec,
-    SpecForm, Trigger, Type, TypeForm, Where, print_contract, print_lines,
+use super::{decl, text_of};
+use bpl_ast::{
+    Argument, Body, DeclBody, Expr, ExprForm, Group, Quantifier, Signature, Spec, SpecForm,
+    Trigger, Type, TypeForm, Where, print_contract,
 };
 use std::alloc::{AllocError, Global};
 use std::test::Fail;
-
-/// A declaration of this name.
-pub fn decl(alloc: Global, name: &str, body: DeclBody) -> Result<Decl, AllocError> {
-    Ok(Decl {
-        name: String::from_str(alloc, name)?,
-        span: Span { start: 0, end: 0 },
-        source: Vec::new(alloc),
-        body,
-    })
-}
 
 /// A clause that is required.
 pub fn required(alloc: Global, free: bool, text: &str) -> Result<Spec, AllocError> {
@@ -196,8 +186,7 @@ fn bare(alloc: Global) -> Result<DeclBody, AllocError> {
 // Whether the copied declaration has this text, and this text without a body.
 fn gives(alloc: Global, body: DeclBody, wanted: &str, contract: &str) -> Result<bool, AllocError> {
     let found = decl(alloc, "name", body)?.copy(alloc)?;
-    let mut text = Vec::new(alloc);
-    append_lines(&mut text, &print_lines(alloc, &found)?)?;
+    let text = text_of(alloc, &found)?;
     let head = print_contract(alloc, &found)?;
     Ok(text.as_slice() == wanted.as_bytes() && head.as_slice() == contract.as_bytes())
 }

@@ -1,16 +1,15 @@
 // Where expressions have parentheses and spaces.
 use super::build::expr;
-use crate::line::Line;
-use crate::print_exprs::print_expr;
-use std::alloc::{AllocError, Global};
+use super::copied;
+use bpl_ast::DeclBody;
+use std::alloc::Global;
 use std::test::Fail;
 
-// Whether a copy of the expression that is written in postfix notation has this text.
-fn gives(alloc: Global, postfix: &str, wanted: &str) -> Result<bool, AllocError> {
-    let x = expr(alloc, postfix)?.copy(alloc)?;
-    let mut line = Line::begin(alloc, 0)?;
-    print_expr(&mut line, &x)?;
-    Ok(line.into_text().as_slice() == wanted.as_bytes())
+// Whether the expression that is written in postfix notation has this text, as an axiom's formula.
+fn gives(alloc: Global, postfix: &str, wanted: &str) -> Result<bool, Fail> {
+    let text = copied(alloc, DeclBody::Axiom(expr(alloc, postfix)?))?;
+    let line = format!(in alloc; "axiom {wanted};\n")?;
+    Ok(text.as_slice() == line.as_bytes())
 }
 
 // Each operator with operands of each other, and of its own kind.

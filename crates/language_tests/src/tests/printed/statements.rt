@@ -1,9 +1,7 @@
 // The lines of statements.
 use super::build::{HERE, expr, exprs, name, names};
-use crate::copy_stmts::copy_stmts;
-use crate::page::{Page, append_lines};
-use crate::print_stmts::print_stmts;
-use crate::{Branch, Invariant, Name, Stmt, StmtForm, Target};
+use super::copied;
+use bpl_ast::{Body, Branch, DeclBody, Invariant, Name, Signature, Stmt, StmtForm, Target};
 use std::alloc::{AllocError, Global};
 use std::test::Fail;
 
@@ -92,13 +90,23 @@ pub fn invariant(alloc: Global, free: bool, text: &str) -> Result<Invariant, All
     })
 }
 
-// The text of copies of the statements, as they stand in a procedure's braces.
-fn printed(alloc: Global, stmts: &[Stmt]) -> Result<Vec<u8>, AllocError> {
-    let mut page = Page::new(alloc);
-    print_stmts(&mut page, 2, &copy_stmts(alloc, stmts)?)?;
-    let mut out = Vec::new(alloc);
-    append_lines(&mut out, &page.into_lines())?;
-    Ok(out)
+// Whether the statements, in the braces of a procedure, have these lines.
+fn give(alloc: Global, stmts: Vec<Stmt>, lines: &str) -> Result<bool, Fail> {
+    let signature = Signature {
+        ins: Vec::new(alloc),
+        outs: Vec::new(alloc),
+    };
+    let body = Body {
+        locals: Vec::new(alloc),
+        stmts,
+    };
+    let name = name(alloc, "P")?;
+    let text = copied(
+        alloc,
+        DeclBody::Procedure(name, None, signature, Vec::new(alloc), Some(body)),
+    )?;
+    let wanted = format!(in alloc; "procedure P ()\n{{\n{lines}}}\n")?;
+    Ok(text.as_slice() == wanted.as_bytes())
 }
 
 // First word or sign, names, expressions, line.
@@ -138,18 +146,15 @@ fn a_statement_is_one_line_with_its_labels(rt: HostRuntime) -> Result<(), Fail> 
     for (kind, words, values, line) in LINES {
         let mut labelled = simple(alloc, kind, words, values)?;
         labelled.labels = names(alloc, "L M")?;
-        let stmts = [simple(alloc, kind, words, values)?, labelled];
-        let wanted = format!(in alloc; "  {line}\n  L: M: {line}\n")?;
-        assert!(rt;
-            printed(alloc, &stmts)?.as_slice() == wanted.as_bytes(),
-            "{line}"
-        );
+        let stmts = Vec::from_array(alloc, [simple(alloc, kind, words, values)?, labelled])?;
+        let lines = format!(in alloc; "  {line}\n  L: M: {line}\n")?;
+        assert!(rt; give(alloc, stmts, lines.as_str())?, "{line}");
     }
     Ok(())
 }
 
 // An `if` without an `else`, one with another `if` behind its last branch, and a labelled chain.
-fn choices(alloc: Global) -> Result<[Stmt; 3], AllocError> {
+fn choices(alloc: Global) -> Result<Vec<Stmt>, AllocError> {
     let bare = Vec::from_array(alloc, [branch(alloc, "", Vec::new(alloc))?])?;
     let two = [
         branch(alloc, "a", one(alloc, "return", "", "")?)?,
@@ -164,11 +169,12 @@ fn choices(alloc: Global) -> Result<[Stmt; 3], AllocError> {
     let two = Vec::from_array(alloc, two)?;
     let three = Vec::from_array(alloc, three)?;
     let labelled = StmtForm::If(three, Some(last));
-    Ok([
+    let stmts = [
         stmt(alloc, StmtForm::If(bare, None)),
         stmt(alloc, StmtForm::If(two, None)),
         Stmt::new(names(alloc, "A")?, HERE, labelled),
-    ])
+    ];
+    Ok(Vec::from_array(alloc, stmts)?)
 }
 
 const CHOICES: &str = "  if (*)
@@ -250,14 +256,13 @@ const NESTED: &str = "  while (*)
 #[test]
 fn blocks_stand_deeper_than_their_heads(rt: HostRuntime) -> Result<(), Fail> {
     let alloc = rt.alloc();
-    let text = printed(alloc, &choices(alloc)?)?;
     assert!(rt;
-        text.as_slice() == CHOICES.as_bytes(),
+        give(alloc, choices(alloc)?, CHOICES)?,
         "the lines of chains"
     );
     let empty = StmtForm::While(Some(expr(alloc, "a")?), Vec::new(alloc), Vec::new(alloc));
     let empty = Stmt::new(names(alloc, "A")?, HERE, empty);
-    let text = printed(alloc, &[nested(alloc)?, empty])?;
-    assert!(rt; text.as_slice() == NESTED.as_bytes(), "the lines of loops");
+    let loops = Vec::from_array(alloc, [nested(alloc)?, empty])?;
+    assert!(rt; give(alloc, loops, NESTED)?, "the lines of loops");
     Ok(())
 }

@@ -1,8 +1,9 @@
 // The text of a whole program.
-use super::build::{expr, exprs, group, group_of, int, map, name, names};
-use super::declarations::{argument, decl, ensured, required};
+use super::build::{expr, group, group_of, int, map, name, names};
+use super::decl;
+use super::declarations::{argument, ensured, required};
 use super::statements::{branch, invariant, one, simple, stmt};
-use crate::{Body, DeclBody, Program, Signature, Stmt, StmtForm, print, print_contract};
+use bpl_ast::{Body, DeclBody, Program, Signature, Stmt, StmtForm, print, print_contract};
 use std::alloc::{AllocError, Global};
 use std::test::Fail;
 

@@ -1,9 +1,8 @@
 // Names, types and expressions for tests, read from texts.
-use crate::{
-    Expr, ExprForm, Group, Index, Name, Numeral, Quantifier, Relation, Term, Trigger, Type,
+use bpl_ast::{
+    Expr, ExprForm, Group, Index, Name, Numeral, Place, Quantifier, Relation, Term, Trigger, Type,
     TypeForm, TypeParams,
 };
-use bv_base::place::Place;
 use std::alloc::{AllocError, Global};
 
 /// The place of everything.
