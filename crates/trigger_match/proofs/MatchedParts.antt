@@ -1,5 +1,5 @@
 -- Where one of two lists ends: all parts match where they are as many.
-use Rattle.std.proofs.Common.{◌≡◌, ◌∙◌, ap, refl, sym, ℕ, zero, suc, min, nat_eq, List, [], ◌∷◌, length, drop, Some, arith}
+use Rattle.std.proofs.Common.{◌≡◌, ◌∙◌, ap, refl, ℕ, zero, suc, min, nat_eq, List, [], ◌∷◌, length, drop, Some, arith}
 use Rattle.std.proofs.lemmas.Bool.Decides.{nat_tests}
 use Rattle.std.proofs.lemmas.Bool.{ne_eqb}
 use Rattle.logic_core.specs.Tree.{Kind, Tree}

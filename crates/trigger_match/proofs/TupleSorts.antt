@@ -10,7 +10,7 @@ use Rattle.logic_core.specs.View.{trees_of}
 use Rattle.logic_core.specs.Wide.{◌>>=◌, when}
 use Rattle.logic_core.specs.Same.{same_term}
 use Rattle.logic_core.specs.Sorts.{is, sort_of, are}
-use Rattle.trigger_match.specs.Match.{Found, root, as_read, as_call, each_found, tuple_of, taken, variable, matched, matched_each, tuples_from, tuples}
+use Rattle.trigger_match.specs.Match.{Found, root, as_read, as_call, each_found, taken, variable, matched, matched_each, tuples_from, tuples}
 
 both_true : (a b : Bool) → (a && b) ≡ true → (a ≡ true) × (b ≡ true)
 both_true true b h = (refl, h)
