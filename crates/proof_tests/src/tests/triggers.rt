@@ -70,14 +70,24 @@ fn one_pattern_finds_its_terms(rt: HostRuntime) -> Result<(), Fail> {
     let alloc = rt.alloc();
     let table = [
         // reads of the map, in order
-        ("[] m k", "i", "[] m x;[] m 3;f1 y;[] m [] m y", "x/3/[] m y"),
+        (
+            "[] m k",
+            "i",
+            "[] m x;[] m 3;f1 y;[] m [] m y",
+            "x/3/[] m y",
+        ),
         // the map read is a write over m, or m before a write
         ("[] m k", "i", "[] [=] m x 1 y", "y"),
         ("[] m k", "i", "[] [=] [=] m x 1 y 2 3", "3"),
         ("[] [=] m x 1 k", "i", "[] m y;[] [=] m 7 8 3", "y/3"),
-        // an If is its own root, and so is what no map is
+        // an If is its own root
         ("[] m k", "i", "[] ? p m m x", "-"),
-        ("[] l k", "mi", "[] [=] m x 1 y;[] ? p m m 3", "m;y/? p m m;3"),
+        (
+            "[] l k",
+            "mi",
+            "[] [=] m x 1 y;[] ? p m m 3",
+            "m;y/? p m m;3",
+        ),
         // one variable is one term
         ("g2 k k", "i", "g2 x y;g2 y y;g2 [] m 1 [] m 1", "y/[] m 1"),
         // a variable is a term of its sort
@@ -94,7 +104,10 @@ fn one_pattern_finds_its_terms(rt: HostRuntime) -> Result<(), Fail> {
         ("[] m k", "i", "[] m x;[] [=] m y 1 x", "x/x"),
     ];
     for (trigger, kinds, ground, wanted) in table {
-        assert!(rt; finds(alloc, trigger, kinds, ground, wanted)?, "{trigger} in {ground}");
+        assert!(rt;
+            finds(alloc, trigger, kinds, ground, wanted)?,
+            "{trigger} in {ground}"
+        );
     }
     Ok(())
 }
