@@ -17,3 +17,6 @@ mod obligations;
 mod proofs;
 mod rules;
 mod small_proofs;
+
+// Triggers.
+mod triggers;

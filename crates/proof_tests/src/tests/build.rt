@@ -159,6 +159,7 @@ impl Operands {
             "f0" => Node::Call(0, self.list(0)?),
             "f1" => Node::Call(0, self.list(1)?),
             "g1" => Node::Call(1, self.list(1)?),
+            "g2" => Node::Call(1, self.list(2)?),
             "&0" => Node::And(self.list(0)?),
             "&1" => Node::And(self.list(1)?),
             "&2" => Node::And(self.list(2)?),

@@ -1,0 +1,4 @@
+mod MatchExamples
+pub mod Rooted
+pub mod MatchedParts
+pub mod TupleSorts
