@@ -1,5 +1,5 @@
-//! Tests of terms and of the checker of proofs, in a crate of their own, so that these crates are
-//! proved once.
+//! Tests of terms, of the checker of proofs and of the matching of triggers, in a crate of their own,
+//! so that these crates are proved once.
 #![tactic(auto)]
 
 #[cfg(test)]
