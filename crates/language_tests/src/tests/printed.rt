@@ -28,8 +28,14 @@ fn text_of(alloc: Global, found: &Decl) -> Result<Vec<u8>, AllocError> {
     Ok(text)
 }
 
+/// A copy of what is declared.
+fn copy_of(alloc: Global, body: DeclBody) -> Result<Decl, AllocError> {
+    let found = decl(alloc, "name", body)?;
+    found.copy(alloc)
+}
+
 /// The text of a copy of what is declared.
 fn copied(alloc: Global, body: DeclBody) -> Result<Vec<u8>, AllocError> {
-    let found = decl(alloc, "name", body)?.copy(alloc)?;
+    let found = copy_of(alloc, body)?;
     text_of(alloc, &found)
 }

@@ -1,9 +1,9 @@
 // The lines of declarations, and their contracts.
 use super::build::{HERE, bool, expr, group, group_of, int, map, name, named, names, params};
 use super::statements::one;
-use super::{decl, text_of};
+use super::{copy_of, text_of};
 use bpl_ast::{
-    Argument, Body, DeclBody, Expr, ExprForm, Group, Quantifier, Signature, Spec, SpecForm,
+    Argument, Body, Decl, DeclBody, Expr, ExprForm, Group, Quantifier, Signature, Spec, SpecForm,
     Trigger, Type, TypeForm, Where, print_contract,
 };
 use std::alloc::{AllocError, Global};
@@ -183,12 +183,17 @@ fn bare(alloc: Global) -> Result<DeclBody, AllocError> {
     Ok(DeclBody::Procedure(name, None, empty(alloc), Vec::new(alloc), Some(body)))
 }
 
+// Whether the declaration has this text without a body.
+fn has_contract(alloc: Global, found: &Decl, contract: &str) -> Result<bool, AllocError> {
+    let text = print_contract(alloc, found)?;
+    Ok(text.as_slice() == contract.as_bytes())
+}
+
 // Whether the copied declaration has this text, and this text without a body.
 fn gives(alloc: Global, body: DeclBody, wanted: &str, contract: &str) -> Result<bool, AllocError> {
-    let found = decl(alloc, "name", body)?.copy(alloc)?;
+    let found = copy_of(alloc, body)?;
     let text = text_of(alloc, &found)?;
-    let head = print_contract(alloc, &found)?;
-    Ok(text.as_slice() == wanted.as_bytes() && head.as_slice() == contract.as_bytes())
+    Ok(text.as_slice() == wanted.as_bytes() && has_contract(alloc, &found, contract)?)
 }
 
 #[test]
