@@ -1,0 +1,7 @@
+mod Unset
+mod Lists
+mod Blocks
+mod RisingEdges
+mod LoopEdges
+mod SetVariables
+mod EarlyReturn

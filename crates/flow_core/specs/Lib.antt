@@ -1,0 +1,6 @@
+pub mod Graph
+pub mod State
+pub mod Clause
+pub mod Reading
+pub mod Run
+pub mod Plain
