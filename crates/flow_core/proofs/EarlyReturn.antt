@@ -42,7 +42,7 @@ end = flag true ∷ whole (pos 0) ∷ []
 pub fails : FailingRun [] sorts returns_early (flag true ∷ whole (pos 8) ∷ []) mark
 fails = record {
   untouched = λ k d h. absurd (omega arith);
-  begins = record { sorted = refl; entered_with = λ k d h. absurd (omega arith) };
+  begins = record { sorted = refl; entry_values = λ k d h. absurd (omega arith) };
   last = within 5 (block_at returns_early.blocks 5).commands end;
   run = go (enter tt) (go (assigned (whole (pos 0) ∷ []) (refl, tt) refl) (go (follow 1 (0, omega arith, refl))
       (go (enter tt) (go (assume_holds refl) (go (follow 5 (0, omega arith, refl)) (go (enter tt) stay))))));

@@ -4,4 +4,5 @@ mod Blocks
 mod RisingEdges
 mod LoopEdges
 mod SetVariables
+mod SortedStates
 mod EarlyReturn

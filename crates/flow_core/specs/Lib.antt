@@ -3,4 +3,7 @@ pub mod State
 pub mod Clause
 pub mod Reading
 pub mod Run
+pub mod RunLaws
 pub mod Plain
+pub mod Cover
+pub mod Sorted

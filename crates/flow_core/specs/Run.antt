@@ -75,10 +75,10 @@ module _ (defs : List Def) (sorts : List Kind) (g : Graph) where
   path stay = []
   path (go s r) = entered s (path r)
 
-  -- a state in which a run begins: each variable has a value of its sort, and each entry value is its global's
+  -- where a run begins: each variable has a value of its sort, and each entry value is that of its global
   pub record Begins (σ : State) : Type 0 where
     pub sorted : IsTrue (are_of sorts σ)
-    pub entered_with : All (λ p. at σ p.1 ≡ at σ p.0) g.olds
+    pub entry_values : All (λ p. at σ p.1 ≡ at σ p.0) g.olds
 
   -- a run from block 0 that ends in a failure with this mark
   pub record FailingRun (σ : State) (m : Mark) : Type 0 where

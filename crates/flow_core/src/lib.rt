@@ -8,6 +8,9 @@ pub mod command;
 pub mod graph;
 pub mod mark;
 
+// Runs.
+pub mod laws;
+
 // Rising graphs.
 mod rising;
 
@@ -19,6 +22,9 @@ mod heads;
 mod loops;
 mod plain;
 mod reading;
+
+#[cfg(test)]
+mod tests;
 
 pub use block::{Block, Invariant, LoopHead};
 pub use command::Command;
