@@ -22,7 +22,7 @@ to_place Q blocks b k there is q = subst Q (sym (block_at_place blocks b k there
 pub place_there : (Q : Block → Type 0) → (Q (record { commands = []; next = []; head = None }) → ⊥) → (blocks : List Block) (b : ℕ) → Q (block_at blocks b) → b < length blocks
 place_there Q empty blocks b q =
     elim (cases_lt b (length blocks)) [
-      inl h ↦ h
+      | inl h ↦ h
       | inr h ↦ absurd (empty (subst Q (get_or_past blocks b (record { commands = []; next = []; head = None }) h) q))
     ]
 

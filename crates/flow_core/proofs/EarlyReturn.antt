@@ -29,7 +29,7 @@ returns_early = record {
       ∷ block (Assert mark (equal (free 1) (num (pos 1))) ∷ []) []
       ∷ [];
   own = 2;
-  olds = []
+  olds = [];
 }
 
 abbrev sorts : List Kind
@@ -46,7 +46,7 @@ fails = record {
   last = within 5 (block_at returns_early.blocks 5).commands end;
   run = go (enter tt) (go (assigned (whole (pos 0) ∷ []) (refl, tt) refl) (go (follow 1 (0, omega arith, refl))
       (go (enter tt) (go (assume_holds refl) (go (follow 5 (0, omega arith, refl)) (go (enter tt) stay))))));
-  failure = assert_breaks (λ h. cc)
+  failure = assert_breaks (λ h. cc);
 }
 
 -- the run goes through blocks 0, 1 and 5

@@ -26,4 +26,4 @@ module _ (blocks : List Block) (head limit : ℕ) (limits : (low : ℕ) → (low
     stays_out fails c e loop apart =
         let above : head < c = omega (arith, loop.0, apart) in
         both_ways (list_any (λ n. nat_lt head n && nat_lt n limit) k.next) fails (any_passes (λ n. nat_lt head n && nat_lt n limit) k.next c (edge_from blocks b c k there is e)
-          (and_from (nat_lt head c) (nat_lt c limit) (lt-ltb head c above) (lt-ltb c limit ((limits c).1 loop.1))))
+        (and_from (nat_lt head c) (nat_lt c limit) (lt-ltb head c above) (lt-ltb c limit ((limits c).1 loop.1))))

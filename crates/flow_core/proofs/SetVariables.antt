@@ -20,7 +20,7 @@ pub set_contained : (cs : List Command) (v : ℕ) → is_set cs v ≡ true → C
 set_contained [] v h = absurd (cc)
 set_contained (c ∷ cs) v h =
     elim (or_cases (list_any (λ x. x == v) (set_by c)) (is_set cs v) h) [
-      inl l ↦ Contains-append_left (set_by c) (set_by_each cs) v (contained (set_by c) v l)
+      | inl l ↦ Contains-append_left (set_by c) (set_by_each cs) v (contained (set_by c) v l)
       | inr r ↦ Contains-append_right (set_by c) (set_by_each cs) v (set_contained cs v r)
     ]
 
@@ -28,7 +28,7 @@ pub contained_set : (cs : List Command) (v : ℕ) → Contains (set_by_each cs) 
 contained_set [] v m = absurd (omega (arith, m.1))
 contained_set (c ∷ cs) v m =
     elim (Contains-append_cases (set_by c) (set_by_each cs) v m) [
-      inl l ↦ or_left (list_any (λ x. x == v) (set_by c)) (is_set cs v) (any_passes (λ x. x == v) (set_by c) v l (eq-eqb v v refl))
+      | inl l ↦ or_left (list_any (λ x. x == v) (set_by c)) (is_set cs v) (any_passes (λ x. x == v) (set_by c) v l (eq-eqb v v refl))
       | inr r ↦ or_right (list_any (λ x. x == v) (set_by c)) (is_set cs v) (contained_set cs v r)
     ]
 

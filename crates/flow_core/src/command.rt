@@ -32,10 +32,7 @@ impl Command {
     }
 }
 
-fn copy_assigned(
-    alloc: Global,
-    pairs: &[(u64, Term)],
-) -> Result<Sequence<(u64, Term)>, AllocError>
+fn copy_assigned(alloc: Global, pairs: &[(u64, Term)]) -> Result<Sequence<(u64, Term)>, AllocError>
     ensures { IfOk result (λ s. s ≡ pairs.now) }
 {
     let mut copies = Vec::new(alloc);

@@ -18,7 +18,6 @@ pub struct Graph {
 
 impl Model for Graph {
     ghost use Rattle.flow_core.specs.Graph.{Graph as graph, KeepsEntryValues};
-
     ghost use Rattle.logic_core.specs.contracts.term.Term as term;
     ghost use Rattle.std.specs.Coded.{codes};
 

@@ -22,7 +22,6 @@ mod heads;
 mod loops;
 mod plain;
 mod reading;
-
 #[cfg(test)]
 mod tests;
 

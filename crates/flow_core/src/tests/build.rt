@@ -1,7 +1,7 @@
 // Graphs for tests, read from texts.
 ghost use Rattle.std.specs.Prelude.{◌≡◌, []};
 
-use crate::{Block, Command, Graph, GoalKind, Invariant, LoopHead, Mark};
+use crate::{Block, Command, GoalKind, Graph, Invariant, LoopHead, Mark};
 use bv_base::place::Place;
 use logic_core::{Node, Sequence, Term};
 use std::alloc::{AllocError, Global};

@@ -52,7 +52,9 @@ fn each_block_sets_for_itself(rt: HostRuntime) -> Result<(), Fail> {
 /// A block that assumes what is read within a quantifier: the variable in its trigger or body.
 fn quantified(alloc: Global, in_trigger: bool) -> Result<Block, AllocError> {
     let mut sorts = Vec::new(alloc);
-    sorts.push(Sort { kind: SortKind::Int })?;
+    sorts.push(Sort {
+        kind: SortKind::Int,
+    })?;
     let mut trigger = Vec::new(alloc);
     trigger.push(if in_trigger { var(2) } else { var(0) })?;
     let mut triggers = Vec::new(alloc);

@@ -14,10 +14,10 @@ returns-then-not-has_only_edges c = says_no (λ plain. iff_false c.has_only_edge
 pub loop-b-preserved : goal.loop-b-preserved
 loop-b-preserved c =
     below_next (λ b. Branches c.args.blocks.now b → (d : ℕ) → Edge c.args.blocks.now b d → IsOnlyEdge c.args.blocks.now b d) c.loop-b.b c.loop-b.invariant (λ several.
-      elim c.else-len-gt1.branch [
-        else-len-gt1-via-then-len-gt1+else-not-has_only_edges w ↦ w.has_only_edges.ensures.0 w.if-not-has_only_edges.false
-        | else-len-gt1-via-else-len-gt1 w ↦ let many = from_place (λ k. 1 < length k.next) c.args.blocks.now c.loop-b.b c.index-blocks-b.result c.loop-b-test.true c.index-blocks-b.is several in omega (arith, many, w.if-len-gt1.false, c.len.ensures)
-      ])
+    elim c.else-len-gt1.branch [
+      | else-len-gt1-via-then-len-gt1+else-not-has_only_edges w ↦ w.has_only_edges.ensures.0 w.if-not-has_only_edges.false
+      | else-len-gt1-via-else-len-gt1 w ↦ let many = from_place (λ k. 1 < length k.next) c.args.blocks.now c.loop-b.b c.index-blocks-b.result c.loop-b-test.true c.index-blocks-b.is several in omega (arith, many, w.if-len-gt1.false, c.len.ensures)
+    ])
 
 pub returns : goal.returns
 returns c = says_yes (λ b d several e. let there = branch_there c.args.blocks.now b several in c.loop-b.invariant b (omega arith) several d e)

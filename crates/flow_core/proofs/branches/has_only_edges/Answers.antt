@@ -18,7 +18,7 @@ returns-then-not-is_only_edge c =
 pub loop-c-preserved : goal.loop-c-preserved
 loop-c-preserved c k d h =
     below_next (λ k. IsOnlyEdge c.args.blocks.now c.args.b (get_or c.as_slice-c-items.result.now k d)) c.loop-c.c-index (λ j l. c.loop-c.invariant j d l)
-      (let Q : ℕ → Type 0 = λ x. IsOnlyEdge c.args.blocks.now c.args.b x in subst Q (get_or_default c.as_slice-c-items.result.now c.loop-c.c-index 0 d c.loop-c-test.true) (c.is_only_edge.ensures.0 c.if-not-is_only_edge.false)) k h
+    (let Q : ℕ → Type 0 = λ x. IsOnlyEdge c.args.blocks.now c.args.b x in subst Q (get_or_default c.as_slice-c-items.result.now c.loop-c.c-index 0 d c.loop-c-test.true) (c.is_only_edge.ensures.0 c.if-not-is_only_edge.false)) k h
 
 pub returns : goal.returns
 returns c = says_yes (λ d e.

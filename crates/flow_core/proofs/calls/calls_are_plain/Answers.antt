@@ -9,4 +9,4 @@ pub loop-block-preserved : goal.loop-block-preserved
 loop-block-preserved c k d h =
     let P : Block → Type 0 = OwnsItsCalls c.args.own in
     below_next (λ k. P (get_or c.args.blocks.now k d)) c.loop-block.block-index (λ j l. c.loop-block.invariant j d l)
-      (subst P (c.block-item.is ∙ get_or_default c.args.blocks.now c.loop-block.block-index c.block-item.result d c.loop-block-test.true) (c.owns_its_calls.ensures.0 c.if-not-owns_its_calls.false)) k h
+    (subst P (c.block-item.is ∙ get_or_default c.args.blocks.now c.loop-block.block-index c.block-item.result d c.loop-block-test.true) (c.owns_its_calls.ensures.0 c.if-not-owns_its_calls.false)) k h

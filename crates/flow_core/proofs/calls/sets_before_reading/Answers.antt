@@ -26,12 +26,12 @@ loop-i-preserved c =
     let i = c.loop-i.i in
     let fails : list_any (has (is_unset c.args.own (take i cs))) (read_by c.index-commands-i.result) ≡ false = sym c.reads_unset.ensures ∙ c.if-reads_unset.false in
     below_next (λ i. (v : ℕ) (k : Command) → c.args.own ≤ v → Reads (get_or cs i k) v → Contains (set_by_each (take i cs)) v) i c.loop-i.invariant (λ v k le r.
-      let P : Command → Type 0 = λ k. Reads k v in
-      let r' : Reads c.index-commands-i.result v = subst P (get_or_default cs i k c.index-commands-i.result c.loop-i-test.true ∙ sym c.index-commands-i.is) r in
-      elim (cases_Bool (is_set (take i cs) v)) [
-        inl done ↦ set_contained (take i cs) v done
-        | inr never ↦ absurd (both_ways (list_any (has (is_unset c.args.own (take i cs))) (read_by c.index-commands-i.result)) fails (one_read c.args.own (take i cs) c.index-commands-i.result v le never r'))
-      ])
+    let P : Command → Type 0 = λ k. Reads k v in
+    let r' : Reads c.index-commands-i.result v = subst P (get_or_default cs i k c.index-commands-i.result c.loop-i-test.true ∙ sym c.index-commands-i.is) r in
+    elim (cases_Bool (is_set (take i cs) v)) [
+      | inl done ↦ set_contained (take i cs) v done
+      | inr never ↦ absurd (both_ways (list_any (has (is_unset c.args.own (take i cs))) (read_by c.index-commands-i.result)) fails (one_read c.args.own (take i cs) c.index-commands-i.result v le never r'))
+    ])
 
 pub returns : goal.returns
 returns c = says_yes (λ i v k there le r. c.loop-i.invariant i (omega arith) v k le r)

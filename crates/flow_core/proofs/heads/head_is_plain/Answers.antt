@@ -8,7 +8,7 @@ use Rattle.flow_core.proofs.heads.head_is_plain.Goals.{then-head-ne0, else-head-
 pub returns-then-head-entry_limit : goal.returns-then-head-entry_limit
 returns-then-head-entry_limit c =
     let first : (c.args.head ≢ 0) × EnteredFrom c.args.blocks.now c.args.head c.args.head = elim c.if-head-ne0.branch [
-      then-head-ne0 w ↦ (w.if-head-ne0.true, (w.entry_limit.ensures c.args.head).0 (ltb-true c.args.head w.entry_limit.result (sym w.value-is ∙ c.if-head-entry_limit.true)))
+      | then-head-ne0 w ↦ (w.if-head-ne0.true, (w.entry_limit.ensures c.args.head).0 (ltb-true c.args.head w.entry_limit.result (sym w.value-is ∙ c.if-head-entry_limit.true)))
       | else-head-ne0 w ↦ absurd (both_ways c.if-head-ne0.value (w.value-is ∙ not_from_true (nat_eq c.args.head 0) (eq-eqb c.args.head 0 w.if-head-ne0.false)) c.if-head-entry_limit.true)
     ] in (
       (λ h. record { reached_again = first.1; not_first = first.0; unbranched = λ b e several. iff_false c.is_branched_to.ensures (not-true c.is_branched_to.result h) (b, e, several) }),
@@ -19,7 +19,7 @@ pub returns-else-head-entry_limit : goal.returns-else-head-entry_limit
 returns-else-head-entry_limit c = (
   (λ h. absurd (both_ways c.if-head-ne0.value c.if-head-entry_limit.false h)),
   (λ plain. elim c.if-head-ne0.branch [
-    then-head-ne0 w ↦ w.value-is ∙ lt-ltb c.args.head w.entry_limit.result ((w.entry_limit.ensures c.args.head).1 plain.reached_again)
+    | then-head-ne0 w ↦ w.value-is ∙ lt-ltb c.args.head w.entry_limit.result ((w.entry_limit.ensures c.args.head).1 plain.reached_again)
     | else-head-ne0 w ↦ absurd (plain.not_first w.if-head-ne0.false)
   ]),
 )

@@ -14,10 +14,10 @@ returns-then-not-loop_is_plain c = says_no (λ plain. iff_false c.loop_is_plain.
 pub loop-h-preserved : goal.loop-h-preserved
 loop-h-preserved c =
     below_next (λ h. IsHead c.args.blocks.now h → LoopIsPlain c.args.blocks.now h) c.loop-h.h c.loop-h.invariant (λ head.
-      elim c.else-is_some.branch [
-        else-is_some-via-then-is_some+else-not-loop_is_plain w ↦ w.loop_is_plain.ensures.0 w.if-not-loop_is_plain.false
-        | else-is_some-via-else-is_some w ↦ let some = from_place (λ k. IsSome k.head) c.args.blocks.now c.loop-h.h c.index-blocks-h.result c.loop-h-test.true c.index-blocks-h.is head in absurd (both_ways c.is_some.result w.if-is_some.false (c.is_some.ensures ∙ some))
-      ])
+    elim c.else-is_some.branch [
+      | else-is_some-via-then-is_some+else-not-loop_is_plain w ↦ w.loop_is_plain.ensures.0 w.if-not-loop_is_plain.false
+      | else-is_some-via-else-is_some w ↦ let some = from_place (λ k. IsSome k.head) c.args.blocks.now c.loop-h.h c.index-blocks-h.result c.loop-h-test.true c.index-blocks-h.is head in absurd (both_ways c.is_some.result w.if-is_some.false (c.is_some.ensures ∙ some))
+    ])
 
 pub returns : goal.returns
 returns c = says_yes (λ h head. let there = head_there c.args.blocks.now h head in c.loop-h.invariant h (omega arith) head)

@@ -12,7 +12,7 @@ returns-then-not-all_above c = let no : list_all (λ n. nat_lt c.loop-b.b n) c.i
 pub loop-b-preserved : goal.loop-b-preserved
 loop-b-preserved c b d h e = let yes : list_all (λ n. nat_lt c.loop-b.b n) c.index-blocks-b.result.next ≡ true = cc in
     below_next (λ b. (d : ℕ) → Edge c.args.blocks.now b d → b < d) c.loop-b.b (λ a l d e. c.loop-b.invariant a d l e)
-      (rises c.args.blocks.now c.loop-b.b c.index-blocks-b.result c.loop-b-test.true c.index-blocks-b.is yes) b h d e
+    (rises c.args.blocks.now c.loop-b.b c.index-blocks-b.result c.loop-b-test.true c.index-blocks-b.is yes) b h d e
 
 pub returns : goal.returns
 returns c = says_yes (λ b d e. let there = edge_there c.args.blocks.now b d e in c.loop-b.invariant b d (omega arith) e)

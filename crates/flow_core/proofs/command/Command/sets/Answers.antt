@@ -7,4 +7,4 @@ use Rattle.flow_core.proofs.command.Command.sets.Goals as goal
 pub returns-in-Assign : goal.returns-in-Assign
 returns-in-Assign c =
     c.any_is_of.ensures ∙ ap (list_any (λ p. p.0 == c.args.var)) c.as_slice.ensures ∙ sym (list_any-map (λ x. x == c.args.var) (λ p. p.0) c.in-Assign.pairs)
-      ∙ ap (λ k. list_any (λ x. x == c.args.var) (set_by k)) (sym c.in-Assign.is)
+    ∙ ap (λ k. list_any (λ x. x == c.args.var) (set_by k)) (sym c.in-Assign.is)
