@@ -1,5 +1,5 @@
 -- Blocks and edges by number.
-use Rattle.std.proofs.Common.{◌≡◌, sym, ◌∙◌, ℕ, ◌<◌, ◌≤◌, ◌⊎◌, List, [], length, get_or, subst, arith, inl, inr}
+use Rattle.std.proofs.Common.{◌≡◌, sym, ◌∙◌, ℕ, ◌<◌, List, [], length, get_or, subst, arith, inl, inr}
 use Rattle.std.specs.Prelude.{None, IsSome, Contains}
 use Rattle.std.proofs.lemmas.List.{get_or_default, get_or_past}
 use Rattle.std.proofs.lemmas.Bool.{cases_lt}

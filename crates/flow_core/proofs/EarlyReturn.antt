@@ -1,7 +1,7 @@
 -- A run that fails: of a body with an early return, whose postcondition doesn't hold there.
 use Rattle.std.proofs.Common.{◌≡◌, refl, ℕ, pos, true, List, [], ◌∷◌, arith}
 use Rattle.std.specs.Prelude.{None}
-use Rattle.logic_core.specs.Tree.{Kind, int, boolean, Tree, num, free, equal, negation}
+use Rattle.logic_core.specs.Tree.{Kind, int, boolean, num, free, equal, negation}
 use Rattle.logic_core.specs.Value.{whole, flag}
 use Rattle.flow_core.specs.declared.mark.GoalKind.TheVariants.{Ensures}
 use Rattle.flow_core.specs.declared.mark.Mark.{Mark}

@@ -1,5 +1,5 @@
 -- Tests on the items of lists.
-use Rattle.std.proofs.Common.{◌≡◌, Bool, true, false, List, length, get_or, ℕ, ◌<◌, ◌+◌, arith, ◌⊎◌, inl, inr, subst, sym, refl, ◌↔◌, not, ◌||◌, [], ◌∷◌, map, ap}
+use Rattle.std.proofs.Common.{◌≡◌, Bool, true, false, List, get_or, ℕ, ◌<◌, ◌+◌, arith, inl, inr, subst, refl, ◌↔◌, ◌||◌, [], ◌∷◌, map, ap}
 use Rattle.std.specs.Prelude.{Contains, IsTrue}
 use Rattle.std.specs.List.{list_any, list_all}
 use Rattle.std.proofs.lemmas.Bool.{cases_lt}

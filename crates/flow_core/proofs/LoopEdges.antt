@@ -1,5 +1,5 @@
 -- Edges into a loop, block by block. The limit is the number after the greatest block with an edge to the head.
-use Rattle.std.proofs.Common.{◌≡◌, ◌≢◌, ◌↔◌, ℕ, ◌<◌, ◌≤◌, nat_lt, ◌&&◌, true, false, List, length, get_or, arith, sym}
+use Rattle.std.proofs.Common.{◌≡◌, ◌≢◌, ◌↔◌, ℕ, ◌<◌, ◌≤◌, nat_lt, ◌&&◌, true, false, List, length, get_or, arith}
 use Rattle.std.specs.List.{list_any}
 use Rattle.std.proofs.lemmas.Bool.{both_ways, ltb-true, lt-ltb, and_parts, and_from}
 use Rattle.flow_core.specs.declared.block.Block.{Block}

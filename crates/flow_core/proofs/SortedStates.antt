@@ -1,6 +1,6 @@
 -- Each variable keeps a value of its sort along a run.
-use Rattle.std.proofs.Common.{◌≡◌, refl, ℕ, zero, suc, true, ◌&&◌, List, [], ◌∷◌, set}
-use Rattle.std.specs.Prelude.{IsTrue, slice_index_or}
+use Rattle.std.proofs.Common.{◌≡◌, refl, ℕ, zero, suc, true, List, [], ◌∷◌, set}
+use Rattle.std.specs.Prelude.{slice_index_or}
 use Rattle.std.proofs.lemmas.Bool.{and_parts, and_from}
 use Rattle.logic_core.specs.Tree.{Kind, int}
 use Rattle.logic_core.specs.Value.{Value, is_of, are_of}

@@ -11,7 +11,7 @@ use Rattle.flow_core.specs.declared.command.Command.TheVariants.{Assert, Assume,
 use Rattle.flow_core.specs.declared.block.LoopHead.{LoopHead}
 use Rattle.flow_core.specs.State.{State, HoldsIn, EvaluateTo, FitSorts, update}
 use Rattle.flow_core.specs.Clause.{Clause, read_invariant, Pass, Breaks}
-use Rattle.flow_core.specs.Graph.{Graph, block_at, Edge, set_by, set_by_each, targets_of, entry_values}
+use Rattle.flow_core.specs.Graph.{Graph, block_at, Edge, set_by_each, targets_of, entry_values}
 use Rattle.flow_core.specs.Reading.{Mentions}
 
 -- where a run is: at the arrival at a block, or within one, before the commands that are left

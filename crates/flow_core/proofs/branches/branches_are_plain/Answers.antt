@@ -1,4 +1,4 @@
-use Rattle.std.proofs.Common.{◌≡◌, ℕ, ◌<◌, length, arith}
+use Rattle.std.proofs.Common.{ℕ, ◌<◌, length, arith}
 use Rattle.std.proofs.lemmas.Bool.{iff_false}
 use Rattle.flow_core.specs.Graph.{Edge}
 use Rattle.flow_core.specs.Plain.{Branches, IsOnlyEdge}

@@ -1,4 +1,4 @@
-use Rattle.std.proofs.Common.{◌≡◌, ◌≢◌, ℕ, ◌<◌, arith}
+use Rattle.std.proofs.Common.{◌≢◌, arith}
 use Rattle.std.proofs.lemmas.Bool.{iff_false}
 use Rattle.flow_core.specs.Graph.{Edge}
 use Rattle.flow_core.proofs.Lists.{below_next, says_no}

@@ -1,4 +1,4 @@
-use Rattle.std.proofs.Common.{get_or, sym, ◌∙◌, subst}
+use Rattle.std.proofs.Common.{get_or, ◌∙◌, subst}
 use Rattle.std.proofs.lemmas.List.{get_or_default}
 use Rattle.flow_core.specs.declared.block.Block.{Block}
 use Rattle.flow_core.specs.Plain.{OwnsItsCalls}

@@ -1,5 +1,4 @@
-use Rattle.std.proofs.Common.{nat_eq, eq-eqb, ◌≡◌, ◌≢◌, ◌↔◌, sym, ◌∙◌}
-use Rattle.std.specs.Prelude.{IsTrue}
+use Rattle.std.proofs.Common.{nat_eq, eq-eqb, ◌≢◌, sym, ◌∙◌}
 use Rattle.std.proofs.lemmas.Bool.{iff_false, not_from_true, both_ways, ltb-true, lt-ltb, not-true, not_from_false, false_from_ne_true}
 use Rattle.flow_core.specs.Plain.{EnteredFrom}
 use Rattle.flow_core.proofs.heads.head_is_plain.Goals as goal

@@ -1,4 +1,4 @@
-use Rattle.std.proofs.Common.{◌≡◌, ℕ, ◌<◌, nat_lt, true, false, length, arith}
+use Rattle.std.proofs.Common.{◌≡◌, ℕ, ◌<◌, nat_lt, true, false, arith}
 use Rattle.std.specs.List.{list_all}
 use Rattle.flow_core.specs.Graph.{Edge}
 use Rattle.flow_core.proofs.Lists.{below_next, says_yes, says_no}

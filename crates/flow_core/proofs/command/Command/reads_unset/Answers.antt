@@ -1,4 +1,4 @@
-use Rattle.std.proofs.Common.{◌≡◌, ◌∙◌, sym, ap}
+use Rattle.std.proofs.Common.{◌∙◌, sym, ap}
 use Rattle.std.specs.List.{list_any}
 use Rattle.logic_core.specs.Subterm.{has}
 use Rattle.flow_core.specs.Reading.{read_by, is_unset}

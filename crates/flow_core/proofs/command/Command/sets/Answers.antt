@@ -1,4 +1,4 @@
-use Rattle.std.proofs.Common.{◌≡◌, ◌==◌, ◌∙◌, sym, ap}
+use Rattle.std.proofs.Common.{◌==◌, ◌∙◌, sym, ap}
 use Rattle.std.specs.List.{list_any}
 use Rattle.flow_core.specs.Graph.{set_by}
 use Rattle.flow_core.proofs.Lists.{list_any-map}
