@@ -1,0 +1,8 @@
+mod Unset
+mod Lists
+mod Blocks
+mod RisingEdges
+mod LoopEdges
+mod SetVariables
+mod SortedStates
+mod EarlyReturn
