@@ -5,5 +5,3 @@ pub mod Reading
 pub mod Run
 pub mod RunLaws
 pub mod Plain
-pub mod Cover
-pub mod Sorted
