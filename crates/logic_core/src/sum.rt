@@ -1,12 +1,13 @@
 // The normal form of sums and products. A sum is made from its constant by adding its parts, left
 // to right: a Sum in a part is scaled and its parts are taken, a number goes to the constant, equal
 // atoms join, and an atom whose coefficient becomes zero drops. Atoms stand in falling order.
-ghost use Rattle.std.specs.Prelude.{◌≡◌, ◌≤◌, ◌<◌, ◌+◌, ℤ, pos, take, drop, vec_len, slice_index_or, option_map, IfOk};
+ghost use Rattle.std.specs.Prelude.{◌≡◌, ◌≤◌, ◌<◌, ◌+◌, ℤ, pos, take, drop, vec_len, slice_index_or, option_map, IfOk, IfErr};
 ghost use Rattle.logic_core.specs.Tree.{Tree, linear};
 ghost use Rattle.logic_core.specs.View.{parts_of};
 ghost use Rattle.logic_core.specs.Before.{before, part_before};
 ghost use Rattle.logic_core.specs.Wide.{checked_add};
 ghost use Rattle.logic_core.specs.Gives.{Gives, GivesAs};
+ghost use Rattle.logic_core.specs.declared.fault.NormalFault.TheVariants.{Wide};
 ghost use Rattle.logic_core.specs.Sum.{constant, with_part, add_atom, add_number, add_part, add_parts, add_term, term_of, affine, difference, in_order, product, product_with};
 
 use crate::fault::NormalFault;
@@ -75,8 +76,9 @@ fn change_part(parts: Vec<(i128, Term)>, i: usize, k: i128) -> Vec<(i128, Term)>
 // The i-th part, whose atom k times more joins.
 fn join_part(parts: Vec<(i128, Term)>, i: usize, k: i128) -> Result<Vec<(i128, Term)>, NormalFault>
     requires { i < vec_len parts }
-    ensures { (d : ℤ × Tree) → let part = slice_index_or parts.items i d in GivesAs (λ v. parts_of v.items) result
+    ensures gives { (d : ℤ × Tree) → let part = slice_index_or parts.items i d in GivesAs (λ v. parts_of v.items) result
         (option_map (λ n. before part_before (take i parts.items) (with_part n part.1 (parts_of (drop (i + 1) parts.items)))) (checked_add part.0 k)) }
+    ensures wide { IfErr result (λ e. e ≡ Wide) }
 {
     let n = checked_add(parts[i].0, k)?;
     Ok(change_part(parts, i, n))
@@ -127,7 +129,8 @@ impl Linear {
 
     // k times n joins the constant.
     fn add_number(self, k: i128, n: i128) -> Result<Linear, NormalFault>
-        ensures { Gives result (add_number k n self) }
+        ensures gives { Gives result (add_number k n self) }
+        ensures wide { IfErr result (λ e. e ≡ Wide) }
     {
         let Linear { parts, rest } = self;
         let m = checked_mul(k, n)?;

@@ -21,7 +21,7 @@ pub returns-in-Equal : goal.returns-in-Equal
 returns-in-Equal c =
     let past = rw (to_z-of_z w128 c.args.k c.ranges.k) at c.loop-i.invariant.past in
     let equal = sym c.in-Equal.is ∙ c.compare.ensures ∙ ap (λ t. order t c.index.result.now.1) c.loop-i.invariant.same in
-    rw (past_equal c.args.k c.args.t c.args.parts.items c.loop-i.i c.index.result.now (omega arith) c.index.ensures equal past) (rw (← c.index.ensures, to_z-of_z w128 c.args.k c.ranges.k) at (c.join_part.ensures c.index.result.now))
+    rw (past_equal c.args.k c.args.t c.args.parts.items c.loop-i.i c.index.result.now (omega arith) c.index.ensures equal past) (rw (← c.index.ensures, to_z-of_z w128 c.args.k c.ranges.k) at (c.join_part.ensures.gives c.index.result.now))
 
 pub loop-i-preserved : goal.loop-i-preserved
 loop-i-preserved c =

@@ -3,7 +3,7 @@ use Rattle.std.specs.Prelude.{◌≡◌, refl, ℕ, suc, ◌+◌, ◌<◌, nat_e
 use Rattle.std.specs.List.{list_any, position_from, AllByRecursion}
 use Rattle.std.proofs.Common.{arith, ◌∙◌, ap}
 use Rattle.std.proofs.lemmas.Bool.{eqb-true, eqb-false}
-use Rattle.edit_server.specs.Variables.{joined, first_occurrences}
+use Rattle.logic_core.specs.Variables.{joined, first_occurrences}
 
 abbrev pub IsIn : List ℕ → ℕ → Type 0
 IsIn os v = list_any (nat_eq v) os ≡ true
