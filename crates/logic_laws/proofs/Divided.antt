@@ -1,15 +1,13 @@
 -- The greatest common divisor of the coefficients of a sum divides each of them, and division rounds down.
 use Rattle.std.proofs.Common.{◌≡◌, ◌∙◌, refl, sym, ap, subst, ℕ, zero, suc, ◌+◌, ◌-◌, ◌*◌, ◌/◌, ◌%◌, ◌<◌, nat_eq, eqb-true, ℤ, pos, negsuc, ◌+ℤ◌, ◌*ℤ◌, neg_ℤ, unsigned_abs, int_le, int_eq, Bool, true, false, cond, arith, mul_assoc, mul-add}
-use Rattle.std.proofs.lemmas.Int.{ints}
+use Rattle.std.proofs.lemmas.Int.{ints, unsigned_abs-mul}
+use Rattle.std.proofs.Math.Nat.{mod-eq-sub-mul-div, mul-sub}
 use Rattle.std.proofs.lemmas.Bool.Decides.{Decides-int_eq}
 use Rattle.logic_core.specs.Tree.{Parts, no_parts, part}
 use Rattle.logic_core.specs.Tighten.{gcd_within, gcd, parts_gcd, floor_div}
+use Rattle.logic_laws.specs.Divisors.{Divides, DividesInt, DividesParts, PartsGcdIsGreatest}
 use Rattle.logic_laws.proofs.Options.{cond_has}
 use Rattle.logic_laws.proofs.Integers.{times_plus, times_minus, plus_zero, same_test}
-
--- d divides n
-abbrev pub Divides : ℕ → ℕ → Type 0
-Divides d n = (q : ℕ) × (n ≡ d * q)
 
 divides_itself : (n : ℕ) → Divides n n
 divides_itself n = (1, omega arith)
@@ -39,20 +37,31 @@ gcd_within_divides (suc turns) a b h = gcd_by (nat_eq b 0) turns a b refl h (λ 
     below : (b ≡ 0 → ⊥) → a % b < turns
     below ne = omega arith
 
+-- what divides two numbers divides what the one leaves by the other
+rest_divided : (d a b : ℕ) → Divides d a → Divides d b → Divides d (a % b)
+rest_divided d a b p q = (
+  p.0 - q.0 * (a / b),
+  mod-eq-sub-mul-div a b ∙ ap (λ x. a - x * (a / b)) q.1 ∙ ap (λ x. a - x) (mul_assoc d q.0 (a / b)) ∙ ap (λ x. x - d * (q.0 * (a / b))) p.1 ∙ sym (mul-sub d p.0 (q.0 * (a / b))),
+)
+
+-- and so their greatest common divisor
+gcd_within_greatest : (turns a b d : ℕ) → Divides d a → Divides d b → Divides d (gcd_within turns a b)
+gcd_within_greatest zero a b d p q = p
+gcd_within_greatest (suc turns) a b d p q = cond_has (Divides d) (nat_eq b 0) a (gcd_within turns b (a % b)) (λ z. p) (λ z. gcd_within_greatest turns b (a % b) d q (rest_divided d a b p q))
+
+divides_abs : (d : ℕ) (k : ℤ) → DividesInt d k → Divides d (unsigned_abs k)
+divides_abs d k p = (unsigned_abs p.0, ap unsigned_abs p.1 ∙ unsigned_abs-mul (pos d) p.0)
+
+divides_gcd : (ps : Parts) (d : ℕ) → DividesParts d ps → Divides d (parts_gcd ps)
+divides_gcd no_parts d h = divides_zero d
+divides_gcd (part k t ps) d h = gcd_within_greatest (unsigned_abs k + 1) (parts_gcd ps) (unsigned_abs k) d (divides_gcd ps d h.1) (divides_abs d k h.0)
+
 pub gcd_divides : (a b : ℕ) → Divides (gcd a b) a × Divides (gcd a b) b
 gcd_divides a b = gcd_within_divides (b + 1) a b (omega arith)
-
--- the natural number g divides the integer k
-abbrev pub DividesInt : ℕ → ℤ → Type 0
-DividesInt g k = (q : ℤ) × (k ≡ pos g *ℤ q)
 
 pub divides_int : (g : ℕ) (k : ℤ) → Divides g (unsigned_abs k) → DividesInt g k
 divides_int g (pos n) p = (pos p.0, ap pos p.1)
 divides_int g (negsuc n) p = let e : pos (suc n) ≡ pos g *ℤ pos p.0 = ap pos p.1 in (neg_ℤ (pos p.0), ap neg_ℤ e ∙ sym (times_minus (pos g) (pos p.0)))
-
-abbrev pub DividesParts : ℕ → Parts → Type 0
-DividesParts g no_parts = Unit {0}
-DividesParts g (part k t ps) = DividesInt g k × DividesParts g ps
 
 pub divides_parts : (ps : Parts) (d : ℕ) → Divides d (parts_gcd ps) → DividesParts d ps
 divides_parts no_parts d h = tt
@@ -61,6 +70,9 @@ divides_parts (part k t ps) d h = let g = gcd_divides (parts_gcd ps) (unsigned_a
 
 pub parts_divided : (ps : Parts) → DividesParts (parts_gcd ps) ps
 parts_divided ps = divides_parts ps (parts_gcd ps) (divides_itself (parts_gcd ps))
+
+pub parts_gcd_is_greatest : PartsGcdIsGreatest
+parts_gcd_is_greatest ps = (parts_divided ps, λ d h. divides_gcd ps d h)
 
 -- division rounds down, and leaves less than the divisor
 pub floor_is : (c : ℤ) (g : ℕ) → 0 < g → (r : ℕ) × (r < g) × (c ≡ (pos g *ℤ floor_div c g) +ℤ pos r)

@@ -28,3 +28,14 @@ pub mod WrittenTables
 pub mod Divided
 pub mod Tightened
 pub mod Assigned
+pub mod BothRenamedMeanings
+pub mod CallsByNumber
+pub mod RenamedCalls
+pub mod RenamedSorts
+pub mod FilledValues
+pub mod RenamedValidity
+pub mod RenamedVariables
+pub mod SortedNumbers
+pub mod SortedMeanings
+pub mod RenamedObligations
+pub mod OrderKeys

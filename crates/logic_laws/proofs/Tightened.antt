@@ -19,7 +19,8 @@ use Rattle.logic_laws.proofs.Gives.{Gives, GivesSum}
 use Rattle.logic_laws.proofs.ValueSorts.{CallsHaveSorts}
 use Rattle.logic_laws.proofs.SumValues.{sum_gives}
 use Rattle.logic_laws.proofs.FormulaValues.{zero_found}
-use Rattle.logic_laws.proofs.Divided.{DividesParts, parts_divided, exact, at_least_zero_divided, zero_divided, never_zero, divides_without_remainder}
+use Rattle.logic_laws.specs.Divisors.{DividesParts}
+use Rattle.logic_laws.proofs.Divided.{parts_divided, exact, at_least_zero_divided, zero_divided, never_zero, divides_without_remainder}
 
 module _ (vars : List Kind) (defs : List Def) where
   divided_ints : (ps : Parts) (g : ℕ) (b : List Kind) → are_ints vars defs b ps ≡ true → are_ints vars defs b (divided g ps) ≡ true

@@ -6,3 +6,6 @@ pub mod NormalLaws
 pub mod ReplaceLaws
 pub mod BinderLaws
 pub mod VariableLaws
+pub mod RenamingLaws
+pub mod Divisors
+pub mod OrderLaws

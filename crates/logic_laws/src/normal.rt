@@ -1,4 +1,5 @@
 // The normal form keeps what a term means.
+ghost use Rattle.logic_laws.specs.Divisors.{PartsGcdIsGreatest};
 ghost use Rattle.logic_laws.specs.NormalLaws.{NormalKeepsValues, NormalKeepsTruth, NegatedIsNot, TighteningKeepsSorts, TighteningKeepsValues};
 
 /// A well-sorted term and its normal form have the same value.
@@ -24,4 +25,9 @@ pub fn tightening_keeps_sorts()
 /// A formula and its tightened form have the same value.
 pub fn tightening_keeps_values()
     ensures { TighteningKeepsValues }
+{}
+
+/// The divisor by which a fact is tightened is the greatest that its coefficients have in common.
+pub fn divisor_is_greatest()
+    ensures { PartsGcdIsGreatest }
 {}
