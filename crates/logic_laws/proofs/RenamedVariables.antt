@@ -1,5 +1,5 @@
 -- A term with other variables means what the term means, where the new variables, and those of the definitions' bodies, have the values of the old ones.
-use Rattle.std.specs.Prelude.{◌≡◌, refl, ℕ, nat_eq, ◌+◌, List, [], ◌∷◌, ◌++◌, reverse}
+use Rattle.std.specs.Prelude.{◌≡◌, refl, ℕ, nat_eq, ◌+◌, List, [], ◌∷◌, reverse}
 use Rattle.std.specs.List.{AllByRecursion}
 use Rattle.std.proofs.Common.{ap, ◌∙◌}
 use mathlib.Core.Path.{sym}

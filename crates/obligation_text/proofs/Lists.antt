@@ -1,0 +1,55 @@
+-- What each variable and each definition in a term has, as lists.
+use Rattle.std.specs.Prelude.{ℕ, List, [], ◌∷◌, ◌++◌}
+use Rattle.std.specs.List.{AllByRecursion}
+use Rattle.logic_core.specs.Tree.{Tree, num, truth, free, bound, linear, mul, read, write, choose, call, negation, all, some, equal, at_most, for_all, exists, Trees, no_trees, tree, Parts, no_parts, part, Patterns, no_patterns, pattern}
+use Rattle.logic_core.specs.Renamed.{EachHas, EachInTrees, EachInParts, EachInPatterns}
+use Rattle.logic_core.specs.Variables.{variables, variables_of_each, variables_of_parts, variables_of_patterns, calls, calls_of_each, calls_of_parts, calls_of_patterns}
+
+pub every_append : {A : Type 0} (P : A → Type 0) (xs ys : List A) → AllByRecursion P xs → AllByRecursion P ys → AllByRecursion P (xs ++ ys)
+every_append P [] ys h k = k
+every_append P (x ∷ xs) ys h k = (h.0, every_append P xs ys h.1 k)
+
+module _ (V C : ℕ → Type 0) where
+  abbrev Have : List ℕ → List ℕ → Type 0
+  Have vs fs = AllByRecursion V vs × AllByRecursion C fs
+
+  both : (vs ws fs gs : List ℕ) → Have vs fs → Have ws gs → Have (vs ++ ws) (fs ++ gs)
+  both vs ws fs gs h k = (every_append V vs ws h.0 k.0, every_append C fs gs h.1 k.1)
+
+  mutual
+    as_lists : (t : Tree) → EachHas V C t → Have (variables t) (calls t)
+    as_lists (num n) h = (tt, tt)
+    as_lists (truth x) h = (tt, tt)
+    as_lists (free v) h = ((h, tt), tt)
+    as_lists (bound v) h = (tt, tt)
+    as_lists (linear ps c) h = parts_as_lists ps h
+    as_lists (mul x y) h = both (variables x) (variables y) (calls x) (calls y) (as_lists x h.0) (as_lists y h.1)
+    as_lists (read x y) h = both (variables x) (variables y) (calls x) (calls y) (as_lists x h.0) (as_lists y h.1)
+    as_lists (write x y z) h = both (variables x) (variables y ++ variables z) (calls x) (calls y ++ calls z) (as_lists x h.0) (both (variables y) (variables z) (calls y) (calls z) (as_lists y h.1) (as_lists z h.2))
+    as_lists (choose x y z) h = both (variables x) (variables y ++ variables z) (calls x) (calls y ++ calls z) (as_lists x h.0) (both (variables y) (variables z) (calls y) (calls z) (as_lists y h.1) (as_lists z h.2))
+    as_lists (call f ts) h = let r = each_as_lists ts h.1 in (r.0, (h.0, r.1))
+    as_lists (negation x) h = as_lists x h
+    as_lists (all ts) h = each_as_lists ts h
+    as_lists (some ts) h = each_as_lists ts h
+    as_lists (equal x y) h = both (variables x) (variables y) (calls x) (calls y) (as_lists x h.0) (as_lists y h.1)
+    as_lists (at_most x y) h = both (variables x) (variables y) (calls x) (calls y) (as_lists x h.0) (as_lists y h.1)
+    as_lists (for_all ss ps t) h = both (variables_of_patterns ps) (variables t) (calls_of_patterns ps) (calls t) (patterns_as_lists ps h.0) (as_lists t h.1)
+    as_lists (exists ss ps t) h = both (variables_of_patterns ps) (variables t) (calls_of_patterns ps) (calls t) (patterns_as_lists ps h.0) (as_lists t h.1)
+
+    each_as_lists : (ts : Trees) → EachInTrees V C ts → Have (variables_of_each ts) (calls_of_each ts)
+    each_as_lists no_trees h = (tt, tt)
+    each_as_lists (tree t ts) h = both (variables t) (variables_of_each ts) (calls t) (calls_of_each ts) (as_lists t h.0) (each_as_lists ts h.1)
+
+    parts_as_lists : (ps : Parts) → EachInParts V C ps → Have (variables_of_parts ps) (calls_of_parts ps)
+    parts_as_lists no_parts h = (tt, tt)
+    parts_as_lists (part k t ps) h = both (variables t) (variables_of_parts ps) (calls t) (calls_of_parts ps) (as_lists t h.0) (parts_as_lists ps h.1)
+
+    patterns_as_lists : (ps : Patterns) → EachInPatterns V C ps → Have (variables_of_patterns ps) (calls_of_patterns ps)
+    patterns_as_lists no_patterns h = (tt, tt)
+    patterns_as_lists (pattern ts ps) h = both (variables_of_each ts) (variables_of_patterns ps) (calls_of_each ts) (calls_of_patterns ps) (each_as_lists ts h.0) (patterns_as_lists ps h.1)
+
+  pub variables_have : (t : Tree) → EachHas V C t → AllByRecursion V (variables t)
+  variables_have t h = (as_lists t h).0
+
+  pub calls_have : (t : Tree) → EachHas V C t → AllByRecursion C (calls t)
+  calls_have t h = (as_lists t h).1

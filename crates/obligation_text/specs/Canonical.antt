@@ -1,0 +1,28 @@
+-- An obligation with canonical numbers; what isn't reached is left out.
+use Rattle.std.specs.Prelude.{ℕ, List, map, filter_map, slice_get}
+use Rattle.logic_core.specs.Def.{Obligation}
+use Rattle.logic_core.specs.Renamed.{both_renamed, def_renamed}
+use Rattle.logic_core.specs.Variables.{place_in}
+use Rattle.logic_core.specs.Valid.{Valid}
+use Rattle.logic_core.specs.WellSorted.{IsWellSorted}
+use Rattle.obligation_text.specs.Numbering.{definition_order, variable_order}
+
+-- the items with these numbers, in their order
+abbrev pub picked : {A : Type 0} → List A → List ℕ → List A
+picked as' ns = filter_map (λ n. slice_get as' n) ns
+
+-- definitions and variables by their places in these lists
+abbrev pub renumbered : List ℕ → List ℕ → Obligation → Obligation
+renumbered fs vs o = record {
+  vars = picked o.vars vs;
+  defs = map (def_renamed (place_in fs) (place_in vs)) (picked o.defs fs);
+  axioms = map (both_renamed (place_in fs) (place_in vs)) o.axioms;
+  goal = both_renamed (place_in fs) (place_in vs) o.goal;
+}
+
+abbrev pub canonical : Obligation → Obligation
+canonical o = let fs = definition_order o in renumbered fs (variable_order o fs) o
+
+-- it stays well sorted, and is valid exactly where the obligation is
+abbrev pub CanonicalKeeps : Type 0
+CanonicalKeeps = (o : Obligation) → IsWellSorted o → IsWellSorted (canonical o) × (Valid o → Valid (canonical o)) × (Valid (canonical o) → Valid o)
