@@ -2,6 +2,8 @@ pub mod Graph
 pub mod State
 pub mod Clause
 pub mod Reading
+pub mod Reader
 pub mod Run
 pub mod RunLaws
 pub mod Plain
+pub mod Cover

@@ -1,6 +1,6 @@
 // Graphs.
 ghost use Rattle.std.specs.Prelude.{◌≡◌};
-ghost use Rattle.flow_core.specs.Graph.{PairsOnce, SetsNoEntryValue, TargetsNoEntryValue};
+ghost use Rattle.flow_core.specs.Graph.{KeepsEntryValues, PairsOnce, SetsNoEntryValue, TargetsNoEntryValue};
 
 use crate::block::Block;
 use logic_core::Sequence;
@@ -56,9 +56,10 @@ impl Graph {
         self.own
     }
 
-    /// Each global, with its entry value.
+    /// Each global, with its entry value, which nothing sets.
     pub fn olds(&self) -> &[(u64, u64)]
-        ensures { result.now ≡ self.now.olds }
+        ensures pairs { result.now ≡ self.now.olds }
+        ensures never_set { KeepsEntryValues self.now.blocks self.now.olds }
     {
         self.olds.as_slice()
     }
