@@ -1,0 +1,13 @@
+mod Loop
+mod States
+mod Mentioned
+mod CutBlocks
+mod StaysPlain
+mod Frame
+mod Alike
+mod Walked
+mod Edges
+mod Simulated
+mod Followed
+mod Failing
+mod EntryValues
