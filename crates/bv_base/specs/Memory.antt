@@ -1,11 +1,8 @@
 -- A source and a sink in memory, whose calls are numbered from 0 and may be told to fail.
-use Rattle.std.specs.Prelude.{◌≡◌, ℕ, ◌+◌, ◌-◌, ◌^◌, min, Bool, true, false, ◌||◌, not, List, ◌++◌, length, take, drop, nat_le, ◌==◌, Result, Ok, Err}
+use Rattle.std.specs.Prelude.{◌≡◌, ℕ, ◌+◌, ◌-◌, min, Bool, true, false, ◌||◌, not, List, ◌++◌, length, take, drop, nat_le, ◌==◌, Result, Ok, Err}
 use Rattle.std.specs.List.{list_any}
+use Rattle.bv_base.specs.Known.{next_count}
 use Rattle.bv_base.specs.declared.outside.Failed.{Failed}
-
--- one more, up to the last value
-abbrev pub next_count : ℕ → ℕ
-next_count n = min (n + 1) (2 ^ 64 - 1)
 
 -- the number of the next call, the numbers of the calls that fail, and the faults so far
 pub record Calls : Type 0 where

@@ -54,7 +54,7 @@ impl<T: Drop> From<AllocFailed<T>> for LineFault {
 const BLOCK: usize = 8192;
 
 /// All bytes of a source to its end, of which there are at most `total`. What a refused call
-/// took stays taken.
+/// took stays taken. A read that failed is not tried again.
 pub fn read_all<S: Source>(alloc: Global, src: &mut S, total: u64) -> Result<Vec<u8>, LineFault>
     ensures all { IfOk result (λ bytes. IfSome (S.left src.old) (λ input. bytes.items ≡ input)) }
     ensures takes { IfOk result (λ bytes. Takes (S.left src.old) (S.left src.new) bytes.items) }
@@ -62,6 +62,7 @@ pub fn read_all<S: Source>(alloc: Global, src: &mut S, total: u64) -> Result<Vec
     ensures within { IfOk result (λ bytes. length bytes.items ≤ total) }
 
     ensures read { IsErrOf result LineFault.Read → HasRisen (S.faults src.old) (S.faults src.new) }
+    ensures quiet { ¬ IsErrOf result LineFault.Read → S.faults src.new ≡ S.faults src.old }
     ensures refused { IfErr result (λ fault. (taken : List ℕ) × IsTakenAt fault total (length taken)
         × Takes (S.left src.old) (S.left src.new) taken) }
     ensures full { IsErrOf result LineFault.Full → IfSome (S.left src.old) (λ input. total < length input) }

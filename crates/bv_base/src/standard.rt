@@ -2,7 +2,7 @@
 // content.
 ghost use Rattle.std.specs.Prelude.{◌≡◌, ℕ, ◌<◌, ◌≤◌, List, Option, None, length, take, IfOk, OnOk, OnErr};
 ghost use Rattle.std.specs.Io.KnownBytes.{ReadConsumes, WriteAppends};
-ghost use Rattle.bv_base.specs.Memory.{next_count};
+ghost use Rattle.bv_base.specs.Known.{next_count};
 
 use crate::outside::{Failed, Sink, Source};
 use std::io::{Read, Write};
