@@ -1,0 +1,9 @@
+pub mod FirstOfTwo
+pub mod FirstFault
+pub mod IsFirst
+pub mod FirstAt
+pub mod Shapes
+pub mod SynonymRounds
+pub mod TypeSteps
+pub mod Declared
+pub mod Logical

@@ -1,0 +1,9 @@
+use Rattle.std.proofs.Common.{◌≡◌, ◌++◌, ◌+◌, drop, length}
+use Rattle.bpl_scopes.specs.Scopes.{a_constant, typed_names, entries_from}
+use Rattle.bpl_scopes.proofs.table.Table.declare_constants.Given as goal
+
+abbrev pub invariant-loop-name : goal.invariant-loop-name
+invariant-loop-name l = record {
+  entries : l.self ++ entries_from a_constant l.decl l.number (typed_names (drop l.name-index l.names) l.of) ≡ l.fn.self ++ entries_from a_constant l.decl l.from (typed_names l.names l.of);
+  counted : l.number + length (drop l.name-index l.names) ≡ l.from + length l.names;
+}

@@ -1,0 +1,13 @@
+pub mod Fault
+pub mod FaultLaws
+pub mod Scopes
+pub mod EntryCodes
+pub mod Positions
+pub mod TableView
+pub mod Sorts
+pub mod Shape
+pub mod KnownSorts
+pub mod CountsView
+pub mod TypeFaults
+pub mod Functions
+pub mod LogicalView
