@@ -60,23 +60,6 @@ fn push<R: Wait>(
     (place, said)
 }
 
-// How often a number was pushed, in a turn of its own, with the place of that turn.
-fn count_of<R: Wait>(
-    rt: &R,
-    lock: &TurnLock<Pushed>,
-    pass: &mut Pass<Pushed>,
-    x: u64,
-) -> (u64, usize)
-    requires { (pass.old.table_id ≡ lock_id lock.now) × IsFree pass.old }
-    ensures { IsSamePass pass.old pass.new × IsFree pass.new }
-{
-    let mut turn = lock.enter(rt, pass);
-    let state = turn.state();
-    let count = state.items.iter().filter(|y| **y == x).count();
-    let place = lock.leave(pass, turn);
-    (place, count)
-}
-
 // Pushes `times` numbers from `from` on, and returns the pass and their places.
 fn push_many<R: Wait>(
     rt: &R,
@@ -125,37 +108,12 @@ fn push_from_two<R: Threads + Wait + Sync>(
     (one, ours, theirs)
 }
 
-// A pass that is split off, used and joined: the other pass has then seen its entry.
-fn hears_of<R: Wait>(rt: &R, lock: &TurnLock<Pushed>, pass: &mut Pass<Pushed>, x: u64)
-    requires { (pass.old.table_id ≡ lock_id lock.now) × IsFree pass.old }
-    ensures pass { IsSamePass pass.old pass.new × IsFree pass.new }
-    ensures seen { (log : List (ℕ × Option ℕ)) × (by : ℕ) × (said : Option ℕ) × StartsWith log (seen pass.old) × StartsWith (seen pass.new) (log ++ (by, said) ∷ []) }
-{
-    let mut other = lock.split(pass);
-    push(rt, lock, &mut other, x);
-    lock.join(pass, other);
-}
-
 fn empty_list(alloc: Global) -> Pushed
     ensures { result.items.items ≡ [] }
 {
     Pushed {
         items: Vec::new(alloc),
     }
-}
-
-#[test]
-fn a_thousand_turns_have_the_places_from_0_on(rt: HostRuntime) -> Result<(), Fail> {
-    let Ok((lock, mut pass)) = TurnLock::new(rt.alloc(), empty_list(rt.alloc())) else {
-        panic!(rt; "there is memory")
-    };
-    for i in 0..1000 {
-        let (place, said) = push(&rt, &lock, &mut pass, 7 * i);
-        assert!(rt; place == i && said == Some(7 * i));
-    }
-    let (place, count) = count_of(&rt, &lock, &mut pass, 7);
-    assert!(rt; place == 1000 && count == 1);
-    Ok(())
 }
 
 // Whether the 200 numbers from `from` on stand in the list at rising places, each at its own.
@@ -224,17 +182,5 @@ fn four_threads_push_to_one_list_each_in_its_own_order(rt: HostRuntime) -> Resul
     assert!(rt; are_in_place(rt, lock, &mut one, &b, 1000));
     assert!(rt; are_in_place(rt, lock, &mut one, &c, 2000));
     assert!(rt; are_in_place(rt, lock, &mut one, &d, 3000));
-    Ok(())
-}
-
-#[test]
-fn a_pass_has_seen_what_one_that_it_joined_did(rt: HostRuntime) -> Result<(), Fail> {
-    let Ok((lock, mut pass)) = TurnLock::new(rt.alloc(), empty_list(rt.alloc())) else {
-        panic!(rt; "there is memory")
-    };
-    push(&rt, &lock, &mut pass, 1);
-    hears_of(&rt, &lock, &mut pass, 2);
-    let (place, count) = count_of(&rt, &lock, &mut pass, 2);
-    assert!(rt; place == 2 && count == 1);
     Ok(())
 }
