@@ -2,6 +2,7 @@
 use Rattle.std.specs.Prelude.{ℕ, nat_lt, Bool, ◌||◌, not, cond, List, [], ◌∷◌, ◌++◌, map, length, filter, find, Option, bytes_eq}
 use Rattle.std.specs.Option.{option_map}
 use Rattle.std.specs.List.{list_any, sum_by}
+use Rattle.proof_cache.specs.declared.present.TheConstants.{LIMIT}
 
 -- a key is its bytes
 abbrev pub Key : Type 0
@@ -39,14 +40,10 @@ with_place c k = cond (has_place c k) c (record c { places = c.places ++ k ∷ [
 abbrev pub with_answer : {A : Type 0} → List (Key × A) → Key → A → List (Key × A)
 with_answer es k a = cond (is_among (kept_keys es) k) es (es ++ (k, a) ∷ [])
 
--- 64 MiB, beyond which answers of absent keys are not kept
-abbrev pub limit : ℕ
-limit = 67_108_864
-
 -- how many bytes the keys have that are not present
 abbrev pub absent_bytes : {A : Type 0} → List Key → List (Key × A) → ℕ
 absent_bytes present kept = sum_by (λ e. length e.0) (filter (λ e. not (is_among present e.0)) kept)
 
 -- the answers of absent keys go exactly where these keys have more bytes together than the limit
 abbrev pub trimmed : {A : Type 0} → List Key → List (Key × A) → List (Key × A)
-trimmed present kept = cond (nat_lt limit (absent_bytes present kept)) (filter (λ e. is_among present e.0) kept) kept
+trimmed present kept = cond (nat_lt LIMIT (absent_bytes present kept)) (filter (λ e. is_among present e.0) kept) kept

@@ -121,7 +121,7 @@ impl<A: Answered + Drop> Cache<A> {
     }
 
     /// Drops the answers of absent keys, with their places, exactly where these keys together have
-    /// more than 67,108,864 bytes. Every place without an answer stays. Without memory the cache
+    /// more than `LIMIT` bytes. Every place without an answer stays. Without memory the cache
     /// is as before.
     pub fn trim(&mut self, present: &[Arc<A::Q, Global>]) -> Result<(), AllocError>
         ensures trimmed { OnOk result (self.new ≡ record self.old { kept = trimmed (map (λ q. A.Q.key (arc_value q)) present.now) self.old.kept }) }

@@ -2,7 +2,7 @@
 ghost use Rattle.std.specs.Prelude.{◌≡◌, ℕ, ◌-◌, ◌^◌, ◌≤◌, ◌<◌, min, cond, nat_lt, List, map, filter, IfOk};
 ghost use Rattle.std.specs.Arc.{arc_value};
 ghost use Rattle.indexmap.specs.IndexMap.{spare};
-ghost use Rattle.proof_cache.specs.Kept.{is_among, limit};
+ghost use Rattle.proof_cache.specs.Kept.{is_among};
 ghost use Rattle.proof_cache.specs.Present.{is_present, absent_size};
 
 use bv_base::Question;
@@ -10,8 +10,8 @@ use indexmap::{IndexMap, IndexSet};
 use std::alloc::{AllocError, Global};
 use std::sync::Arc;
 
-// How many bytes absent keys may have together whose entries stay.
-const LIMIT: u64 = 67_108_864;
+/// How many bytes absent keys may have together whose answers stay: 64 MiB.
+pub const LIMIT: u64 = 67_108_864;
 
 /// The questions' keys.
 pub(crate) fn keys_of<'q, Q: Question>(
@@ -53,9 +53,9 @@ fn drop_absent<T: Drop>(kept: &mut IndexMap<Vec<u8>, T>, present: &IndexSet<&[u8
 }
 
 /// Drops the entries whose keys are not present, where these keys have more bytes together than
-/// the limit.
+/// `LIMIT`.
 pub(crate) fn trim_entries<T: Drop>(kept: &mut IndexMap<Vec<u8>, T>, present: &IndexSet<&[u8]>)
-    ensures entries { kept.new.entries ≡ cond (nat_lt limit (absent_size (λ v. v.items) present.now.keys kept.old.entries)) (filter (λ e. is_present present.now.keys e.0.items) kept.old.entries) kept.old.entries }
+    ensures entries { kept.new.entries ≡ cond (nat_lt LIMIT (absent_size (λ v. v.items) present.now.keys kept.old.entries)) (filter (λ e. is_present present.now.keys e.0.items) kept.old.entries) kept.old.entries }
     ensures room { spare kept.old ≤ spare kept.new }
 {
     if size_of_absent(kept, present) > LIMIT {
