@@ -1,17 +1,20 @@
 -- The claims out as the board holds them, and the places in the cache that go with them.
-use Rattle.std.specs.Prelude.{◌≡◌, refl, ℕ, zero, suc, ◌+◌, ◌<◌, nat_eq, Bool, true, false, ◌&&◌, ◌||◌, not, cond, List, [], ◌∷◌, ◌++◌, map, filter, find, length, drop, Option, Some, None, bytes_eq, Contains}
-use Rattle.std.specs.List.{AllByRecursion, IsDistinct}
+use Rattle.std.specs.Prelude.{◌≡◌, refl, ℕ, zero, suc, ◌+◌, ◌<◌, ◌≤◌, nat_eq, Bool, true, false, ◌&&◌, ◌||◌, not, cond, IsFalse, List, [], ◌∷◌, ◌++◌, map, filter, find, length, drop, count_by, Some, bytes_eq, Contains}
+use Rattle.std.specs.List.{AllByRecursion, IsDistinct, position_or_len}
 use Rattle.std.proofs.Common.{ap, arith, get_or, drop-cons, append_assoc}
 use Rattle.std.proofs.lemmas.List.Elements.{Contains-append_right}
+use Rattle.std.proofs.lemmas.List.Sums.{count_by-le-length}
 use Rattle.std.proofs.lemmas.Bool.{eqb-true, eq-eqb, false_from_ne_true}
 use mathlib.Core.Path.{subst, sym, ◌∙◌}
 use Rattle.proof_cache.specs.Kept.{Key, is_among, kept_keys, without_key, with_answer}
 use Rattle.proof_cache.proofs.Keys.{same_key, turned, key_itself}
-use Rattle.proof_cache.proofs.Lists.{item_at, under_map, over_map, weaken, map-last, found_passes, none_passes, passes_none}
-use Rattle.board_core.specs.Board.{Ticket, State, open_keys, deposit, give_back}
-use Rattle.board_core.specs.Step.{is_out, out_keys, wanted, with_claim, without, step, MayStand}
+use Rattle.proof_cache.proofs.Lists.{item_at, under_map, map-last}
+use Rattle.board_core.specs.Board.{Ticket, State, first, open_keys, deposit, give_back}
+use Rattle.board_core.specs.Step.{is_out, is_taken, done_of, out_keys, wanted, with_claim, without, step, MayStand}
 use Rattle.board_core.specs.Sound.{IsSound}
-use Rattle.board_core.proofs.Soundness.{step_sound, claim_sound}
+use Rattle.board_core.specs.Inside.{IsKept}
+use Rattle.board_core.proofs.Soundness.{first_sound, step_sound, claim_sound}
+use Rattle.board_core.proofs.Passing.{later, joins_taken, moves_taken, done_more}
 
 -- the claims out without one, as the board holds them
 pub tickets_left : {O : Type 0} (number : O → ℕ) (key : O → Key) (n : ℕ) (os : List O)
@@ -110,31 +113,86 @@ module _ {A : Type 0} (key_of : A → Key) (Right : A → Type 0) where
       by_test true r = refl
       by_test false r = r
 
-  -- the key that a claim is for is found by its place
+  -- the first key without a place is the first that is neither kept nor out
+  pub first_free : (s : State A) (places : List Key) → places ≡ out_keys s.out
+      → position_or_len (λ k. not (is_among (kept_keys s.kept) k || is_among places k)) s.present ≡ position_or_len (λ k. not (is_taken s k)) s.present
+  first_free s places e = ap (λ ks. position_or_len (λ k. not (is_among (kept_keys s.kept) k || is_among ks k)) s.present) e
+
   pub wanted_place : (s : State A) (places : List Key) → places ≡ out_keys s.out → find (λ k. not (is_among (kept_keys s.kept) k || is_among places k)) s.present ≡ wanted s
   wanted_place s places e = ap (λ ks. find (λ k. not (is_among (kept_keys s.kept) k || is_among ks k)) s.present) e
 
-  -- after each kind of call the state is sound, and the places are those of the keys out
-  abbrev Kept : State A → List Key → Type 0
-  Kept s places = IsSound A key_of Right s × (places ≡ out_keys s.out)
+  -- a key that is out has no answer
+  pub out_not_kept : (s : State A) (c : Ticket) → IsSound A key_of Right s → Contains s.out c → is_among (kept_keys s.kept) c.key ≡ false
+  out_not_kept s c h (i, inside, at) = subst (λ (z : Ticket). is_among (kept_keys s.kept) z.key ≡ false) at
+      (item_at (λ (z : Ticket). is_among (kept_keys s.kept) z.key ≡ false) s.out i c inside (under_map (λ k. IsFalse (is_among (kept_keys s.kept) k)) (λ u. u.key) s.out h.out_or_kept))
 
-  pub opened_kept : (s t : State A) (places after : List Key) (ks : List Key) → Kept s places → t ≡ step s (open_keys ks) → after ≡ places → Kept t after
-  opened_kept s t places after ks h e f = (subst (IsSound A key_of Right) (sym e) (step_sound key_of Right s (open_keys ks) tt h.0), f ∙ h.1 ∙ sym (ap (λ u. out_keys u.out) e))
+  passes_no_more : (b c : Bool) → (b ≡ true → c ≡ true) → not b ≡ false → not c ≡ false
+  passes_no_more true c h e = ap not (h refl)
+  passes_no_more false c h e = let d : true ≡ false = e in absurd cc
 
-  pub claimed_kept : (s t : State A) (places after : List Key) (k : Key) → Kept s places → wanted s ≡ Some k → t ≡ with_claim s (Some k) → after ≡ places ++ k ∷ [] → Kept t after
-  claimed_kept s t places after k h w e f = (
-    subst (IsSound A key_of Right) (sym e) (claim_sound key_of Right s (Some k) w h.0),
-    f ∙ ap (λ ks. ks ++ k ∷ []) h.1 ∙ sym (map-last (λ u. u.key) s.out (record { number = s.next; key = k })) ∙ sym (ap (λ u. out_keys u.out) e),
-  )
+  -- after each kind of call
+  abbrev Kept : State A → List Key → ℕ → ℕ → Type 0
+  Kept = IsKept A key_of Right
 
-  pub given_back_kept : (s t : State A) (places after : List Key) (c : Ticket) → Kept s places → Contains s.out c → t ≡ step s (give_back c) → after ≡ without_key c.key places → Kept t after
-  given_back_kept s t places after c h out e f =
-      (subst (IsSound A key_of Right) (sym e) (step_sound key_of Right s (give_back c) out h.0), f ∙ places_left s c places h.0 h.1 out ∙ sym (ap (λ u. out_keys u.out) e))
+  pub first_kept : Kept (first A) [] 0 0
+  first_kept = record { sound = first_sound key_of Right; placed = refl; passes = omega arith; counted = refl }
 
-  pub deposited_kept : (s t : State A) (places after : List Key) (c : Ticket) (a : A) → Kept s places → MayStand key_of Right s (deposit c a) → t ≡ step s (deposit c a) → after ≡ without_key c.key places → Kept t after
-  deposited_kept s t places after c a h may e f =
-      (subst (IsSound A key_of Right) (sym e) (step_sound key_of Right s (deposit c a) may h.0), f ∙ places_left s c places h.0 h.1 may.0 ∙ sym (ap (λ u. out_keys u.out) e))
+  pub opened_kept : (s t : State A) (places after : List Key) (passed done now : ℕ) (ks : List Key) → Kept s places passed done → t ≡ step s (open_keys ks) → after ≡ places → now ≡ done_of t.present t.kept → Kept t after 0 now
+  opened_kept s t places after passed done now ks h e f d = record {
+    sound = subst (IsSound A key_of Right) (sym e) (step_sound key_of Right s (open_keys ks) tt h.sound);
+    placed = f ∙ h.placed ∙ sym (ap (λ u. out_keys u.out) e);
+    passes = omega arith;
+    counted = d;
+  }
+
+  -- the goals that a claim looked at are passed
+  pub passed_kept : (s : State A) (places : List Key) (passed now done : ℕ) → Kept s places passed done → now ≡ position_or_len (λ k. not (is_taken s k)) s.present → Kept s places now done
+  passed_kept s places passed now done h is = record { sound = h.sound; placed = h.placed; passes = omega (arith, is); counted = h.counted }
+
+  pub claimed_kept : (s t : State A) (places after : List Key) (passed now done : ℕ) (k : Key) → Kept s places passed done → now ≡ position_or_len (λ j. not (is_taken s j)) s.present
+      → wanted s ≡ Some k → t ≡ with_claim s (Some k) → after ≡ places ++ k ∷ [] → Kept t after now done
+  claimed_kept s t places after passed now done k h at w e f = record {
+    sound = subst (IsSound A key_of Right) (sym e) (claim_sound key_of Right s (Some k) w h.sound);
+    placed = f ∙ ap (λ ks. ks ++ k ∷ []) h.placed ∙ sym (map-last (λ u. u.key) s.out (record { number = s.next; key = k })) ∙ sym (ap (λ u. out_keys u.out) e);
+    passes = subst (λ u. now ≤ position_or_len (λ j. not (is_taken u j)) u.present) (sym e) (let n = later (λ j. not (is_taken s j)) (λ j. not (is_taken (with_claim s (Some k)) j)) s.present
+        (λ j. passes_no_more _ _ (λ g. ap (λ ks. is_among (kept_keys s.kept) j || is_among ks j) (map-last (λ u. u.key) s.out (record { number = s.next; key = k })) ∙ joins_taken (kept_keys s.kept) (out_keys s.out) k j g)) in omega (arith, n, at));
+    counted = h.counted ∙ sym (ap (λ u. done_of u.present u.kept) e);
+  }
+
+  pub given_back_kept : (s t : State A) (places after : List Key) (passed done : ℕ) (c : Ticket) → Kept s places passed done → Contains s.out c → t ≡ step s (give_back c) → after ≡ without_key c.key places → Kept t after 0 done
+  given_back_kept s t places after passed done c h out e f = record {
+    sound = subst (IsSound A key_of Right) (sym e) (step_sound key_of Right s (give_back c) out h.sound);
+    placed = f ∙ places_left s c places h.sound h.placed out ∙ sym (ap (λ u. out_keys u.out) e);
+    passes = omega arith;
+    counted = h.counted ∙ sym (ap (λ u. done_of u.present u.kept) e);
+  }
+
+  -- an answer joins those of other keys
+  joins_kept : (s : State A) (c : Ticket) (a : A) → IsSound A key_of Right s → Contains s.out c → kept_keys (with_answer s.kept c.key a) ≡ kept_keys s.kept ++ c.key ∷ []
+  joins_kept s c a h out = ap (λ b. kept_keys (cond b s.kept (s.kept ++ (c.key, a) ∷ []))) (out_not_kept s c h out) ∙ map-last (λ e. e.0) s.kept (c.key, a)
+
+  pub done_with : (s : State A) (c : Ticket) (a : A) → IsSound A key_of Right s → Contains s.out c → done_of s.present (with_answer s.kept c.key a) ≡ done_of s.present s.kept + count_by (bytes_eq c.key) s.present
+  done_with s c a h out = ap (λ ks. count_by (is_among ks) s.present) (joins_kept s c a h out) ∙ done_more (kept_keys s.kept) c.key s.present (out_not_kept s c h out)
+
+  pub deposited_kept : (s t : State A) (places after : List Key) (passed done now : ℕ) (c : Ticket) (a : A) → Kept s places passed done → MayStand key_of Right s (deposit c a) → t ≡ step s (deposit c a) → after ≡ without_key c.key places
+      → now ≡ done + count_by (bytes_eq c.key) s.present → Kept t after passed now
+  deposited_kept s t places after passed done now c a h may e f d = record {
+    sound = subst (IsSound A key_of Right) (sym e) (step_sound key_of Right s (deposit c a) may h.sound);
+    placed = f ∙ places_left s c places h.sound h.placed may.0 ∙ sym (ap (λ u. out_keys u.out) e);
+    passes = subst (λ u. passed ≤ position_or_len (λ j. not (is_taken u j)) u.present) (sym e) (let n = later (λ j. not (is_taken s j)) (λ j. not (is_taken (step s (deposit c a)) j)) s.present
+        (λ j. passes_no_more _ _ (λ g. ap (λ ks. is_among ks j || is_among (out_keys (without c.number s.out)) j) (joins_kept s c a h.sound may.0)
+        ∙ ap (λ ks. is_among (kept_keys s.kept ++ c.key ∷ []) j || is_among ks j) (sym (keys_left c s.out (same_tests s.out c h.sound.out_once h.sound.numbers may.0)))
+        ∙ moves_taken (kept_keys s.kept) (out_keys s.out) c.key j g)) in omega (arith, n, h.passes));
+    counted = d ∙ ap (λ n. n + count_by (bytes_eq c.key) s.present) h.counted ∙ sym (done_with s c a h.sound may.0) ∙ sym (ap (λ u. done_of u.present u.kept) e);
+  }
+
+  -- the goals done can be counted where all goals can
+  pub done_fits : (s : State A) (places : List Key) (passed done : ℕ) → Kept s places passed done → done ≤ length s.present
+  done_fits s places passed done h = omega (arith, h.counted, count_by-le-length (is_among (kept_keys s.kept)) s.present)
+
+  pub more_done_fits : (s : State A) (places : List Key) (passed done : ℕ) (c : Ticket) (a : A) → Kept s places passed done → Contains s.out c → done + count_by (bytes_eq c.key) s.present ≤ length s.present
+  more_done_fits s places passed done c a h out = omega (arith, h.counted, done_with s c a h.sound out, count_by-le-length (is_among (kept_keys (with_answer s.kept c.key a))) s.present)
 
   -- a key that is out has a place
-  pub out_has_place : (s : State A) (places : List Key) (c : Ticket) → Kept s places → Contains s.out c → (is_among (kept_keys s.kept) c.key || is_among places c.key) ≡ true
-  out_has_place s places c h out = last_of (is_among (kept_keys s.kept) c.key) (ap (λ ks. is_among ks c.key) h.1 ∙ out_among s.out c out)
+  pub out_has_place : (s : State A) (places : List Key) (passed done : ℕ) (c : Ticket) → Kept s places passed done → Contains s.out c → (is_among (kept_keys s.kept) c.key || is_among places c.key) ≡ true
+  out_has_place s places passed done c h out = last_of (is_among (kept_keys s.kept) c.key) (ap (λ ks. is_among ks c.key) h.placed ∙ out_among s.out c out)

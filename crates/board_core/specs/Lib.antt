@@ -3,5 +3,7 @@ pub mod Step
 pub mod History
 pub mod Sound
 pub mod Laws
+pub mod Goals
+pub mod Counted
 pub mod Inside
 pub mod Handed

@@ -1,5 +1,6 @@
 //! The board: each call is one step of the machine in specs/, in state and reply.
-ghost use Rattle.std.specs.Prelude.{◌≡◌, ℕ, ◌-◌, ◌^◌, ◌<◌, ◌↔◌, IsTrue, IfOk, OnErr, Contains, List, map, find, count_by, not, bytes_eq};
+ghost use Rattle.std.specs.Prelude.{◌≡◌, ◌≤◌, ℕ, ◌-◌, ◌^◌, ◌<◌, ◌↔◌, IsTrue, IfOk, OnErr, Contains, map, count_by, not};
+ghost use Rattle.std.specs.List.{position_or_len};
 ghost use Rattle.std.specs.Arc.{arc_value};
 ghost use Rattle.std.specs.Option.{option_map};
 ghost use Rattle.proof_cache.specs.Kept.{has_place, is_among, kept_at, kept_keys};
@@ -11,6 +12,7 @@ ghost use Rattle.board_core.specs.Laws.{ShowsRight};
 ghost use Rattle.board_core.specs.Handed.{ticket, open_answer, claim_answer, look_answer, IsHandedOut};
 
 use crate::claim::{Claim, Claimed, Opened, Snapshot};
+use crate::goals::Goals;
 use bv_base::{Answered, Question};
 use proof_cache::Cache;
 use std::alloc::{AllocError, Global};
@@ -34,12 +36,16 @@ where
     A::Q: Drop,
 {
     alloc: Global,
-    present: Vec<Arc<A::Q, Global>>,
+    present: Goals<A::Q>,
     cache: Cache<A>,
     out: Vec<Out<A>>,
     next: u64,
     version: u64,
     closed: bool,
+    // Each of so many first goals has a key that is kept or out.
+    passed: usize,
+    // How many present goals have a kept answer.
+    done: u64,
 }
 
 impl<A: Answered> Model for Board<A>
@@ -50,26 +56,28 @@ where
 
     ghost Value = { State A };
 
-    ghost use Rattle.board_core.specs.Inside.{state_of, IsKeptSound};
+    ghost use Rattle.board_core.specs.Inside.{state_of, IsKeptInside};
 
     ghost view = { λ b. state_of A.Q.key b };
 
-    ghost invariant = { λ b. IsKeptSound A.Q.key (λ a. A.Q.key (A.asked a)) A.right b };
+    ghost invariant = { λ b. IsKeptInside A.Q.key (λ a. A.Q.key (A.asked a)) A.right b };
 }
 
-// The first question whose key has no place.
-fn first_without_place<'q, A: Answered + Drop>(
-    questions: &'q [Arc<A::Q, Global>],
+// The first question whose key has no place, or the end, where each before `from` has one.
+fn first_without_place<A: Answered + Drop>(
+    questions: &[Arc<A::Q, Global>],
+    from: usize,
     cache: &Cache<A>,
-) -> Option<&'q Arc<A::Q, Global>>
-    ensures { option_map (λ q. A.Q.key (arc_value q.now)) result ≡ find (λ k. not (has_place cache.now k)) (map (λ q. A.Q.key (arc_value q)) questions.now) }
+) -> usize
+    requires { from ≤ position_or_len (λ k. not (has_place cache.now k)) (map (λ q. A.Q.key (arc_value q)) questions.now) }
+    ensures { result ≡ position_or_len (λ k. not (has_place cache.now k)) (map (λ q. A.Q.key (arc_value q)) questions.now) }
 {
-    for question in questions {
-        if !cache.has_place(question.key()) {
-            return Some(question);
+    for at in from..questions.len() {
+        if !cache.has_place(questions[at].key()) {
+            return at;
         }
     }
-    None
+    questions.len()
 }
 
 // How many of the questions have a kept answer.
@@ -83,19 +91,6 @@ fn count_done<A: Answered + Drop>(questions: &[Arc<A::Q, Global>], cache: &Cache
         }
     }
     done
-}
-
-// How many of the questions have the key.
-fn count_with_key<Q: Question>(questions: &[Arc<Q, Global>], key: &[u8]) -> u64
-    ensures { result ≡ count_by (bytes_eq key.now) (map (λ q. Q.key (arc_value q)) questions.now) }
-{
-    let mut count = 0;
-    for question in questions {
-        if key == question.key() {
-            count += 1;
-        }
-    }
-    count
 }
 
 // The kept answer of the key, shared.
@@ -144,12 +139,14 @@ where
     {
         Board {
             alloc,
-            present: Vec::new(alloc),
+            present: Goals::none(alloc),
             cache: Cache::new(alloc),
             out: Vec::new(alloc),
             next: 0,
             version: 0,
             closed: false,
+            passed: 0,
+            done: 0,
         }
     }
 
@@ -169,19 +166,22 @@ where
     }
 
     /// Replaces the present goals, drops the answers of absent keys where these keys together have
-    /// more than 67,108,864 bytes, and raises the version by one. Claims that are out stay out.
+    /// more bytes than the cache's `LIMIT`, and raises the version by one. Claims that are out stay out.
     /// Without memory the board is as before.
     pub fn open(&mut self, items: Vec<Arc<A::Q, Global>>) -> Result<Opened, AllocError>
         requires { self.old.version < 2 ^ 64 - 1 }
         ensures step { IfOk result (λ r. Steps self.old (open_keys (map (λ q. A.Q.key (arc_value q)) items.items)) self.new (open_answer r)) }
         ensures memory { OnErr result (self.new ≡ self.old) }
     {
-        self.cache.trim(&items)?;
-        self.present = items;
+        let goals = Goals::of(self.alloc, items)?;
+        self.cache.trim(goals.questions())?;
+        self.done = count_done(goals.questions(), &self.cache);
+        self.passed = 0;
+        self.present = goals;
         self.version += 1;
         Ok(Opened {
             version: self.version,
-            done: count_done(&self.present, &self.cache),
+            done: self.done,
         })
     }
 
@@ -198,7 +198,9 @@ where
         if self.closed {
             return Ok(Claimed::Closed);
         }
-        let Some(wanted) = first_without_place(&self.present, &self.cache) else {
+        let first = first_without_place(self.present.questions(), self.passed, &self.cache);
+        let Some(wanted) = self.present.questions().get(first) else {
+            self.passed = first;
             return Ok(Claimed::Empty);
         };
         let number = self.next;
@@ -213,6 +215,7 @@ where
             return Err(e);
         }
         self.next += 1;
+        self.passed = first;
         Ok(Claimed::Claim(Claim { number, question }))
     }
 
@@ -226,7 +229,9 @@ where
         let Claim { number, question } = claim;
         end_claim(&mut self.out, number);
         self.cache.keep(answer);
-        count_with_key(&self.present, question.key())
+        let count = self.present.count(question.key());
+        self.done += count;
+        count
     }
 
     /// Ends a claim without an answer: its key is no longer out.
@@ -237,6 +242,7 @@ where
         let Claim { number, question } = claim;
         end_claim(&mut self.out, number);
         self.cache.unplace(question.key());
+        self.passed = 0;
     }
 
     /// The version, how many present goals have a kept answer and how many have none, and whether
@@ -244,11 +250,10 @@ where
     pub fn look(&self) -> Snapshot
         ensures { Steps self.now look self.now (look_answer result) }
     {
-        let done = count_done(&self.present, &self.cache);
         Snapshot {
             version: self.version,
-            done,
-            pending: self.present.len() as u64 - done,
+            done: self.done,
+            pending: self.present.questions().len() as u64 - self.done,
             closed: self.closed,
         }
     }
@@ -259,8 +264,9 @@ where
         ensures step { IfOk result (λ r. Steps self.now gather self.now (gathered (map (option_map arc_value) r.items))) }
         ensures right { IfOk result (λ r. ShowsRight A (λ a. A.Q.key (A.asked a)) A.right self.now.present (map (option_map arc_value) r.items)) }
     {
-        let mut answers = Vec::with_capacity(self.alloc, self.present.len())?;
-        for question in &self.present {
+        let questions = self.present.questions();
+        let mut answers = Vec::with_capacity(self.alloc, questions.len())?;
+        for question in questions {
             answers.push(shared_answer(&self.cache, question.key())?)?;
         }
         Ok(answers)

@@ -1,9 +1,6 @@
-//! Whole runs of a board, event by event: what each answers is computed by hand from the machine's table.
+//! A run of a board, event by event.
 ghost use Rattle.std.specs.Prelude.{◌≡◌, ◌+◌, ◌-◌, ◌^◌, ◌<◌, ◌≤◌, IfOk, ⊤};
 ghost use Rattle.std.specs.Arc.{arc_value};
-
-mod trimming;
-mod walk;
 
 use crate::{Board, Claim, Claimed, Snapshot};
 use bv_base::{Answered, Question};
@@ -100,25 +97,17 @@ fn open<R: Abort>(
     (opened.version, opened.done)
 }
 
-/// Takes a claim.
-fn take_any<R: Abort>(rt: &R, board: &mut Board<Settled>) -> Claim<Settled>
-    requires { board.old.next < 2 ^ 64 - 1 }
-    ensures { board.new.next ≤ board.old.next + 1 }
-{
-    match board.claim() {
-        Ok(Claimed::Claim(claim)) => claim,
-        Ok(Claimed::Empty) => panic!(rt; "empty"),
-        Ok(Claimed::Closed) => panic!(rt; "closed"),
-        Err(_) => panic!(rt; "no memory"),
-    }
-}
-
 /// Takes a claim, whose number and key are these.
 fn take<R: Abort>(rt: &R, board: &mut Board<Settled>, number: u64, key: u8) -> Claim<Settled>
     requires { board.old.next < 2 ^ 64 - 1 }
     ensures { board.new.next ≤ board.old.next + 1 }
 {
-    let claim = take_any(rt, board);
+    let claim = match board.claim() {
+        Ok(Claimed::Claim(claim)) => claim,
+        Ok(Claimed::Empty) => panic!(rt; "empty"),
+        Ok(Claimed::Closed) => panic!(rt; "closed"),
+        Err(_) => panic!(rt; "no memory"),
+    };
     assert_eq!(rt; claim.number(), number);
     assert!(rt; claim.question().key() == [key].as_slice());
     claim
@@ -148,20 +137,6 @@ fn shows<R: Abort>(rt: &R, board: &Board<Settled>, version: u64, done: u64, pend
         closed: false,
     };
     assert_eq!(rt; board.look(), want);
-}
-
-#[test]
-fn an_answer_after_an_edit_settles_no_goal_of_another_key(rt: HostRuntime) {
-    let alloc = rt.alloc();
-    let mut board = Board::new(alloc);
-    assert_eq!(rt; open(&rt, &mut board, questions(alloc, &[1])), (1, 0));
-    let claim = take(&rt, &mut board, 0, 1);
-    assert_eq!(rt; open(&rt, &mut board, questions(alloc, &[2])), (2, 0));
-    assert_eq!(rt; settle(&rt, alloc, &mut board, claim, true), 0);
-    shows(&rt, &board, 2, 0, 1);
-    let claim = take(&rt, &mut board, 1, 2);
-    assert_eq!(rt; settle(&rt, alloc, &mut board, claim, false), 1);
-    shows(&rt, &board, 2, 1, 0);
 }
 
 #[test]
