@@ -2,7 +2,7 @@
 ghost use Rattle.std.specs.Prelude.{◌≡◌, ℕ, map, IfOk, IfErr, OnErr};
 ghost use Rattle.std.specs.Arc.{arc_value};
 ghost use Rattle.std.specs.Option.{option_map};
-ghost use Rattle.turn_lock.specs.Lock.{number};
+ghost use Rattle.turn_lock.specs.Lock.{above, number};
 ghost use Rattle.board_core.specs.Board.{open_keys, claim, deposit, give_back, look, gather, close, no_memory, deposited, given_back, gathered, closed_now, memory};
 ghost use Rattle.board_core.specs.Step.{without};
 ghost use Rattle.board_core.specs.History.{after_reply};
@@ -23,7 +23,7 @@ where
     A::Q: Drop,
 {
     /// Replaces the present goals, drops the answers of absent keys where these keys together have
-    /// more than 67,108,864 bytes, and raises the version by one. Claims that are out stay out.
+    /// more bytes than the cache's `LIMIT`, and raises the version by one. Claims that are out stay out.
     /// The opener alone may call it. A call for which there is no memory is an entry too, without
     /// effect.
     pub fn open<R: Wait>(
@@ -35,6 +35,7 @@ where
         requires pass { IsPassOf self.now opener.old }
         requires opener { number opener.old ≡ 0 }
         ensures pass { StaysPassOf self.now opener.old opener.new }
+        ensures above { above opener.new ≡ above opener.old }
         ensures call { IfOk result (λ r. IsCall (λ a. A.Q.key (A.asked a)) A.right opener.old opener.new (open_keys (map (λ q. A.Q.key (arc_value q)) items.items)) r.place (open_answer r.reply)) }
         ensures memory { IfErr result (λ _. (place : ℕ) × IsCall (λ a. A.Q.key (A.asked a)) A.right opener.old opener.new no_memory place memory) }
         ensures claims { claims_of opener.new ≡ claims_of opener.old }
@@ -64,6 +65,7 @@ where
     ) -> Result<Receipt<Claimed<A>>, AllocError>
         requires { IsPassOf self.now pass.old }
         ensures pass { StaysPassOf self.now pass.old pass.new }
+        ensures above { above pass.new ≡ above pass.old }
         ensures call { IfOk result (λ r. IsCall (λ a. A.Q.key (A.asked a)) A.right pass.old pass.new claim r.place (claim_answer A.Q.key r.reply)) }
         ensures memory { IfErr result (λ _. (place : ℕ) × IsCall (λ a. A.Q.key (A.asked a)) A.right pass.old pass.new no_memory place memory) }
         ensures claims { IfOk result (λ r. claims_of pass.new ≡ after_reply (claims_of pass.old) (claim_answer A.Q.key r.reply)) }
@@ -96,6 +98,7 @@ where
         requires held { Holds pass.old (ticket A.Q.key claim) }
         requires key { A.Q.key (A.asked (arc_value answer)) ≡ (ticket A.Q.key claim).key }
         ensures pass { StaysPassOf self.now pass.old pass.new }
+        ensures above { above pass.new ≡ above pass.old }
         ensures call { IsCall (λ a. A.Q.key (A.asked a)) A.right pass.old pass.new (deposit (ticket A.Q.key claim) (arc_value answer)) result.place (deposited result.reply) }
         ensures claims { claims_of pass.new ≡ without (ticket A.Q.key claim).number (claims_of pass.old) }
     {
@@ -115,6 +118,7 @@ where
         requires pass { IsPassOf self.now pass.old }
         requires held { Holds pass.old (ticket A.Q.key claim) }
         ensures pass { StaysPassOf self.now pass.old pass.new }
+        ensures above { above pass.new ≡ above pass.old }
         ensures call { IsCall (λ a. A.Q.key (A.asked a)) A.right pass.old pass.new (give_back (ticket A.Q.key claim)) result.place given_back }
         ensures claims { claims_of pass.new ≡ without (ticket A.Q.key claim).number (claims_of pass.old) }
     {
@@ -131,6 +135,7 @@ where
     pub fn look<R: Wait>(&self, rt: &R, pass: &mut Pass<A>) -> Receipt<Snapshot>
         requires { IsPassOf self.now pass.old }
         ensures pass { StaysPassOf self.now pass.old pass.new }
+        ensures above { above pass.new ≡ above pass.old }
         ensures call { IsCall (λ a. A.Q.key (A.asked a)) A.right pass.old pass.new look result.place (look_answer result.reply) }
         ensures claims { claims_of pass.new ≡ claims_of pass.old }
     {
@@ -150,6 +155,7 @@ where
     ) -> Result<Receipt<Vec<Option<Arc<A, Global>>>>, AllocError>
         requires { IsPassOf self.now pass.old }
         ensures pass { StaysPassOf self.now pass.old pass.new }
+        ensures above { above pass.new ≡ above pass.old }
         ensures call { IfOk result (λ r. IsCall (λ a. A.Q.key (A.asked a)) A.right pass.old pass.new gather r.place (gathered (map (option_map arc_value) r.reply.items))) }
         ensures memory { IfErr result (λ _. (place : ℕ) × IsCall (λ a. A.Q.key (A.asked a)) A.right pass.old pass.new no_memory place memory) }
         ensures claims { claims_of pass.new ≡ claims_of pass.old }
@@ -174,6 +180,7 @@ where
         requires pass { IsPassOf self.now opener.old }
         requires opener { number opener.old ≡ 0 }
         ensures pass { StaysPassOf self.now opener.old opener.new }
+        ensures above { above opener.new ≡ above opener.old }
         ensures call { IsCall (λ a. A.Q.key (A.asked a)) A.right opener.old opener.new close result.place closed_now }
         ensures claims { claims_of opener.new ≡ claims_of opener.old }
     {

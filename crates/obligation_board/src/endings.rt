@@ -1,7 +1,7 @@
 //! How turns end.
 ghost use Rattle.std.specs.Prelude.{◌≡◌, ℕ, Some};
 ghost use Rattle.std.specs.Arc.{arc_value};
-ghost use Rattle.turn_lock.specs.Lock.{IsHolding, lock_id};
+ghost use Rattle.turn_lock.specs.Lock.{IsHolding, above, lock_id};
 ghost use Rattle.board_core.specs.Board.{Event, Reply, deposit, give_back, no_memory, deposited, given_back, memory};
 ghost use Rattle.board_core.specs.Step.{Steps};
 ghost use Rattle.board_core.specs.Handed.{ticket};
@@ -28,6 +28,7 @@ where
         requires pass { (pass.old.table_id ≡ lock_id self.now.lock) × IsHolding pass.old turn }
         requires call { (e : Event A) × (r : Reply A) × (W.what ≡ Some (record { event = e; reply = r })) × Steps turn.was.value.board e turn.state.board r × MayCall (λ a. A.Q.key (A.asked a)) A.right pass.old e }
         ensures pass { StaysPassOf self.now pass.old pass.new }
+        ensures above { above pass.new ≡ above pass.old }
         ensures call { (e : Event A) (r : Reply A) → W.what ≡ Some (record { event = e; reply = r }) → IsCall (λ a. A.Q.key (A.asked a)) A.right pass.old pass.new e result r }
     {
         self.lock.leave_as::<W>(pass, turn)
@@ -38,6 +39,7 @@ where
         requires pass { (pass.old.table_id ≡ lock_id self.now.lock) × IsHolding pass.old turn }
         requires same { turn.state.board ≡ turn.was.value.board }
         ensures pass { StaysPassOf self.now pass.old pass.new }
+        ensures above { above pass.new ≡ above pass.old }
         ensures call { (place : ℕ) × IsCall (λ a. A.Q.key (A.asked a)) A.right pass.old pass.new no_memory place memory }
     {
         self.finish::<Brand>(pass, turn);
@@ -58,6 +60,7 @@ where
         requires held { Holds pass.old (ticket A.Q.key claim.now.value) }
         requires answer { (A.Q.key (A.asked (arc_value answer.now.value)) ≡ (ticket A.Q.key claim.now.value).key) × A.right (arc_value answer.now.value) }
         ensures pass { StaysPassOf self.now pass.old pass.new }
+        ensures above { above pass.new ≡ above pass.old }
         ensures call { IsCall (λ a. A.Q.key (A.asked a)) A.right pass.old pass.new (deposit (ticket A.Q.key claim.now.value) (arc_value answer.now.value)) result (deposited present) }
     {
         self.finish::<W>(pass, turn)
@@ -75,6 +78,7 @@ where
         requires step { Steps turn.was.value.board (give_back (ticket A.Q.key claim.now.value)) turn.state.board given_back }
         requires held { Holds pass.old (ticket A.Q.key claim.now.value) }
         ensures pass { StaysPassOf self.now pass.old pass.new }
+        ensures above { above pass.new ≡ above pass.old }
         ensures call { IsCall (λ a. A.Q.key (A.asked a)) A.right pass.old pass.new (give_back (ticket A.Q.key claim.now.value)) result given_back }
     {
         self.finish::<W>(pass, turn)

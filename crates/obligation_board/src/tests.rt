@@ -118,38 +118,6 @@ fn is_closed<R: Wait + Abort>(rt: &R, board: &Board, pass: &mut Pass<Verdict>) -
 }
 
 #[test]
-fn a_deposit_settles_by_key_alone(rt: HostRuntime) -> Result<(), Fail> {
-    let alloc = rt.alloc();
-    let (board, mut pass) = SharedBoard::<Verdict>::new(alloc)?;
-    let one = question_of(alloc, 1)?;
-    let two = question_of(alloc, 2)?;
-    assert_eq!(rt;
-        open(&rt, &board, &mut pass, vec![in alloc; one]?),
-        (0, 1, 0)
-    );
-    let (place, claim) = claimed(&rt, &board, &mut pass);
-    assert_eq!(rt; (place, claim.number()), (1, 0));
-    assert!(rt; claim.question().key() == [1].as_slice());
-    let answer = answer_to(alloc, claim.question(), true).expect(&rt, "there is memory");
-    let items = vec![in alloc; two].expect(&rt, "there is memory");
-    assert_eq!(rt; open(&rt, &board, &mut pass, items), (2, 2, 0));
-    let deposited = board.deposit(&rt, &mut pass, claim, answer);
-    assert_eq!(rt; (deposited.place, deposited.reply), (3, 0));
-    let looked = board.look(&rt, &mut pass);
-    assert_eq!(rt; looked.place, 4);
-    assert_eq!(rt;
-        looked.reply,
-        Snapshot {
-            version: 2,
-            done: 0,
-            pending: 1,
-            closed: false
-        }
-    );
-    Ok(())
-}
-
-#[test]
 fn a_claim_outlives_two_opens(rt: HostRuntime) -> Result<(), Fail> {
     let alloc = rt.alloc();
     let (board, mut pass) = SharedBoard::<Verdict>::new(alloc)?;

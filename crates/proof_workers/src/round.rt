@@ -1,7 +1,8 @@
 //! One claim, and what becomes of it.
 ghost use Rattle.std.specs.Prelude.{◌≡◌, ◌++◌, ◌+◌, ◌<◌, ◌^◌, List, length, IfOk};
 ghost use Rattle.std.specs.Arc.{arc_value};
-ghost use Rattle.turn_lock.specs.Lock.{mine, number};
+ghost use Rattle.turn_lock.specs.History.{StartsWith};
+ghost use Rattle.turn_lock.specs.Lock.{above, mine, number, seen};
 ghost use Rattle.board_core.specs.Board.{Call};
 ghost use Rattle.obligation_board.specs.Calls.{Holds};
 ghost use Rattle.obligation_board.specs.Passes.{IsPassOf, StaysPassOf};
@@ -52,6 +53,8 @@ where
     requires pass { IsPassOf board.now pass.old }
     requires held { Holds pass.old (ticket P.A.Q.key claim) }
     ensures pass { StaysPassOf board.now pass.old pass.new }
+    ensures above { above pass.new ≡ above pass.old }
+    ensures seen { StartsWith (seen pass.new) (seen pass.old) }
     ensures calls { (calls : List (Call P.A)) × (mine pass.new ≡ mine pass.old ++ made_by (number pass.old) calls) × IsSettled P.A.Q.key (P.gives prover.now) (ticket P.A.Q.key claim) result calls }
     ensures room { IfOk result (λ _. length (mine pass.old) < 2 ^ 64) }
 {
@@ -82,6 +85,8 @@ where
     <P::A as Answered>::Q: Drop,
     requires { IsPassOf board.now pass.old }
     ensures pass { StaysPassOf board.now pass.old pass.new }
+    ensures above { above pass.new ≡ above pass.old }
+    ensures seen { StartsWith (seen pass.new) (seen pass.old) }
     ensures calls { (calls : List (Call P.A)) × (mine pass.new ≡ mine pass.old ++ made_by (number pass.old) calls) × IsTry P.A.Q.key (P.gives prover.now) result calls }
     ensures room { IfOk result (λ deposits. 0 < deposits → length (mine pass.old) + deposits < 2 ^ 64) }
 {

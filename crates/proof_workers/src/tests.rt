@@ -3,10 +3,9 @@ ghost use Rattle.std.specs.Arc.{arc_value};
 ghost use Rattle.turn_lock.specs.Lock.{number};
 ghost use Rattle.obligation_board.specs.Passes.{IsPassOf};
 
-use crate::{Ended, OpenGate, Prover, Worked, work};
-use board_core::Claimed;
+use crate::{Ended, Gate, OpenGate, Prover, Worked, work};
 use bv_base::{Answered, Question};
-use obligation_board::{Pass, Receipt, SharedBoard};
+use obligation_board::{Pass, SharedBoard};
 use std::alloc::{AllocError, Global};
 use std::sync::atomic::{AtomicU64, Ordering};
 use std::sync::{Arc, Wait};
@@ -45,36 +44,20 @@ impl Answered for Found {
     }
 }
 
-/// Refuses its first calls, as many as it is told to. Where it waits, its first call goes on until a second one has
-/// begun, and notes that it has.
+/// Its first search goes on until a second one has begun, and notes that it has.
 #[derive(Drop)]
-struct Scripted {
+struct Meeting {
     begun: AtomicU64,
     met: AtomicU64,
-    refused: u64,
-    waits: bool,
 }
 
-fn prover_that(refused: u64, waits: bool) -> Scripted {
-    Scripted {
-        begun: AtomicU64::new(0),
-        met: AtomicU64::new(0),
-        refused,
-        waits,
-    }
-}
-
-impl Prover for Scripted {
+impl Prover for Meeting {
     type A = Found;
 
     ghost gives = { λ _ q f. arc_value f.asked ≡ q };
 
     fn answer(&self, asked: &Arc<Asked, Global>) -> Result<Found, AllocError> {
-        let before = self.begun.fetch_add(1, Ordering::SeqCst);
-        if before < self.refused {
-            return Err(AllocError);
-        }
-        if self.waits && before == 0 {
+        if self.begun.fetch_add(1, Ordering::SeqCst) == 0 {
             for _ in 0..100_000_000u64 {
                 if self.begun.load(Ordering::SeqCst) > 1 {
                     self.met.store(1, Ordering::SeqCst);
@@ -88,18 +71,11 @@ impl Prover for Scripted {
     }
 }
 
-// Questions with the keys 0, 1 and so on, again from 0 after `distinct` of them.
-fn questions(alloc: Global, count: u8, distinct: u8) -> Result<Vec<Arc<Asked, Global>>, AllocError>
-    requires { 0 < distinct }
-{
+// Questions with the keys 0, 1 and so on.
+fn questions(alloc: Global, count: u8) -> Result<Vec<Arc<Asked, Global>>, AllocError> {
     let mut items = Vec::new(alloc);
     for i in 0..count {
-        let Ok(asked) = Arc::new(
-            alloc,
-            Asked {
-                key: [i % distinct],
-            },
-        ) else {
+        let Ok(asked) = Arc::new(alloc, Asked { key: [i] }) else {
             return Err(AllocError);
         };
         if items.push(asked).is_err() {
@@ -115,7 +91,7 @@ fn work_as<R: Wait>(
     alloc: Global,
     board: &SharedBoard<Found>,
     mut pass: Pass<Found>,
-    prover: &Scripted,
+    prover: &Meeting,
 ) -> u64
     requires { IsPassOf board.now pass }
 {
@@ -128,7 +104,7 @@ fn work_by_two<R: Threads + Wait + Sync>(
     alloc: Global,
     board: &SharedBoard<Found>,
     mut one: Pass<Found>,
-    prover: &Scripted,
+    prover: &Meeting,
 ) -> u64
     requires { IsPassOf board.now one }
 {
@@ -160,31 +136,63 @@ fn close_when_done<R: Wait>(rt: &R, board: &SharedBoard<Found>, mut opener: Pass
     unreachable!()
 }
 
+/// A gate and a prover, which note whether each claim's number is told once, in order, before its search. The third
+/// search finds no memory.
+#[derive(Drop)]
+struct Recording {
+    told: AtomicU64,
+    searched: AtomicU64,
+    faults: AtomicU64,
+}
+
+impl Gate for Recording {
+    fn begin(&self, claim: u64) {
+        let told = self.told.fetch_add(1, Ordering::SeqCst);
+        if claim != told {
+            self.faults.fetch_add(1, Ordering::SeqCst);
+        }
+    }
+}
+
+impl Prover for Recording {
+    type A = Found;
+
+    ghost gives = { λ _ q f. arc_value f.asked ≡ q };
+
+    fn answer(&self, asked: &Arc<Asked, Global>) -> Result<Found, AllocError> {
+        let searched = self.searched.fetch_add(1, Ordering::SeqCst);
+        if self.told.load(Ordering::SeqCst) != searched.wrapping_add(1) {
+            self.faults.fetch_add(1, Ordering::SeqCst);
+        }
+        if searched == 2 {
+            return Err(AllocError);
+        }
+        let asked = asked.clone()?;
+        Ok(Found { asked })
+    }
+}
+
 #[test]
-fn a_worker_without_memory_gives_its_claim_back(rt: HostRuntime) -> Result<(), Fail> {
+fn each_claim_is_told_once_before_its_search(rt: HostRuntime) -> Result<(), Fail> {
     let alloc = rt.alloc();
     let (board, mut pass) = SharedBoard::<Found>::new(alloc)?;
-    let opened = board.open(&rt, &mut pass, questions(alloc, 1, 1)?)?;
-    assert_eq!(rt; opened.place, 0);
-    let prover = prover_that(1, false);
-    let worked = work(&rt, alloc, &board, &mut pass, &prover, &OpenGate);
+    board.open(&rt, &mut pass, questions(alloc, 3)?)?;
+    let recording = Recording {
+        told: AtomicU64::new(0),
+        searched: AtomicU64::new(0),
+        faults: AtomicU64::new(0),
+    };
+    let worked = work(&rt, alloc, &board, &mut pass, &recording, &recording);
     assert_eq!(rt;
         worked,
         Worked {
-            deposits: 0,
+            deposits: 2,
             ended: Ended::Memory
         }
     );
-    let Receipt { place, reply } = board.claim(&rt, &mut pass).expect(&rt, "there is memory");
-    assert_eq!(rt; place, 3);
-    match reply {
-        Claimed::Claim(claim) => {
-            assert_eq!(rt; claim.number(), 1);
-            board.give_back(&rt, &mut pass, claim);
-        }
-        Claimed::Empty => panic!(rt; "the question is there again"),
-        Claimed::Closed => panic!(rt; "the board is open"),
-    }
+    assert_eq!(rt; recording.told.load(Ordering::SeqCst), 3);
+    assert_eq!(rt; recording.searched.load(Ordering::SeqCst), 3);
+    assert_eq!(rt; recording.faults.load(Ordering::SeqCst), 0);
     Ok(())
 }
 
@@ -194,8 +202,11 @@ fn two_searches_run_beside_each_other(rt: HostRuntime) -> Result<(), Fail> {
     let alloc = rt.alloc();
     let (board, mut opener) = SharedBoard::<Found>::new(alloc)?;
     let board = &board;
-    board.open(rt, &mut opener, questions(alloc, 2, 2)?)?;
-    let prover = &prover_that(0, true);
+    board.open(rt, &mut opener, questions(alloc, 2)?)?;
+    let prover = &Meeting {
+        begun: AtomicU64::new(0),
+        met: AtomicU64::new(0),
+    };
     let one = board.split(&mut opener);
     let (done, deposits) = thread::join(
         rt,
@@ -208,39 +219,5 @@ fn two_searches_run_beside_each_other(rt: HostRuntime) -> Result<(), Fail> {
     );
     assert_eq!(rt; (done, deposits), (2, 2));
     assert_eq!(rt; prover.met.load(Ordering::SeqCst), 1);
-    Ok(())
-}
-
-#[test]
-fn four_workers_answer_each_key_once(rt: HostRuntime) -> Result<(), Fail> {
-    let rt = &rt;
-    let alloc = rt.alloc();
-    let (board, mut opener) = SharedBoard::<Found>::new(alloc)?;
-    let board = &board;
-    board.open(rt, &mut opener, questions(alloc, 200, 150)?)?;
-    let prover = &prover_that(0, false);
-    let mut one = board.split(&mut opener);
-    let two = board.split(&mut one);
-    let (done, (first, second)) = thread::join(
-        rt,
-        move ||
-            requires { IsPassOf board.now opener × (number opener ≡ 0) }
-        { close_when_done(rt, board, opener) },
-        move ||
-            requires { IsPassOf board.now one × IsPassOf board.now two }
-        {
-            thread::join(
-                rt,
-                move ||
-                    requires { IsPassOf board.now one }
-                { work_by_two(rt, alloc, board, one, prover) },
-                move ||
-                    requires { IsPassOf board.now two }
-                { work_by_two(rt, alloc, board, two, prover) },
-            )
-        },
-    );
-    assert_eq!(rt; (done, first.wrapping_add(second)), (200, 150));
-    assert_eq!(rt; prover.begun.load(Ordering::SeqCst), 150);
     Ok(())
 }

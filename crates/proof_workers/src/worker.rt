@@ -1,6 +1,7 @@
 //! The rounds of a worker.
 ghost use Rattle.std.specs.Prelude.{◌≡◌, ◌++◌, List};
-ghost use Rattle.turn_lock.specs.Lock.{mine, number};
+ghost use Rattle.turn_lock.specs.History.{StartsWith};
+ghost use Rattle.turn_lock.specs.Lock.{above, mine, number, seen};
 ghost use Rattle.board_core.specs.Board.{Call};
 ghost use Rattle.obligation_board.specs.Passes.{IsPassOf, StaysPassOf};
 ghost use Rattle.proof_workers.specs.Rounds.{made_by, IsWork};
@@ -45,6 +46,8 @@ where
     <P::A as Answered>::Q: Drop,
     requires { IsPassOf board.now pass.old }
     ensures pass { StaysPassOf board.now pass.old pass.new }
+    ensures above { above pass.new ≡ above pass.old }
+    ensures seen { StartsWith (seen pass.new) (seen pass.old) }
     ensures calls { (calls : List (Call P.A)) × (mine pass.new ≡ mine pass.old ++ made_by (number pass.old) calls) × IsWork P.A.Q.key (P.gives prover.now) result.ended result.deposits calls }
 {
     let mut deposits = 0;

@@ -4,7 +4,7 @@ use Rattle.board_core.specs.Board.{Call, claim, claimed, was_empty, no_memory, m
 use Rattle.board_core.specs.Handed.{ticket, claim_answer}
 use Rattle.board_core.specs.declared.claim.Claimed.{Claimed}
 use Rattle.proof_workers.specs.Rounds.{made_by, no_question}
-use Rattle.proof_workers.proofs.Working.{made_more, after_claim, room_before}
+use Rattle.proof_workers.proofs.Working.{made_more, after_claim, room_before, begins_on, sees_more}
 use Rattle.proof_workers.proofs.round.round.Goals as goal
 
 pub returns-in-Err-clause-calls : goal.returns-in-Err-clause-calls
@@ -42,3 +42,15 @@ returns-in-Claim-clause-room g c =
     let s = c.settle.ensures.calls in
     let more : length (mine q) ≡ length (mine p) + 1 = omega (arith, longer, one) in
     room_before g.P.A.Q.Question.key (g.P.Prover.gives c.args.prover.now) (ticket g.P.A.Q.Question.key c.in-Claim.claim) c.settle.result s.0 (length (mine p)) (length (mine q)) 18446744073709551616 s.2 more c.settle.ensures.room
+
+pub returns-in-Err-clause-seen : goal.returns-in-Err-clause-seen
+returns-in-Err-clause-seen g c = sees_more _ _ c.args.pass.now c.claim.new.pass _ c.in-Err.ensures.memory.0 _ c.in-Err.ensures.memory.1
+
+pub returns-in-Empty-clause-seen : goal.returns-in-Empty-clause-seen
+returns-in-Empty-clause-seen g c = sees_more _ _ c.args.pass.now c.claim.new.pass _ c.in-Ok.receipt.place _ c.in-Ok.ensures.call
+
+pub returns-in-Closed-clause-seen : goal.returns-in-Closed-clause-seen
+returns-in-Closed-clause-seen g c = sees_more _ _ c.args.pass.now c.claim.new.pass _ c.in-Ok.receipt.place _ c.in-Ok.ensures.call
+
+pub returns-in-Claim-clause-seen : goal.returns-in-Claim-clause-seen
+returns-in-Claim-clause-seen g c = begins_on _ _ _ (sees_more _ _ c.args.pass.now c.claim.new.pass _ c.in-Ok.receipt.place _ c.in-Ok.ensures.call) c.settle.ensures.seen

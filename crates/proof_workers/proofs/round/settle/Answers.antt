@@ -3,7 +3,7 @@ use Rattle.std.specs.Arc.{arc_value}
 use Rattle.turn_lock.specs.Lock.{mine}
 use Rattle.board_core.specs.Board.{deposit, deposited}
 use Rattle.board_core.specs.Handed.{ticket}
-use Rattle.proof_workers.proofs.Working.{few_own}
+use Rattle.proof_workers.proofs.Working.{few_own, sees_more}
 use Rattle.proof_workers.proofs.round.settle.Goals as goal
 
 pub returns-in-Ok-clause-calls : goal.returns-in-Ok-clause-calls
@@ -19,3 +19,9 @@ pub returns-in-Ok-clause-room : goal.returns-in-Ok-clause-room
 returns-in-Ok-clause-room g c =
     let few = few_own _ _ c.args.pass.now c.deposit.new.pass _ c.deposit.result.place _ c.deposit.ensures.call in
     omega (arith, few, c.deposit.type_inv)
+
+pub returns-in-Ok-clause-seen : goal.returns-in-Ok-clause-seen
+returns-in-Ok-clause-seen g c = sees_more _ _ c.args.pass.now c.deposit.new.pass _ c.deposit.result.place _ c.deposit.ensures.call
+
+pub returns-in-Err-clause-seen : goal.returns-in-Err-clause-seen
+returns-in-Err-clause-seen g c = sees_more _ _ c.args.pass.now c.give_back.new.pass _ c.give_back.result.place _ c.give_back.ensures.call

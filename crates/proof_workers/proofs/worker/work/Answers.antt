@@ -1,12 +1,14 @@
 use Rattle.std.proofs.Common.{[], ◌++◌, ◌+◌, ◌<◌, refl, sym, ap, ◌∙◌, append-nil, arith}
-use Rattle.turn_lock.specs.Lock.{number, mine}
+use Rattle.turn_lock.specs.Lock.{number, mine, seen}
 use Rattle.proof_workers.specs.Rounds.{made_by}
-use Rattle.proof_workers.proofs.Working.{no_rounds, rounds_more, made_more, fits}
+use Rattle.proof_workers.proofs.Working.{no_rounds, rounds_more, made_more, fits, begins_on}
 use Rattle.proof_workers.proofs.worker.work.Goals as goal
 
 pub loop-init : goal.loop-init
 loop-init g c = record {
   pass = (c.requires, refl);
+  above = refl;
+  seen = ([], sym (append-nil (seen c.args.pass.now)));
   calls = ([], sym (append-nil (mine c.args.pass.now)), no_rounds g.P.A.Q.Question.key (g.P.Prover.gives c.args.prover.now));
 }
 
@@ -24,6 +26,8 @@ loop-preserved g c =
     let r = c.in-Ok.ensures.calls in
     record {
       pass = (c.round.ensures.pass.0, c.round.ensures.pass.1 ∙ c.loop.invariant.pass.1);
+      above = c.round.ensures.above ∙ c.loop.invariant.above;
+      seen = begins_on _ _ _ c.loop.invariant.seen c.round.ensures.seen;
       calls = (
         i.0 ++ r.0,
         made_more (number c.args.pass.now) (mine c.args.pass.now) (mine c.loop.pass) (mine c.round.new.pass) i.0 r.0 i.1 (r.1 ∙ ap (λ n. mine c.loop.pass ++ made_by n r.0) c.loop.invariant.pass.1),
@@ -39,3 +43,6 @@ returns-in-Err-clause-calls g c =
       made_more (number c.args.pass.now) (mine c.args.pass.now) (mine c.loop.pass) (mine c.round.new.pass) i.0 r.0 i.1 (r.1 ∙ ap (λ n. mine c.loop.pass ++ made_by n r.0) c.loop.invariant.pass.1),
       record { before = i.0; last = r.0; made = refl; rounds = i.2; end = r.2 },
     )
+
+pub returns-in-Err-clause-seen : goal.returns-in-Err-clause-seen
+returns-in-Err-clause-seen g c = begins_on _ _ _ c.loop.invariant.seen c.round.ensures.seen
