@@ -1,0 +1,17 @@
+pub mod Module
+pub mod Nodes
+pub mod Codes
+pub mod SpecView
+pub mod StmtView
+pub mod StmtFalls
+pub mod Numbering
+pub mod Clauses
+pub mod Reach
+pub mod NoGoto
+pub mod Typed
+pub mod TypedTest
+pub mod Contract
+pub mod World
+pub mod Execution
+pub mod Safe
+pub mod Cut

@@ -1,0 +1,80 @@
+// Constants, functions, globals, and the variables of procedures.
+use crate::name::Name;
+use logic_core::{Def, Formula, Sort};
+use std::marker::Model;
+
+/// A constant.
+#[derive(Drop)]
+pub struct Const {
+    pub name: Name,
+    pub sort: Sort,
+}
+
+/// A function, and the definition that its applications stand for.
+#[derive(Drop)]
+pub struct Function {
+    pub name: Name,
+    pub def: Def,
+}
+
+/// A global variable. Its clause is assumed wherever it gets an arbitrary value.
+#[derive(Drop)]
+pub struct Global {
+    pub name: Name,
+    pub sort: Sort,
+    pub clause: Option<Formula>,
+}
+
+/// A parameter, a result or a local of a procedure. Its clause is assumed wherever it gets an
+/// arbitrary value. Those that stand for replaced calls are `own`, and the last of the locals.
+#[derive(Drop)]
+pub struct Local {
+    pub name: Name,
+    pub sort: Sort,
+    pub own: bool,
+    pub clause: Option<Formula>,
+}
+
+impl Model for Const {
+    ghost use Rattle.bpl_model.specs.Module.{Const as constant};
+    ghost use Rattle.bpl_model.specs.Codes.{coded_const};
+
+    ghost Value = { constant };
+
+    ghost coded = { coded_const };
+
+    ghost view = { λ a. record { name = a.name; sort = a.sort } };
+}
+
+impl Model for Function {
+    ghost use Rattle.bpl_model.specs.Module.{Function as function};
+    ghost use Rattle.bpl_model.specs.Codes.{coded_function};
+
+    ghost Value = { function };
+
+    ghost coded = { coded_function };
+
+    ghost view = { λ a. record { name = a.name; def = a.def } };
+}
+
+impl Model for Global {
+    ghost use Rattle.bpl_model.specs.Module.{Global as global};
+    ghost use Rattle.bpl_model.specs.Codes.{coded_global};
+
+    ghost Value = { global };
+
+    ghost coded = { coded_global };
+
+    ghost view = { λ a. record { name = a.name; sort = a.sort; clause = a.clause } };
+}
+
+impl Model for Local {
+    ghost use Rattle.bpl_model.specs.Module.{Local as local};
+    ghost use Rattle.bpl_model.specs.Codes.{coded_local};
+
+    ghost Value = { local };
+
+    ghost coded = { coded_local };
+
+    ghost view = { λ a. record { name = a.name; sort = a.sort; own = a.own; clause = a.clause } };
+}

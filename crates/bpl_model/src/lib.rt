@@ -1,0 +1,34 @@
+//! Typed modules of Boogie, the variables of their procedures, and what their executions are.
+//! Contracts see modules and statements as the data of `specs/`.
+#![tactic(auto)]
+
+// Modules, from names up.
+pub mod decl;
+pub mod module;
+pub mod name;
+pub mod proc;
+pub mod spec;
+pub mod stmt;
+
+// The variables of procedures, by number.
+pub mod variables;
+
+// Whether procedures and statements are typed.
+mod typed_procs;
+pub mod typed_stmts;
+pub mod typed_terms;
+
+// Copies.
+pub mod copy_decls;
+pub mod copy_module;
+pub mod copy_stmts;
+
+pub use bv_base::place::Place;
+pub use decl::{Const, Function, Global, Local};
+pub use flow_core::{GoalKind, Invariant, Mark};
+pub use module::{DeclText, Module, Parts};
+pub use name::Name;
+pub use proc::Proc;
+pub use spec::{Spec, SpecForm};
+pub use stmt::{Stmt, StmtForm};
+pub use variables::Variables;

@@ -1,0 +1,104 @@
+// Modules.
+ghost use Rattle.std.specs.Prelude.{◌≡◌};
+ghost use Rattle.bpl_model.specs.Typed.{IsTypedModule};
+
+use crate::decl::{Const, Function, Global};
+use crate::name::Name;
+use crate::proc::Proc;
+use logic_core::Formula;
+use std::marker::Model;
+
+/// A declaration's canonical text, the same without a body, and the positions of the declarations
+/// that the names of each of the two stand for.
+#[derive(Drop)]
+pub struct DeclText {
+    pub name: Name,
+    pub text: Vec<u8>,
+    pub contract: Vec<u8>,
+    pub leads: Vec<u64>,
+    pub contract_leads: Vec<u64>,
+}
+
+impl Model for DeclText {
+    ghost use Rattle.bpl_model.specs.Module.{DeclText as text_of_declaration};
+    ghost use Rattle.bpl_model.specs.Codes.{coded_decl_text};
+
+    ghost Value = { text_of_declaration };
+
+    ghost coded = { coded_decl_text };
+
+    ghost view = { λ a. record { name = a.name; text = a.text.items; contract = a.contract.items; leads = a.leads.items; contract_leads = a.contract_leads.items } };
+}
+
+/// The parts of a module, typed or not.
+#[derive(Drop)]
+pub struct Parts {
+    pub consts: Vec<Const>,
+    pub axioms: Vec<Formula>,
+    pub functions: Vec<Function>,
+    pub globals: Vec<Global>,
+    pub procs: Vec<Proc>,
+    pub texts: Vec<DeclText>,
+}
+
+impl Model for Parts {
+    ghost use Rattle.bpl_model.specs.Module.{Module as parts_of_module};
+    ghost use Rattle.bpl_model.specs.Codes.{coded_module};
+
+    ghost Value = { parts_of_module };
+
+    ghost coded = { coded_module };
+
+    ghost view = { λ a. record { consts = a.consts.items; axioms = a.axioms.items; functions = a.functions.items; globals = a.globals.items; procs = a.procs.items; texts = a.texts.items } };
+}
+
+/// A typed module. Its terms are well sorted, and its numbers name what is there. A function's body
+/// uses functions of lower numbers, constants and its own parameters, an axiom constants. A
+/// statement sets globals, outs and locals, none twice. A call has the arguments and results of its
+/// callee. A contract reads no local, and a `requires` no entry value and no out; a clause reads no
+/// entry value and what is declared before its variable's kind. A `break` leaves a statement around
+/// it. No variable stands for a replaced call.
+#[derive(Drop)]
+pub struct Module {
+    parts: Parts,
+}
+
+impl Model for Module {
+    ghost use Rattle.bpl_model.specs.Module.{Module as typed_module};
+    ghost use Rattle.bpl_model.specs.Codes.{coded_module};
+    ghost use Rattle.bpl_model.specs.Typed.{IsTypedModule};
+
+    ghost Value = { typed_module };
+
+    ghost coded = { coded_module };
+
+    ghost view = { λ a. a.parts };
+
+    ghost invariant = { λ a. IsTypedModule a.parts };
+}
+
+impl Module {
+    /// The module of these parts.
+    pub fn new(parts: Parts) -> Module
+        requires { IsTypedModule parts }
+        ensures { result ≡ parts }
+    {
+        Module { parts }
+    }
+
+    /// The parts again.
+    pub fn into_parts(self) -> Parts
+        ensures same { result ≡ self }
+        ensures typed { IsTypedModule result }
+    {
+        self.parts
+    }
+
+    /// The parts.
+    pub fn parts(&self) -> &Parts
+        ensures same { result.now ≡ self.now }
+        ensures typed { IsTypedModule result.now }
+    {
+        &self.parts
+    }
+}

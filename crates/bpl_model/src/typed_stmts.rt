@@ -1,0 +1,166 @@
+// Whether statements are typed.
+ghost use Rattle.std.specs.Prelude.{◌≡◌, IfOk, bytes_eq};
+ghost use Rattle.std.specs.List.{list_all, list_any};
+ghost use Rattle.bpl_model.specs.Module.{is_scope};
+ghost use Rattle.bpl_model.specs.StmtView.{stmts_of, body_of};
+ghost use Rattle.bpl_model.specs.TypedTest.{labels_within, is_formula, is_typed, are_typed, is_body};
+
+use crate::name::{Name, copy_names};
+use crate::proc::Proc;
+use crate::stmt::{Stmt, StmtForm};
+use crate::typed_terms::{
+    all_fit, are_targets, is_call_of, is_formula, is_formula_or_none, targets_of,
+};
+use crate::variables::Variables;
+use flow_core::Invariant;
+use logic_core::{Def, Sort};
+use std::alloc::{AllocError, Global};
+
+impl Stmt {
+    /// Whether a break may leave it by a label: it is an if or a while, behind whatever labels.
+    pub fn is_scope(&self) -> bool
+        ensures { result ≡ is_scope self.now }
+    {
+        match &self.form {
+            StmtForm::If(..) | StmtForm::While(..) => true,
+            StmtForm::Labelled(_, behind) => behind.is_scope(),
+            _ => false,
+        }
+    }
+}
+
+// The labels by which a break in the statement may leave one: its own where it is an if or a while,
+// and those around it.
+fn labels_within(
+    alloc: Global,
+    own: &[Name],
+    around: &[Name],
+    stmt: &Stmt,
+) -> Result<Vec<Name>, AllocError>
+    ensures { IfOk result (λ v. v.items ≡ labels_within own.now around.now stmt.now) }
+{
+    if !stmt.is_scope() {
+        return copy_names(alloc, around);
+    }
+    let mut labels = copy_names(alloc, own)?;
+    for label in around {
+        labels.push(label.copy(alloc)?)?;
+    }
+    Ok(labels)
+}
+
+fn are_invariants(
+    alloc: Global,
+    defs: &[Def],
+    vars: &[Sort],
+    invariants: &[Invariant],
+) -> Result<bool, AllocError>
+    ensures { IfOk result (λ h. h ≡ list_all (λ i. is_formula defs.now vars.now i.formula) invariants.now) }
+{
+    for found in invariants {
+        if !is_formula(alloc, defs, vars, &found.formula)? {
+            return Ok(false);
+        }
+    }
+    Ok(true)
+}
+
+fn has_name(names: &[Name], name: &Name) -> bool
+    ensures { result ≡ list_any (bytes_eq name.now) names.now }
+{
+    names.iter().any(|found| name.equals(found))
+}
+
+/// What statements are typed over: the module's definitions and procedures, and the variables of
+/// the procedure that they stand in.
+#[derive(Drop)]
+pub struct Scope<'a> {
+    pub defs: &'a [Def],
+    pub procs: &'a [Proc],
+    pub vars: &'a Variables,
+}
+
+impl<'a> Scope<'a> {
+    /// Whether the statement is typed. `inside` says whether a loop stands around it, and `labels`
+    /// are those of the ifs and whiles around it.
+    #[cycle(typed)]
+    fn is_typed(
+        &self,
+        alloc: Global,
+        inside: bool,
+        labels: &[Name],
+        stmt: &Stmt,
+    ) -> Result<bool, AllocError>
+        ensures { IfOk result (λ h. h ≡ is_typed self.now.defs.now self.now.procs.now self.now.vars.now inside labels.now stmt.now) }
+    {
+        let sorts = self.vars.sorts.as_slice();
+        match &stmt.form {
+            StmtForm::Assert(_, formula) | StmtForm::Assume(_, formula) => {
+                is_formula(alloc, self.defs, sorts, formula)
+            }
+            StmtForm::Havoc(_, targets) => Ok(are_targets(self.vars, targets)),
+            StmtForm::Assign(_, pairs) => Ok(
+                are_targets(self.vars, &targets_of(alloc, pairs)?)
+                    && all_fit(alloc, self.defs, sorts, pairs)?,
+            ),
+            StmtForm::Call(_, callee, arguments, targets) => {
+                let Some(callee) = self.procs.get(*callee as usize) else {
+                    return Ok(false);
+                };
+                Ok(
+                    are_targets(self.vars, targets)
+                        && is_call_of(alloc, self.defs, sorts, callee, arguments, targets)?,
+                )
+            }
+            StmtForm::If(_, guard, first, second) => {
+                Ok(
+                    is_formula_or_none(alloc, self.defs, sorts, guard)?
+                        && self.are_typed(alloc, inside, labels, first)?
+                        && self.are_typed(alloc, inside, labels, second)?,
+                )
+            }
+            StmtForm::While(_, guard, invariants, body) => {
+                Ok(
+                    is_formula_or_none(alloc, self.defs, sorts, guard)?
+                        && are_invariants(alloc, self.defs, sorts, invariants)?
+                        && self.are_typed(alloc, true, labels, body)?,
+                )
+            }
+            StmtForm::Break(_, None) => Ok(inside),
+            StmtForm::Break(_, Some(label)) => Ok(has_name(labels, label)),
+            StmtForm::Return(_) | StmtForm::Goto(..) => Ok(true),
+            StmtForm::Labelled(own, behind) => {
+                let within = labels_within(alloc, own, labels, behind)?;
+                self.is_typed(alloc, inside, &within, behind)
+            }
+        }
+    }
+
+    #[cycle(typed)]
+    fn are_typed(
+        &self,
+        alloc: Global,
+        inside: bool,
+        labels: &[Name],
+        stmts: &[Stmt],
+    ) -> Result<bool, AllocError>
+        ensures { IfOk result (λ h. h ≡ are_typed self.now.defs.now self.now.procs.now self.now.vars.now inside labels.now (stmts_of stmts.now)) }
+    {
+        for stmt in stmts {
+            if !self.is_typed(alloc, inside, labels, stmt)? {
+                return Ok(false);
+            }
+        }
+        Ok(true)
+    }
+
+    /// Whether the statements of the body, where there is one, are typed.
+    pub fn is_body(&self, alloc: Global, body: &Option<Vec<Stmt>>) -> Result<bool, AllocError>
+        ensures { IfOk result (λ h. h ≡ is_body self.now.defs.now self.now.procs.now self.now.vars.now (body_of body.now)) }
+    {
+        match body {
+            Some(stmts) => self.are_typed(alloc, false, &[], stmts),
+            None => Ok(true),
+        }
+    }
+}
