@@ -5,4 +5,5 @@ mod RisingEdges
 mod LoopEdges
 mod SetVariables
 mod SortedStates
+pub mod Samples
 mod EarlyReturn
