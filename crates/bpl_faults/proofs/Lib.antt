@@ -1,0 +1,5 @@
+pub mod ExprSteps
+pub mod ListedNames
+pub mod ArgumentSteps
+pub mod KnownGroups
+pub mod VarLookup
