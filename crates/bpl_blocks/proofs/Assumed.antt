@@ -1,5 +1,5 @@
 -- Where the blocks assume clauses: at entry, after a havoc, and after a replaced call.
-use Rattle.std.specs.Prelude.{◌≡◌, refl, true, [], ◌∷◌, map, codes, Some, None}
+use Rattle.std.specs.Prelude.{◌≡◌, refl, true, [], ◌∷◌, map, codes, Some}
 use Rattle.logic_core.specs.Tree.{int, free, at_most, equal}
 use Rattle.flow_core.specs.declared.mark.GoalKind.TheVariants.{Assert as asserted}
 use Rattle.flow_core.specs.declared.command.Command.TheVariants.{Assert, Assume, Assign, Havoc}

@@ -1,5 +1,5 @@
 -- Graphs of procedures: one with an early return, and one with a loop that is left by a break.
-use Rattle.std.specs.Prelude.{◌≡◌, refl, true, false, [], ◌∷◌, Some, None}
+use Rattle.std.specs.Prelude.{◌≡◌, refl, true, false, [], ◌∷◌, Some}
 use Rattle.logic_core.specs.Tree.{free, equal, negation, truth, at_most}
 use Rattle.flow_core.specs.declared.mark.GoalKind.TheVariants as kind
 use Rattle.flow_core.specs.declared.command.Command.TheVariants.{Assert, Assume, Assign}

@@ -1,4 +1,3 @@
-use Rattle.bpl_blocks.specs.Kept.{ToBlocksKeepsFailures}
 use Rattle.bpl_blocks.proofs.ExitLaws.{keeps_failures}
 use Rattle.bpl_blocks.proofs.PlainKept.{with_failures}
 use Rattle.bpl_blocks.proofs.laws.to_blocks_keeps_failures.Goals as goal
