@@ -13,6 +13,3 @@ mod words;
 pub use faults::LexFault;
 pub use kinds::{Token, TokenKind};
 pub use lexing::tokens;
-
-#[cfg(test)]
-mod tests;
