@@ -1,4 +1,5 @@
 mod NamedVariables
+mod Numbers
 mod TypedIsTyped
 pub mod Spelled
 pub mod Programs

@@ -4,7 +4,7 @@ use Rattle.std.specs.List.{range_with_len}
 use Rattle.logic_core.specs.Tree.{Kind}
 use Rattle.logic_core.specs.Def.{Def}
 use Rattle.bpl_model.specs.declared.variables.Variables.{Variables}
-use Rattle.bpl_model.specs.Module.{Local, Proc, Module}
+use Rattle.bpl_model.specs.Module.{Const, Global, Local, Proc, Module}
 
 abbrev pub defs_of : Module → List Def
 defs_of m = map (λ f. f.def) m.functions
@@ -56,14 +56,17 @@ global_numbers m = range_with_len (first_global m) (length m.globals)
 abbrev pub olds_of : Module → List (ℕ × ℕ)
 olds_of m = map (λ g. (g, g + length m.globals)) (global_numbers m)
 
--- the sorts of a procedure's variables, and the first number of each kind of them
-abbrev pub variables_of : Module → Proc → Variables
-variables_of m p = record {
-  sorts = sorts_of m p;
-  first_global = first_global m;
-  first_entry = first_entry m;
-  first_in = first_in m;
-  first_out = first_out m p;
-  first_local = first_local m p;
-  first_own = first_own m p;
+-- the sorts of variables, and the first number of each kind of them
+abbrev pub variables_from : List Const → List Global → List Local → List Local → List Local → Variables
+variables_from cs gs is os ls = record {
+  sorts = map (λ c. c.sort) cs ++ (map (λ g. g.sort) gs ++ (map (λ g. g.sort) gs ++ (local_sorts is ++ (local_sorts os ++ local_sorts ls))));
+  first_global = length cs;
+  first_entry = length cs + length gs;
+  first_in = length cs + length gs + length gs;
+  first_out = length cs + length gs + length gs + length is;
+  first_local = length cs + length gs + length gs + length is + length os;
+  first_own = length cs + length gs + length gs + length is + length os + length (filter (λ l. not l.own) ls);
 }
+
+abbrev pub variables_of : Module → Proc → Variables
+variables_of m p = variables_from m.consts m.globals p.ins p.outs p.locals

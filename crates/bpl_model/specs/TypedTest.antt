@@ -1,5 +1,5 @@
 -- What a module's type keeps, as a test: each of its parts has one over the procedures, the definitions and the variables.
-use Rattle.std.specs.Prelude.{ℕ, ◌==◌, nat_eq, nat_le, nat_lt, Bool, true, false, ◌&&◌, ◌||◌, not, cond, List, [], ◌∷◌, ◌++◌, length, take, map, slice_index_or, slice_get, Option, Some, None, bytes_eq}
+use Rattle.std.specs.Prelude.{ℕ, ◌==◌, nat_le, nat_lt, Bool, true, false, ◌&&◌, ◌||◌, not, cond, List, [], ◌∷◌, ◌++◌, length, take, map, slice_index_or, slice_get, Option, Some, None, bytes_eq}
 use Rattle.std.specs.List.{list_any, list_all}
 use Rattle.logic_core.specs.Tree.{Kind, int, boolean, Tree}
 use Rattle.logic_core.specs.Def.{Def}
@@ -9,7 +9,7 @@ use Rattle.logic_core.specs.Variables.{variables}
 use Rattle.logic_core.specs.View.{trees_of}
 use Rattle.flow_core.specs.State.{sorts_at}
 use Rattle.bpl_model.specs.declared.variables.Variables.{Variables}
-use Rattle.bpl_model.specs.Module.{Name, Guard, Spec, requires, ensures, modifies, Stmt, assert, assume, havoc, assign, call, if_else, while, break, return, goto, labelled, Stmts, no_stmts, stmt, is_scope, Local, Proc, DeclText, Module}
+use Rattle.bpl_model.specs.Module.{Name, Spec, requires, ensures, modifies, Stmt, assert, assume, havoc, assign, call, if_else, while, break, return, goto, labelled, Stmts, no_stmts, stmt, is_scope, Local, Proc, DeclText, Module}
 use Rattle.bpl_model.specs.Numbering.{defs_of, const_sorts, global_sorts, local_sorts, variables_of}
 
 abbrev pub distinct : List ℕ → Bool
@@ -105,11 +105,15 @@ module _ (defs : List Def) where
 abbrev pub is_text : ℕ → DeclText → Bool
 is_text n d = list_all (λ k. nat_lt k n) d.leads && list_all (λ k. nat_lt k n) d.contract_leads
 
+-- over the definitions, the sorts of the constants, and those of the constants and globals
+abbrev pub is_typed_over : List Def → List Kind → List Kind → Module → Bool
+is_typed_over defs consts shared m =
+    bodies_sorted consts [] defs
+    && (list_all (is_formula defs consts) m.axioms
+    && (list_all (λ g. is_formula_or_none defs shared g.clause) m.globals
+    && (list_all (λ p. is_typed_proc defs m.procs (variables_of m p) p) m.procs
+    && list_all (is_text (length m.texts)) m.texts)))
+
 -- an axiom reads constants, and a global's clause constants and globals
 abbrev pub is_typed_module : Module → Bool
-is_typed_module m =
-    bodies_sorted (const_sorts m) [] (defs_of m)
-    && (list_all (is_formula (defs_of m) (const_sorts m)) m.axioms
-    && (list_all (λ g. is_formula_or_none (defs_of m) (const_sorts m ++ global_sorts m) g.clause) m.globals
-    && (list_all (λ p. is_typed_proc (defs_of m) m.procs (variables_of m p) p) m.procs
-    && list_all (is_text (length m.texts)) m.texts)))
+is_typed_module m = is_typed_over (defs_of m) (const_sorts m) (const_sorts m ++ global_sorts m) m

@@ -13,7 +13,8 @@ pub mod stmt;
 // The variables of procedures, by number.
 pub mod variables;
 
-// Whether procedures and statements are typed.
+// Whether a module is typed.
+pub mod typed;
 mod typed_procs;
 pub mod typed_stmts;
 pub mod typed_terms;
