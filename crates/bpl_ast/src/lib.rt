@@ -34,6 +34,6 @@ pub use decl::{Argument, Body, Decl, DeclBody, Program, Signature, Spec, SpecFor
 pub use expr::{Expr, ExprForm, Group, Index, Quantifier, Relation, Term, Trigger, Where};
 pub use name::{Name, TypeParams};
 pub use numeral::Numeral;
-pub use print_decls::{print, print_contract, print_lines};
+pub use print_decls::{print, print_contract, print_expression, print_lines};
 pub use stmt::{Branch, Invariant, Stmt, StmtForm, Target};
 pub use types::{Type, TypeForm};

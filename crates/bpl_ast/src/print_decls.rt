@@ -1,15 +1,18 @@
-// The lines of declarations, and the text of programs.
+// The lines of declarations, and the text of programs and of expressions.
 ghost use Rattle.std.specs.Prelude.{◌≡◌, [], ◌∷◌, ◌++◌, map, OnOk, IfOk};
 ghost use Rattle.bpl_ast.specs.ExprView.{each_groups_of, groups_of};
 ghost use Rattle.bpl_ast.specs.DeclView.{body_of};
+ghost use Rattle.bpl_ast.specs.Expression.{expression};
 ghost use Rattle.bpl_ast.specs.Glyph.{word, plain, line};
 ghost use Rattle.bpl_ast.specs.Lines.{spec_line, signature, ended, local_line, body_lines, optional_body, head_lines, last_lines, lines, contract, program_text};
 
 use crate::decl::{Body, Decl, DeclBody, Program, Signature, Spec, SpecForm};
-use crate::expr::Group;
+use crate::expr::{Expr, Group};
+use crate::line::Line;
 use crate::name::{Name, TypeParams};
 use crate::page::{Page, append_lines};
 use crate::print_actions::{print_claim, print_free, print_named};
+use crate::print_exprs::print_expr;
 use crate::print_heads::{
     print_const, print_declared, print_ended, print_function, print_result, print_type_name,
     print_variables,
@@ -220,4 +223,14 @@ pub fn print(alloc: Global, program: &Program) -> Result<Vec<u8>, AllocError>
         rest = tail;
     }
     Ok(out)
+}
+
+/// The canonical text of an expression that stands alone.
+#[tactic(auto, using(crate::proofs::WrittenLines::line_written))]
+pub fn print_expression(alloc: Global, found: &Expr) -> Result<Vec<u8>, AllocError>
+    ensures { IfOk result (λ v. v.items ≡ line 0 (expression found.now)) }
+{
+    let mut line = Line::begin(alloc, 0)?;
+    print_expr(&mut line, found)?;
+    Ok(line.into_text())
 }
