@@ -41,6 +41,3 @@ pub fn read(alloc: Global, text: &[u8]) -> Result<Option<Procedure>, ReadFault>
 pub fn spells_one_program()
     ensures { SpellsOneProgram }
 {}
-
-#[cfg(test)]
-mod tests;
