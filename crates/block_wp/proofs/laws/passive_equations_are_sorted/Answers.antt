@@ -1,0 +1,5 @@
+use Rattle.block_wp.proofs.laws.passive_equations_are_sorted.Goals as goal
+use Rattle.block_wp.proofs.SortedLaws.{passive_equations_are_sorted as law}
+
+pub returns : goal.returns
+returns c = law

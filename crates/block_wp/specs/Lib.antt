@@ -1,0 +1,4 @@
+pub mod Equations
+pub mod Numbers
+pub mod Broken
+pub mod Sorted
