@@ -12,6 +12,8 @@ mod formulas;
 mod goal;
 mod reached;
 mod successors;
+#[cfg(test)]
+mod tests;
 
 // What the equations keep.
 pub mod laws;
