@@ -82,14 +82,17 @@ fn early_return(rt: HostRuntime) -> Result<(), Fail> {
     assert!(rt; defs.len() == 6);
     // the last block, the one that leads there early, and the first
     let checked = Term::new(Node::Or(vec![in alloc; is_number(alloc, 5, 1)?]?));
-    assert!(rt; defs[0].body.equals(&checked));
+    let last = &defs[0];
+    assert!(rt; last.body.equals(&checked));
     let taken = not(alloc, var(0))?;
     let joins = not(alloc, equal(alloc, 5, var(2))?)?;
     let early = Term::new(Node::Or(vec![in alloc; taken, joins, call(alloc, 0)]?));
-    assert!(rt; defs[4].body.equals(&early));
+    let leads_early = &defs[4];
+    assert!(rt; leads_early.body.equals(&early));
     let begins = not(alloc, is_number(alloc, 2, 0)?)?;
     let both = Term::new(Node::And(vec![in alloc; call(alloc, 4), call(alloc, 2)]?));
     let first = Term::new(Node::Or(vec![in alloc; begins, both]?));
-    assert!(rt; defs[5].body.equals(&first));
+    let begin = &defs[5];
+    assert!(rt; begin.body.equals(&first));
     Ok(())
 }
