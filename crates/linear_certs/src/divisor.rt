@@ -7,8 +7,8 @@ use logic_core::sum::Linear;
 use logic_core::term::Term;
 use std::alloc::{AllocError, Global};
 
-// The greatest common divisor, by Euclid's algorithm; beside 0 it is the other number.
-fn gcd(a: u128, b: u128) -> u128
+/// The greatest common divisor, by Euclid's algorithm; beside 0 it is the other number.
+pub fn gcd(a: u128, b: u128) -> u128
     ensures { result ≡ gcd a b }
 {
     let mut divisor = a;

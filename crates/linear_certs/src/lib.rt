@@ -10,6 +10,7 @@ pub mod tightening;
 // What combined facts mean.
 pub mod laws;
 
+pub use divisor::gcd;
 pub use logic_core::fault::NormalFault as LinearFault;
 pub use logic_core::sum::Linear;
 pub use multiplier::may_multiply;

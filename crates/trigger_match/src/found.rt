@@ -2,7 +2,7 @@
 ghost use Rattle.std.specs.Prelude.{◌≡◌, ◌<◌, IfOk, Some, None, map, option_map, length, slice_set};
 ghost use Rattle.trigger_match.specs.Match.{each_found, tuple_of, variable};
 
-use logic_core::def::Signature;
+use logic_core::def::Def;
 use logic_core::sequence::Sequence;
 use logic_core::sort::Sort;
 use logic_core::term::Term;
@@ -57,13 +57,14 @@ fn with_term(found: Found, number: usize, term: Term) -> Found
 /// `kinds` are the sorts of `Bound(0)`, `Bound(1)` and so on.
 pub fn find_variable(
     alloc: Global,
-    sig: &Signature,
+    vars: &[Sort],
+    defs: &[Def],
     kinds: &[Sort],
     number: u64,
     term: &Term,
     found: Found,
 ) -> Result<Option<Found>, AllocError>
-    ensures { IfOk result (λ o. o ≡ variable sig.now.vars sig.now.defs kinds.now number term.now found) }
+    ensures { IfOk result (λ o. o ≡ variable vars.now defs.now kinds.now number term.now found) }
 {
     let number = number as usize;
     match found.as_slice().get(number) {
@@ -79,7 +80,7 @@ pub fn find_variable(
             let Some(kind) = kinds.get(number) else {
                 return Ok(None);
             };
-            if !term.has_sort(alloc, sig.vars(), sig.defs(), &[], kind)? {
+            if !term.has_sort(alloc, vars, defs, &[], kind)? {
                 return Ok(None);
             }
             Ok(Some(with_term(found, number, term.copy(alloc)?)))

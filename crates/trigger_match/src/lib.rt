@@ -12,4 +12,4 @@ mod trigger;
 // What the tuples are.
 pub mod laws;
 
-pub use trigger::matches;
+pub use trigger::{matches, matches_over};

@@ -4,7 +4,7 @@ ghost use Rattle.logic_core.specs.View.{trees_of};
 ghost use Rattle.trigger_match.specs.Match.{as_call, as_read, matched, matched_each, root};
 
 use crate::found::{Found, find_variable};
-use logic_core::def::Signature;
+use logic_core::def::Def;
 use logic_core::sort::Sort;
 use logic_core::term::{Node, Term};
 use std::alloc::{AllocError, Global};
@@ -44,22 +44,23 @@ fn as_call(term: &Term) -> Option<(u64, &[Term])>
 #[cycle(matched)]
 pub fn matched(
     alloc: Global,
-    sig: &Signature,
+    vars: &[Sort],
+    defs: &[Def],
     kinds: &[Sort],
     pattern: &Term,
     term: &Term,
     found: Found,
 ) -> Result<Option<Found>, AllocError>
-    ensures { IfOk result (λ o. o ≡ matched sig.now.vars sig.now.defs kinds.now false pattern.now term.now found) }
+    ensures { IfOk result (λ o. o ≡ matched vars.now defs.now kinds.now false pattern.now term.now found) }
 {
     match &pattern.node {
-        Node::Bound(number) => find_variable(alloc, sig, kinds, *number, term, found),
+        Node::Bound(number) => find_variable(alloc, vars, defs, kinds, *number, term, found),
         Node::Read(map, index) => {
             let Some((read, at)) = as_read(term) else {
                 return Ok(None);
             };
-            match matched(alloc, sig, kinds, root(map), root(read), found)? {
-                Some(found) => matched(alloc, sig, kinds, index, at, found),
+            match matched(alloc, vars, defs, kinds, root(map), root(read), found)? {
+                Some(found) => matched(alloc, vars, defs, kinds, index, at, found),
                 None => Ok(None),
             }
         }
@@ -70,7 +71,7 @@ pub fn matched(
             if *number != called {
                 return Ok(None);
             }
-            matched_each(alloc, sig, kinds, parts, terms, found)
+            matched_each(alloc, vars, defs, kinds, parts, terms, found)
         }
         _ => {
             if pattern.equals(term) {
@@ -86,17 +87,18 @@ pub fn matched(
 #[cycle(matched)]
 fn matched_each(
     alloc: Global,
-    sig: &Signature,
+    vars: &[Sort],
+    defs: &[Def],
     kinds: &[Sort],
     patterns: &[Term],
     terms: &[Term],
     mut found: Found,
 ) -> Result<Option<Found>, AllocError>
-    ensures { IfOk result (λ o. o ≡ matched_each sig.now.vars sig.now.defs kinds.now (trees_of patterns.now) (trees_of terms.now) found) }
+    ensures { IfOk result (λ o. o ≡ matched_each vars.now defs.now kinds.now (trees_of patterns.now) (trees_of terms.now) found) }
 {
     let shared = patterns.len().min(terms.len());
     for i in 0..shared {
-        match matched(alloc, sig, kinds, &patterns[i], &terms[i], found)? {
+        match matched(alloc, vars, defs, kinds, &patterns[i], &terms[i], found)? {
             Some(more) => found = more,
             None => return Ok(None),
         }

@@ -6,7 +6,7 @@ ghost use Rattle.trigger_match.specs.Match.{tuple_of, tuples, tuples_from};
 use crate::found::{Found, copy_found, nothing_found, tuple_of};
 use crate::pattern::matched;
 use logic_core::copy::copy_sorts;
-use logic_core::def::Signature;
+use logic_core::def::{Def, Signature};
 use logic_core::sort::Sort;
 use logic_core::term::Term;
 use std::alloc::{AllocError, Global};
@@ -24,22 +24,23 @@ fn push_tuple(alloc: Global, found: &Found, tuples: &mut Vec<Vec<Term>>) -> Resu
 // The tuples of the patterns that are left, each matched against the ground terms in order.
 fn push_tuples(
     alloc: Global,
-    sig: &Signature,
+    vars: &[Sort],
+    defs: &[Def],
     kinds: &[Sort],
     patterns: &[Term],
     ground: &[Term],
     found: &Found,
     tuples: &mut Vec<Vec<Term>>,
 ) -> Result<(), AllocError>
-    ensures { OnOk result (each_items tuples.new.items ≡ each_items tuples.old.items ++ tuples_from sig.now.vars sig.now.defs kinds.now ground.now (trees_of patterns.now) found.now) }
+    ensures { OnOk result (each_items tuples.new.items ≡ each_items tuples.old.items ++ tuples_from vars.now defs.now kinds.now ground.now (trees_of patterns.now) found.now) }
 {
     let Some((pattern, rest)) = patterns.split_first() else {
         return push_tuple(alloc, found, tuples);
     };
     for term in ground {
         let before = copy_found(alloc, found.as_slice())?;
-        if let Some(after) = matched(alloc, sig, kinds, pattern, term, before)? {
-            push_tuples(alloc, sig, kinds, rest, ground, &after, tuples)?;
+        if let Some(after) = matched(alloc, vars, defs, kinds, pattern, term, before)? {
+            push_tuples(alloc, vars, defs, kinds, rest, ground, &after, tuples)?;
         }
     }
     Ok(())
@@ -48,6 +49,25 @@ fn push_tuples(
 /// The tuples of terms for a quantifier's variables that a trigger of it finds, in the order of the
 /// positions at which its patterns, left to right, match the ground terms. `sorts` are the sorts of
 /// the variables, and a tuple has their order. A tuple that is found twice stands there twice.
+pub fn matches_over(
+    alloc: Global,
+    trigger: &[Term],
+    sorts: &[Sort],
+    vars: &[Sort],
+    defs: &[Def],
+    ground: &[Term],
+) -> Result<Vec<Vec<Term>>, AllocError>
+    ensures { IfOk result (λ v. each_items v.items ≡ tuples vars.now defs.now (trees_of trigger.now) sorts.now ground.now) }
+{
+    let mut kinds = copy_sorts(alloc, sorts)?;
+    kinds.reverse();
+    let found = nothing_found(alloc, sorts)?;
+    let mut tuples = Vec::new(alloc);
+    push_tuples(alloc, vars, defs, &kinds, trigger, ground, &found, &mut tuples)?;
+    Ok(tuples)
+}
+
+/// The tuples over this signature, as `matches_over` has them.
 pub fn matches(
     alloc: Global,
     trigger: &[Term],
@@ -57,10 +77,5 @@ pub fn matches(
 ) -> Result<Vec<Vec<Term>>, AllocError>
     ensures { IfOk result (λ v. each_items v.items ≡ tuples sig.now.vars sig.now.defs (trees_of trigger.now) sorts.now ground.now) }
 {
-    let mut kinds = copy_sorts(alloc, sorts)?;
-    kinds.reverse();
-    let found = nothing_found(alloc, sorts)?;
-    let mut tuples = Vec::new(alloc);
-    push_tuples(alloc, sig, &kinds, trigger, ground, &found, &mut tuples)?;
-    Ok(tuples)
+    matches_over(alloc, trigger, sorts, sig.vars(), sig.defs(), ground)
 }

@@ -15,25 +15,22 @@ matched-matched-requires t c =
 
 pub matched-returns-in-Some-2 : goal.matched-returns-in-Some-2
 matched-returns-in-Some-2 t c =
-    let sig = c.args.sig.now in
     let term : as_read c.args.term.now ≡ Some (c.in-Some.read.now, c.in-Some.at.now) = sym c.in-Some.ensures in
-    let roots : matched sig.vars sig.defs c.args.kinds.now false (root c.in-Read.map.value) (root c.in-Some.read.now) c.args.found ≡ Some c.in-Some-2.found = rw (← c.deref.ensures, ← c.root.ensures, ← c.root-in-Read.ensures) (sym c.in_ok-found-in-Read.ensures ∙ c.in-Some-2.is) in
+    let roots : matched c.args.vars.now c.args.defs.now c.args.kinds.now false (root c.in-Read.map.value) (root c.in-Some.read.now) c.args.found ≡ Some c.in-Some-2.found = rw (← c.deref.ensures, ← c.root.ensures, ← c.root-in-Read.ensures) (sym c.in_ok-found-in-Read.ensures ∙ c.in-Some-2.is) in
     let pattern : c.args.pattern.now ≡ read c.in-Read.map.value c.in-Read.index.value = rw (← c.pattern.view_is, c.in-Read.is) refl in
-    let e = reads_match sig.vars sig.defs c.args.kinds.now c.in-Read.map.value c.in-Read.index.value c.args.term.now c.in-Some.read.now c.in-Some.at.now c.args.found c.in-Some-2.found term roots in
+    let e = reads_match c.args.vars.now c.args.defs.now c.args.kinds.now c.in-Read.map.value c.in-Read.index.value c.args.term.now c.in-Some.read.now c.in-Some.at.now c.args.found c.in-Some-2.found term roots in
     rw (pattern, e, ← c.deref-in-Some-2.ensures) c.matched-in-Some-2.ensures
 
 pub matched-returns-in-None : goal.matched-returns-in-None
 matched-returns-in-None t c =
-    let sig = c.args.sig.now in
     let term : as_read c.args.term.now ≡ Some (c.in-Some.read.now, c.in-Some.at.now) = sym c.in-Some.ensures in
-    let roots : matched sig.vars sig.defs c.args.kinds.now false (root c.in-Read.map.value) (root c.in-Some.read.now) c.args.found ≡ None = rw (← c.deref.ensures, ← c.root.ensures, ← c.root-in-Read.ensures) (sym c.in_ok-found-in-Read.ensures ∙ c.in-None.is) in
+    let roots : matched c.args.vars.now c.args.defs.now c.args.kinds.now false (root c.in-Read.map.value) (root c.in-Some.read.now) c.args.found ≡ None = rw (← c.deref.ensures, ← c.root.ensures, ← c.root-in-Read.ensures) (sym c.in_ok-found-in-Read.ensures ∙ c.in-None.is) in
     let pattern : c.args.pattern.now ≡ read c.in-Read.map.value c.in-Read.index.value = rw (← c.pattern.view_is, c.in-Read.is) refl in
-    let e = reads_differ sig.vars sig.defs c.args.kinds.now c.in-Read.map.value c.in-Read.index.value c.args.term.now c.in-Some.read.now c.in-Some.at.now c.args.found term roots in
+    let e = reads_differ c.args.vars.now c.args.defs.now c.args.kinds.now c.in-Read.map.value c.in-Read.index.value c.args.term.now c.in-Some.read.now c.in-Some.at.now c.args.found term roots in
     rw pattern (sym e)
 
 pub matched_each-returns-else-patterns-terms : goal.matched_each-returns-else-patterns-terms
 matched_each-returns-else-patterns-terms t c =
-    let sig = c.args.sig.now in
-    let e = parts_end sig.vars sig.defs c.args.kinds.now c.args.patterns.now c.args.terms.now c.loop-i.i c.loop-i.found (omega arith) in
+    let e = parts_end c.args.vars.now c.args.defs.now c.args.kinds.now c.args.patterns.now c.args.terms.now c.loop-i.i c.loop-i.found (omega arith) in
     let apart : nat_eq (length c.args.patterns.now) (length c.args.terms.now) ≡ false = grind (arith, nat_tests) in
     sym (e ∙ ap (λ q. when q (Some c.loop-i.found)) apart) ∙ c.loop-i.invariant.same

@@ -12,6 +12,6 @@ decreases-matched_each l = 2 * trees_nodes (trees_of l.patterns.now) + 1
 
 abbrev pub invariant-matched_each-loop-i : goal.invariant-matched_each-loop-i
 invariant-matched_each-loop-i l = record {
-  same : matched_each l.sig.vars l.sig.defs l.kinds (trees_of (drop l.i l.patterns)) (trees_of (drop l.i l.terms)) l.found ≡ matched_each l.sig.vars l.sig.defs l.kinds (trees_of l.patterns) (trees_of l.terms) l.fn.found;
+  same : matched_each l.vars l.defs l.kinds (trees_of (drop l.i l.patterns)) (trees_of (drop l.i l.terms)) l.found ≡ matched_each l.vars l.defs l.kinds (trees_of l.patterns) (trees_of l.terms) l.fn.found;
   less : trees_nodes (trees_of (drop l.i l.patterns)) ≤ trees_nodes (trees_of l.patterns);
 }
