@@ -3,3 +3,4 @@ pub mod Added
 pub mod ContextCodes
 pub mod ReadOf
 pub mod Checked
+pub mod Words

@@ -1,5 +1,6 @@
 // Why a proof is refused, and why a rule gives nothing.
-ghost use Rattle.std.specs.Prelude.{◌≡◌};
+ghost use Rattle.std.specs.Prelude.{◌≡◌, Some};
+ghost use Rattle.proof_check.specs.Words.{fault_text};
 
 use logic_core::fault::NormalFault;
 use proof_core::rule::Rule;
@@ -18,6 +19,8 @@ pub enum CheckFault {
 }
 
 impl fmt::Display for CheckFault {
+    ghost output = { λ e. Some (fault_text e) };
+
     fn fmt<W: fmt::Write>(&self, f: &mut fmt::Formatter<W>) -> fmt::Result {
         match self {
             CheckFault::Memory => write!(f, "out of memory"),
