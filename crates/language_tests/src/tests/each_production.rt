@@ -1,22 +1,10 @@
 // For each production, and each of its alternatives, a text that is read and one that is refused.
-use super::programs::{declared, is_refused};
+use super::{declared, is_refused};
 use bpl_parse::Fault::Syntax;
-use std::alloc::Global;
-use std::process::Abort;
-use std::test::Fail;
 
 /// A production, a text that it takes part in, a text that it doesn't spell, and the byte at which
 /// that shows.
 type Productions<'a> = &'a [(&'a str, &'a [u8], &'a [u8], u32)];
-
-fn tell_apart(rt: &impl Abort, alloc: Global, rows: Productions) -> Result<(), Fail> {
-    for (production, good, bad, at) in rows {
-        let read = declared(rt, alloc, good);
-        assert!(rt; read.is_ok(), "{production}: {good:?}");
-        is_refused(rt, alloc, bad, Syntax { at: *at })?;
-    }
-    Ok(())
-}
 
 const DECLARATIONS: Productions = &[
     (
@@ -133,11 +121,6 @@ const DECLARATIONS: Productions = &[
     ),
 ];
 
-#[test]
-fn declarations(rt: HostRuntime) -> Result<(), Fail> {
-    tell_apart(&rt, rt.alloc(), DECLARATIONS)
-}
-
 const STATEMENTS: Productions = &[
     (
         "Block",
@@ -243,11 +226,6 @@ const STATEMENTS: Productions = &[
     ),
 ];
 
-#[test]
-fn statements(rt: HostRuntime) -> Result<(), Fail> {
-    tell_apart(&rt, rt.alloc(), STATEMENTS)
-}
-
 const TYPES: Productions = &[
     (
         "Type, word",
@@ -293,11 +271,6 @@ const TYPES: Productions = &[
         11,
     ),
 ];
-
-#[test]
-fn types_and_attributes(rt: HostRuntime) -> Result<(), Fail> {
-    tell_apart(&rt, rt.alloc(), TYPES)
-}
 
 const EXPRESSIONS: Productions = &[
     ("E", b"axiom a <==> b <==> c;", b"axiom a <==> <==> b;", 13),
@@ -357,6 +330,12 @@ const EXPRESSIONS: Productions = &[
 ];
 
 #[test]
-fn expressions(rt: HostRuntime) -> Result<(), Fail> {
-    tell_apart(&rt, rt.alloc(), EXPRESSIONS)
+fn a_text_for_and_against_each_production(rt: HostRuntime) {
+    for rows in [DECLARATIONS, STATEMENTS, TYPES, EXPRESSIONS] {
+        for (production, good, bad, at) in rows {
+            let read = declared(&rt, rt.alloc(), good);
+            assert!(&rt; read.is_ok(), "{production}: {good:?}");
+            is_refused(&rt, rt.alloc(), bad, Syntax { at: *at });
+        }
+    }
 }

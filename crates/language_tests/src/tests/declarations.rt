@@ -1,5 +1,5 @@
 // The names and bytes of declarations, and the places in them.
-use super::programs::declared;
+use super::declared;
 use bpl_ast::DeclBody;
 use bpl_parse::{Fault, parse};
 use std::test::Fail;
@@ -16,27 +16,16 @@ const DECLARED: &[(&str, &[u8], u32, u32)] = &[
     ("T", b"type T;", 74, 81),
 ];
 
+/// Places count from the declaration's first byte.
 #[test]
-fn names_and_bytes(rt: HostRuntime) -> Result<(), Fail> {
-    let Ok(decls) = declared(&rt, rt.alloc(), TEXT) else {
-        panic!(&rt; "the text is refused");
-    };
+fn names_bytes_and_places(rt: HostRuntime) -> Result<(), Fail> {
+    let decls = declared(&rt, rt.alloc(), TEXT)?;
     assert_eq!(&rt; decls.len(), DECLARED.len());
     for (decl, (name, source, start, end)) in decls.iter().zip(DECLARED) {
         assert_eq!(&rt; decl.name.as_str(), *name);
         assert_eq!(&rt; decl.source.as_slice(), *source);
-        assert_eq!(&rt; decl.span.start, *start);
-        assert_eq!(&rt; decl.span.end, *end);
+        assert_eq!(&rt; (decl.span.start, decl.span.end), (*start, *end));
     }
-    Ok(())
-}
-
-/// Places count from the declaration's first byte.
-#[test]
-fn places(rt: HostRuntime) -> Result<(), Fail> {
-    let Ok(decls) = declared(&rt, rt.alloc(), TEXT) else {
-        panic!(&rt; "the text is refused");
-    };
     let place = match decls.get(2) {
         Some(decl) => match &decl.body {
             DeclBody::Axiom(formula) => (formula.at.line, formula.at.col),
@@ -49,11 +38,9 @@ fn places(rt: HostRuntime) -> Result<(), Fail> {
 }
 
 #[test]
-fn programs(rt: HostRuntime) -> Result<(), Fail> {
-    match parse(rt.alloc(), b"const a: int; const b: int;") {
-        Ok(program) => assert_eq!(&rt; program.decls.len(), 2),
-        Err(fault) => panic!(&rt; "{fault}"),
-    }
+fn programs_are_read_or_have_a_fault(rt: HostRuntime) -> Result<(), Fail> {
+    let program = parse(rt.alloc(), b"const a: int; const b: int;")?;
+    assert_eq!(&rt; program.decls.len(), 2);
     match parse(rt.alloc(), b"const a: int; b") {
         Ok(_) => panic!(&rt; "the text is read"),
         Err(fault) => assert_eq!(&rt; fault, Fault::Syntax { at: 14 }),
