@@ -16,13 +16,19 @@ impl Spec {
     {
         let at = self.at;
         match &self.form {
-            SpecForm::Requires(free, x) => Ok(Spec {
+            SpecForm::Requires { free, formula } => Ok(Spec {
                 at,
-                form: SpecForm::Requires(*free, x.copy(alloc)?),
+                form: SpecForm::Requires {
+                    free: *free,
+                    formula: formula.copy(alloc)?,
+                },
             }),
-            SpecForm::Ensures(free, x) => Ok(Spec {
+            SpecForm::Ensures { free, formula } => Ok(Spec {
                 at,
-                form: SpecForm::Ensures(*free, x.copy(alloc)?),
+                form: SpecForm::Ensures {
+                    free: *free,
+                    formula: formula.copy(alloc)?,
+                },
             }),
             SpecForm::Modifies(names) => Ok(Spec {
                 at,
@@ -114,39 +120,54 @@ impl DeclBody {
         ensures { IfOk result (λ b. body_of b ≡ body_of self.now) }
     {
         match self {
-            DeclBody::Const(unique, names, of) => Ok(DeclBody::Const(
-                *unique,
-                copy_names(alloc, names)?,
-                of.copy(alloc)?,
-            )),
-            DeclBody::Function(name, params, arguments, of, body) => Ok(DeclBody::Function(
-                name.copy(alloc)?,
-                copy_type_params(alloc, params)?,
-                copy_arguments(alloc, arguments)?,
-                of.copy(alloc)?,
-                copy_optional_expr(alloc, body)?,
-            )),
+            DeclBody::Const { unique, names, of } => Ok(DeclBody::Const {
+                unique: *unique,
+                names: copy_names(alloc, names)?,
+                of: of.copy(alloc)?,
+            }),
+            DeclBody::Function {
+                name,
+                params,
+                arguments,
+                of,
+                value,
+            } => Ok(DeclBody::Function {
+                name: name.copy(alloc)?,
+                params: copy_type_params(alloc, params)?,
+                arguments: copy_arguments(alloc, arguments)?,
+                of: of.copy(alloc)?,
+                value: copy_optional_expr(alloc, value)?,
+            }),
             DeclBody::Axiom(x) => Ok(DeclBody::Axiom(x.copy(alloc)?)),
             DeclBody::Var(groups) => Ok(DeclBody::Var(copy_groups(alloc, groups)?)),
-            DeclBody::TypeName(name, of) => Ok(DeclBody::TypeName(
-                name.copy(alloc)?,
-                copy_optional_type(alloc, of)?,
-            )),
-            DeclBody::Procedure(name, params, signature, clauses, body) => Ok(DeclBody::Procedure(
-                name.copy(alloc)?,
-                copy_type_params(alloc, params)?,
-                signature.copy(alloc)?,
-                copy_specs(alloc, clauses)?,
-                copy_optional_body(alloc, body)?,
-            )),
-            DeclBody::Implementation(name, params, signature, body) => {
-                Ok(DeclBody::Implementation(
-                    name.copy(alloc)?,
-                    copy_type_params(alloc, params)?,
-                    signature.copy(alloc)?,
-                    body.copy(alloc)?,
-                ))
-            }
+            DeclBody::TypeName { name, synonym } => Ok(DeclBody::TypeName {
+                name: name.copy(alloc)?,
+                synonym: copy_optional_type(alloc, synonym)?,
+            }),
+            DeclBody::Procedure {
+                name,
+                params,
+                signature,
+                specs,
+                body,
+            } => Ok(DeclBody::Procedure {
+                name: name.copy(alloc)?,
+                params: copy_type_params(alloc, params)?,
+                signature: signature.copy(alloc)?,
+                specs: copy_specs(alloc, specs)?,
+                body: copy_optional_body(alloc, body)?,
+            }),
+            DeclBody::Implementation {
+                name,
+                params,
+                signature,
+                body,
+            } => Ok(DeclBody::Implementation {
+                name: name.copy(alloc)?,
+                params: copy_type_params(alloc, params)?,
+                signature: signature.copy(alloc)?,
+                body: body.copy(alloc)?,
+            }),
         }
     }
 }

@@ -18,56 +18,85 @@ impl Expr {
             ExprForm::Number(n) => { Ok(Expr::new(at, ExprForm::Number(Numeral::new(n.value())))) }
             ExprForm::Truth(b) => Ok(Expr::new(at, ExprForm::Truth(*b))),
             ExprForm::Variable(name) => Ok(Expr::new(at, ExprForm::Variable(name.copy(alloc)?))),
-            ExprForm::Apply(name, xs) => Ok(Expr::new(
+            ExprForm::Apply {
+                function,
+                arguments,
+            } => Ok(Expr::new(
                 at,
-                ExprForm::Apply(name.copy(alloc)?, copy_exprs(alloc, xs)?),
+                ExprForm::Apply {
+                    function: function.copy(alloc)?,
+                    arguments: copy_exprs(alloc, arguments)?,
+                },
             )),
-            ExprForm::Old(word, x) => {
-                Ok(Expr::new(at, ExprForm::Old(*word, copy_boxed_expr(alloc, x)?)))
-            }
-            ExprForm::If(c, x, y) => Ok(Expr::new(
+            ExprForm::Old { at: word, value } => Ok(Expr::new(
                 at,
-                ExprForm::If(
-                    copy_boxed_expr(alloc, c)?,
-                    copy_boxed_expr(alloc, x)?,
-                    copy_boxed_expr(alloc, y)?,
-                ),
+                ExprForm::Old {
+                    at: *word,
+                    value: copy_boxed_expr(alloc, value)?,
+                },
             )),
-            ExprForm::Quantified(quantifier, open, params, groups, triggers, body) => {
-                Ok(Expr::new(
-                    at,
-                    ExprForm::Quantified(
-                        *quantifier,
-                        *open,
-                        copy_type_params(alloc, params)?,
-                        copy_groups(alloc, groups)?,
-                        copy_triggers(alloc, triggers)?,
-                        copy_boxed_expr(alloc, body)?,
-                    ),
-                ))
-            }
+            ExprForm::If {
+                condition,
+                then_value,
+                else_value,
+            } => Ok(Expr::new(
+                at,
+                ExprForm::If {
+                    condition: copy_boxed_expr(alloc, condition)?,
+                    then_value: copy_boxed_expr(alloc, then_value)?,
+                    else_value: copy_boxed_expr(alloc, else_value)?,
+                },
+            )),
+            ExprForm::Quantified {
+                quantifier,
+                at: open,
+                params,
+                groups,
+                triggers,
+                body,
+            } => Ok(Expr::new(
+                at,
+                ExprForm::Quantified {
+                    quantifier: *quantifier,
+                    at: *open,
+                    params: copy_type_params(alloc, params)?,
+                    groups: copy_groups(alloc, groups)?,
+                    triggers: copy_triggers(alloc, triggers)?,
+                    body: copy_boxed_expr(alloc, body)?,
+                },
+            )),
             ExprForm::Iff(xs) => Ok(Expr::new(at, ExprForm::Iff(copy_exprs(alloc, xs)?))),
             ExprForm::Implies(xs) => Ok(Expr::new(at, ExprForm::Implies(copy_exprs(alloc, xs)?))),
             ExprForm::And(xs) => Ok(Expr::new(at, ExprForm::And(copy_exprs(alloc, xs)?))),
             ExprForm::Or(xs) => Ok(Expr::new(at, ExprForm::Or(copy_exprs(alloc, xs)?))),
-            ExprForm::Compared(relation, x, y) => Ok(Expr::new(
+            ExprForm::Compared {
+                relation,
+                left,
+                right,
+            } => Ok(Expr::new(
                 at,
-                ExprForm::Compared(
-                    *relation,
-                    copy_boxed_expr(alloc, x)?,
-                    copy_boxed_expr(alloc, y)?,
-                ),
+                ExprForm::Compared {
+                    relation: *relation,
+                    left: copy_boxed_expr(alloc, left)?,
+                    right: copy_boxed_expr(alloc, right)?,
+                },
             )),
-            ExprForm::Sum(x, terms) => Ok(Expr::new(
+            ExprForm::Sum { first, others } => Ok(Expr::new(
                 at,
-                ExprForm::Sum(copy_boxed_expr(alloc, x)?, copy_terms(alloc, terms)?),
+                ExprForm::Sum {
+                    first: copy_boxed_expr(alloc, first)?,
+                    others: copy_terms(alloc, others)?,
+                },
             )),
             ExprForm::Product(xs) => Ok(Expr::new(at, ExprForm::Product(copy_exprs(alloc, xs)?))),
             ExprForm::Not(x) => Ok(Expr::new(at, ExprForm::Not(copy_boxed_expr(alloc, x)?))),
             ExprForm::Minus(x) => Ok(Expr::new(at, ExprForm::Minus(copy_boxed_expr(alloc, x)?))),
-            ExprForm::Indexed(x, indices) => Ok(Expr::new(
+            ExprForm::Indexed { map, indices } => Ok(Expr::new(
                 at,
-                ExprForm::Indexed(copy_boxed_expr(alloc, x)?, copy_indices(alloc, indices)?),
+                ExprForm::Indexed {
+                    map: copy_boxed_expr(alloc, map)?,
+                    indices: copy_indices(alloc, indices)?,
+                },
             )),
         }
     }

@@ -13,13 +13,13 @@ pub struct Spec {
     pub form: SpecForm,
 }
 
-/// The forms of clauses; the truth value says whether the clause is free.
+/// The forms of clauses.
 #[derive(Drop)]
 pub enum SpecForm {
     /// What holds where the procedure is called.
-    Requires(bool, Expr),
+    Requires { free: bool, formula: Expr },
     /// What holds where it ends.
-    Ensures(bool, Expr),
+    Ensures { free: bool, formula: Expr },
     /// The global variables that it may change.
     Modifies(Vec<Name>),
 }
@@ -49,19 +49,43 @@ pub struct Argument {
 #[derive(Drop)]
 pub enum DeclBody {
     /// Constants, with the place of the word `unique`.
-    Const(Option<Place>, Vec<Name>, Type),
+    Const {
+        unique: Option<Place>,
+        names: Vec<Name>,
+        of: Type,
+    },
     /// A function, its parameters, the type of its values, and the body that defines it.
-    Function(Name, Option<TypeParams>, Vec<Argument>, Type, Option<Expr>),
+    Function {
+        name: Name,
+        params: Option<TypeParams>,
+        arguments: Vec<Argument>,
+        of: Type,
+        value: Option<Expr>,
+    },
     /// A formula that is taken to hold.
     Axiom(Expr),
     /// Global variables.
     Var(Vec<Group>),
     /// A user type, or a synonym.
-    TypeName(Name, Option<Type>),
+    TypeName {
+        name: Name,
+        synonym: Option<Type>,
+    },
     /// A procedure, its contract, and its body where it stands there.
-    Procedure(Name, Option<TypeParams>, Signature, Vec<Spec>, Option<Body>),
+    Procedure {
+        name: Name,
+        params: Option<TypeParams>,
+        signature: Signature,
+        specs: Vec<Spec>,
+        body: Option<Body>,
+    },
     /// The body of a procedure, declared apart.
-    Implementation(Name, Option<TypeParams>, Signature, Body),
+    Implementation {
+        name: Name,
+        params: Option<TypeParams>,
+        signature: Signature,
+        body: Body,
+    },
 }
 
 /// A declaration. Its name is that of the first thing that it declares, `@k` for the k-th axiom,

@@ -29,13 +29,30 @@ pub enum ExprForm {
     /// A constant, variable or parameter.
     Variable(Name),
     /// A function applied to its arguments.
-    Apply(Name, Vec<Expr>),
+    Apply {
+        function: Name,
+        arguments: Vec<Expr>,
+    },
     /// `old` of an expression, with the place of the word.
-    Old(Place, Box<Expr>),
-    /// `if` the first `then` the second `else` the third.
-    If(Box<Expr>, Box<Expr>, Box<Expr>),
-    /// A quantifier, with the place of its parenthesis, its variables, triggers and body.
-    Quantified(Quantifier, Place, Option<TypeParams>, Vec<Group>, Vec<Trigger>, Box<Expr>),
+    Old {
+        at: Place,
+        value: Box<Expr>,
+    },
+    /// `if` the condition `then` one value `else` the other.
+    If {
+        condition: Box<Expr>,
+        then_value: Box<Expr>,
+        else_value: Box<Expr>,
+    },
+    /// A quantifier, with the place of its parenthesis.
+    Quantified {
+        quantifier: Quantifier,
+        at: Place,
+        params: Option<TypeParams>,
+        groups: Vec<Group>,
+        triggers: Vec<Trigger>,
+        body: Box<Expr>,
+    },
     /// A run of `<==>`.
     Iff(Vec<Expr>),
     /// A run of `==>`, which nests to the right.
@@ -45,9 +62,16 @@ pub enum ExprForm {
     /// A run of `||`.
     Or(Vec<Expr>),
     /// Two sides compared.
-    Compared(Relation, Box<Expr>, Box<Expr>),
+    Compared {
+        relation: Relation,
+        left: Box<Expr>,
+        right: Box<Expr>,
+    },
     /// The first part of a sum, then the others with their signs.
-    Sum(Box<Expr>, Vec<Term>),
+    Sum {
+        first: Box<Expr>,
+        others: Vec<Term>,
+    },
     /// A run of `*`.
     Product(Vec<Expr>),
     /// `!` of an expression.
@@ -55,7 +79,10 @@ pub enum ExprForm {
     /// `-` of an expression.
     Minus(Box<Expr>),
     /// A map, then each index that is read or written.
-    Indexed(Box<Expr>, Vec<Index>),
+    Indexed {
+        map: Box<Expr>,
+        indices: Vec<Index>,
+    },
 }
 
 /// `==`, `!=`, `<`, `<=`, `>` and `>=`.

@@ -14,18 +14,18 @@ pub fn level(form: &ExprForm) -> usize
         ExprForm::Iff(_) => 0,
         ExprForm::Implies(_) => 1,
         ExprForm::And(_) | ExprForm::Or(_) => 2,
-        ExprForm::Compared(_, _, _) => 3,
-        ExprForm::Sum(_, _) => 4,
+        ExprForm::Compared { .. } => 3,
+        ExprForm::Sum { .. } => 4,
         ExprForm::Product(_) => 5,
         ExprForm::Not(_) | ExprForm::Minus(_) => 6,
-        ExprForm::Indexed(_, _) => 7,
+        ExprForm::Indexed { .. } => 7,
         ExprForm::Number(_)
         | ExprForm::Truth(_)
         | ExprForm::Variable(_)
-        | ExprForm::Apply(_, _)
-        | ExprForm::Old(_, _)
-        | ExprForm::If(_, _, _)
-        | ExprForm::Quantified(_, _, _, _, _, _) => 8,
+        | ExprForm::Apply { .. }
+        | ExprForm::Old { .. }
+        | ExprForm::If { .. }
+        | ExprForm::Quantified { .. } => 8,
     }
 }
 
@@ -58,19 +58,19 @@ fn chain_of(form: &ExprForm) -> Chain
         ExprForm::Implies(xs) => last_chain(2, xs),
         ExprForm::And(_) => Chain::AndChain,
         ExprForm::Or(_) => Chain::OrChain,
-        ExprForm::Compared(_, _, _)
-        | ExprForm::Sum(_, _)
+        ExprForm::Compared { .. }
+        | ExprForm::Sum { .. }
         | ExprForm::Product(_)
         | ExprForm::Not(_)
         | ExprForm::Minus(_)
-        | ExprForm::Indexed(_, _)
+        | ExprForm::Indexed { .. }
         | ExprForm::Number(_)
         | ExprForm::Truth(_)
         | ExprForm::Variable(_)
-        | ExprForm::Apply(_, _)
-        | ExprForm::Old(_, _)
-        | ExprForm::If(_, _, _)
-        | ExprForm::Quantified(_, _, _, _, _, _) => Chain::NoChain,
+        | ExprForm::Apply { .. }
+        | ExprForm::Old { .. }
+        | ExprForm::If { .. }
+        | ExprForm::Quantified { .. } => Chain::NoChain,
     }
 }
 
@@ -107,19 +107,19 @@ fn compared(form: &ExprForm) -> bool
         ExprForm::Iff(xs) => last_compared(1, xs),
         ExprForm::Implies(xs) => last_compared(2, xs),
         ExprForm::And(xs) | ExprForm::Or(xs) => last_compared(3, xs),
-        ExprForm::Compared(_, _, _) => true,
-        ExprForm::Sum(_, _)
+        ExprForm::Compared { .. } => true,
+        ExprForm::Sum { .. }
         | ExprForm::Product(_)
         | ExprForm::Not(_)
         | ExprForm::Minus(_)
-        | ExprForm::Indexed(_, _)
+        | ExprForm::Indexed { .. }
         | ExprForm::Number(_)
         | ExprForm::Truth(_)
         | ExprForm::Variable(_)
-        | ExprForm::Apply(_, _)
-        | ExprForm::Old(_, _)
-        | ExprForm::If(_, _, _)
-        | ExprForm::Quantified(_, _, _, _, _, _) => false,
+        | ExprForm::Apply { .. }
+        | ExprForm::Old { .. }
+        | ExprForm::If { .. }
+        | ExprForm::Quantified { .. } => false,
     }
 }
 
@@ -153,21 +153,21 @@ fn if_takes(sign: Sign, form: &ExprForm) -> bool
     ensures { result ≡ if_takes sign (node_of form.now) }
 {
     match form {
-        ExprForm::If(_, _, y) => takes_in(sign, y),
+        ExprForm::If { else_value: y, .. } => takes_in(sign, y),
         ExprForm::Iff(xs) => last_takes(sign, 1, xs),
         ExprForm::Implies(xs) => last_takes(sign, 2, xs),
         ExprForm::And(xs) | ExprForm::Or(xs) => last_takes(sign, 3, xs),
-        ExprForm::Compared(_, _, y) => operand_takes(sign, 4, y),
-        ExprForm::Sum(_, terms) => terms_take(sign, terms),
+        ExprForm::Compared { right: y, .. } => operand_takes(sign, 4, y),
+        ExprForm::Sum { others: terms, .. } => terms_take(sign, terms),
         ExprForm::Product(xs) => last_takes(sign, 6, xs),
         ExprForm::Not(x) | ExprForm::Minus(x) => operand_takes(sign, 6, x),
-        ExprForm::Indexed(_, _)
+        ExprForm::Indexed { .. }
         | ExprForm::Number(_)
         | ExprForm::Truth(_)
         | ExprForm::Variable(_)
-        | ExprForm::Apply(_, _)
-        | ExprForm::Old(_, _)
-        | ExprForm::Quantified(_, _, _, _, _, _) => false,
+        | ExprForm::Apply { .. }
+        | ExprForm::Old { .. }
+        | ExprForm::Quantified { .. } => false,
     }
 }
 
@@ -231,23 +231,23 @@ fn is_caught(behind: Option<Sign>, form: &ExprForm) -> bool
 {
     match behind {
         Some(sign) => match form {
-            ExprForm::If(_, _, y) => takes_in(sign, y),
+            ExprForm::If { else_value: y, .. } => takes_in(sign, y),
             ExprForm::Iff(_)
             | ExprForm::Implies(_)
             | ExprForm::And(_)
             | ExprForm::Or(_)
-            | ExprForm::Compared(_, _, _)
-            | ExprForm::Sum(_, _)
+            | ExprForm::Compared { .. }
+            | ExprForm::Sum { .. }
             | ExprForm::Product(_)
             | ExprForm::Not(_)
             | ExprForm::Minus(_)
-            | ExprForm::Indexed(_, _)
+            | ExprForm::Indexed { .. }
             | ExprForm::Number(_)
             | ExprForm::Truth(_)
             | ExprForm::Variable(_)
-            | ExprForm::Apply(_, _)
-            | ExprForm::Old(_, _)
-            | ExprForm::Quantified(_, _, _, _, _, _) => false,
+            | ExprForm::Apply { .. }
+            | ExprForm::Old { .. }
+            | ExprForm::Quantified { .. } => false,
         },
         None => false,
     }

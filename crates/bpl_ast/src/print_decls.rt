@@ -26,13 +26,13 @@ fn print_spec(page: &mut Page, spec: &Spec) -> Result<(), AllocError>
     ensures { OnOk result (page.new ≡ page.old ++ spec_line spec.now ∷ []) }
 {
     match &spec.form {
-        SpecForm::Requires(free, x) => {
+        SpecForm::Requires { free, formula: x } => {
             let mut line = page.begin(2)?;
             print_free(&mut line, *free)?;
             print_claim(&mut line, b"requires", x)?;
             page.end(line)
         }
-        SpecForm::Ensures(free, x) => {
+        SpecForm::Ensures { free, formula: x } => {
             let mut line = page.begin(2)?;
             print_free(&mut line, *free)?;
             print_claim(&mut line, b"ensures", x)?;
@@ -128,12 +128,18 @@ fn print_head(page: &mut Page, body: &DeclBody) -> Result<(), AllocError>
     ensures { OnOk result (page.new ≡ page.old ++ head_lines (body_of body.now)) }
 {
     match body {
-        DeclBody::Const(unique, names, of) => {
+        DeclBody::Const { unique, names, of } => {
             let mut line = page.begin(0)?;
             print_const(&mut line, unique, names, of)?;
             page.end(line)
         }
-        DeclBody::Function(name, params, arguments, of, value) => {
+        DeclBody::Function {
+            name,
+            params,
+            arguments,
+            of,
+            value,
+        } => {
             let mut line = page.begin(0)?;
             print_function(&mut line, name, params, arguments)?;
             print_result(&mut line, of, value)?;
@@ -149,18 +155,27 @@ fn print_head(page: &mut Page, body: &DeclBody) -> Result<(), AllocError>
             print_variables(&mut line, groups)?;
             page.end(line)
         }
-        DeclBody::TypeName(name, of) => {
+        DeclBody::TypeName { name, synonym: of } => {
             let mut line = page.begin(0)?;
             print_type_name(&mut line, name, of)?;
             page.end(line)
         }
-        DeclBody::Procedure(name, params, signature, specs, body) => {
+        DeclBody::Procedure {
+            name,
+            params,
+            signature,
+            specs,
+            body,
+        } => {
             print_procedure(page, name, params, signature, body)?;
             print_specs(page, specs)
         }
-        DeclBody::Implementation(name, params, signature, _) => {
-            print_implementation(page, name, params, signature)
-        }
+        DeclBody::Implementation {
+            name,
+            params,
+            signature,
+            ..
+        } => { print_implementation(page, name, params, signature) }
     }
 }
 
@@ -179,13 +194,13 @@ fn print_tail(page: &mut Page, body: &DeclBody) -> Result<(), AllocError>
     ensures { OnOk result (page.new ≡ page.old ++ last_lines (body_of body.now)) }
 {
     match body {
-        DeclBody::Procedure(_, _, _, _, body) => print_optional_body(page, body),
-        DeclBody::Implementation(_, _, _, body) => print_body(page, body),
-        DeclBody::Const(_, _, _)
-        | DeclBody::Function(_, _, _, _, _)
+        DeclBody::Procedure { body, .. } => print_optional_body(page, body),
+        DeclBody::Implementation { body, .. } => print_body(page, body),
+        DeclBody::Const { .. }
+        | DeclBody::Function { .. }
         | DeclBody::Axiom(_)
         | DeclBody::Var(_)
-        | DeclBody::TypeName(_, _) => Ok(()),
+        | DeclBody::TypeName { .. } => Ok(()),
     }
 }
 

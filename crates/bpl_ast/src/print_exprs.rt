@@ -102,19 +102,26 @@ fn print_form(line: &mut Line, next: Option<Sign>, form: &ExprForm) -> Result<()
         ExprForm::Number(n) => line.number(n),
         ExprForm::Truth(truth) => print_truth(line, *truth),
         ExprForm::Variable(name) => line.word(name.text.as_bytes()),
-        ExprForm::Apply(name, xs) => {
+        ExprForm::Apply {
+            function: name,
+            arguments: xs,
+        } => {
             line.opening(name.text.as_bytes())?;
             line.opening(b"(")?;
             print_listed(line, xs)?;
             line.closing(b")")
         }
-        ExprForm::Old(_, x) => {
+        ExprForm::Old { value: x, .. } => {
             line.word(b"old")?;
             line.opening(b"(")?;
             print_expr(line, x)?;
             line.closing(b")")
         }
-        ExprForm::If(c, x, y) => {
+        ExprForm::If {
+            condition: c,
+            then_value: x,
+            else_value: y,
+        } => {
             line.word(b"if")?;
             print_expr(line, c)?;
             line.word(b"then")?;
@@ -122,7 +129,14 @@ fn print_form(line: &mut Line, next: Option<Sign>, form: &ExprForm) -> Result<()
             line.word(b"else")?;
             print_operand(line, 0, next, y)
         }
-        ExprForm::Quantified(word, _, params, groups, triggers, body) => {
+        ExprForm::Quantified {
+            quantifier: word,
+            params,
+            groups,
+            triggers,
+            body,
+            ..
+        } => {
             line.opening(b"(")?;
             print_quantifier(line, *word)?;
             print_params(line, params)?;
@@ -136,12 +150,19 @@ fn print_form(line: &mut Line, next: Option<Sign>, form: &ExprForm) -> Result<()
         ExprForm::Implies(xs) => print_run(line, 2, Sign::ImpliesSign, b"==>", next, xs),
         ExprForm::And(xs) => print_run(line, 3, Sign::AndSign, b"&&", next, xs),
         ExprForm::Or(xs) => print_run(line, 3, Sign::OrSign, b"||", next, xs),
-        ExprForm::Compared(sign, x, y) => {
+        ExprForm::Compared {
+            relation: sign,
+            left: x,
+            right: y,
+        } => {
             print_operand(line, 4, Some(Sign::RelationSign), x)?;
             print_relation(line, *sign)?;
             print_operand(line, 4, next, y)
         }
-        ExprForm::Sum(x, terms) => {
+        ExprForm::Sum {
+            first: x,
+            others: terms,
+        } => {
             print_operand(line, 5, Some(Sign::TermSign), x)?;
             print_terms(line, next, terms)
         }
@@ -154,7 +175,7 @@ fn print_form(line: &mut Line, next: Option<Sign>, form: &ExprForm) -> Result<()
             line.opening(b"-")?;
             print_operand(line, 6, next, x)
         }
-        ExprForm::Indexed(x, indices) => {
+        ExprForm::Indexed { map: x, indices } => {
             print_operand(line, 8, Some(Sign::IndexSign), x)?;
             print_indices(line, indices)
         }

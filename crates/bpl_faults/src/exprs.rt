@@ -55,18 +55,32 @@ impl<'s, 'a> Scope<'s, 'a> {
             ExprForm::Number(_) => Ok(Some(Shape::int())),
             ExprForm::Truth(_) => Ok(Some(Shape::boolean())),
             ExprForm::Variable(name) => self.variable(name, faults),
-            ExprForm::Apply(name, xs) => self.application(alloc, is_formula, name, xs, faults),
-            ExprForm::Old(word, x) => {
-                note_old(faults, self.part, *word);
-                self.expr(alloc, false, x, faults)
+            ExprForm::Apply {
+                function,
+                arguments,
+            } => self.application(alloc, is_formula, function, arguments, faults),
+            ExprForm::Old { at, value } => {
+                note_old(faults, self.part, *at);
+                self.expr(alloc, false, value, faults)
             }
-            ExprForm::If(c, x, y) => self.choice(alloc, c, x, y, faults),
-            ExprForm::Quantified(quantifier, paren, params, groups, triggers, body) => {
+            ExprForm::If {
+                condition,
+                then_value,
+                else_value,
+            } => self.choice(alloc, condition, then_value, else_value, faults),
+            ExprForm::Quantified {
+                quantifier,
+                at,
+                params,
+                groups,
+                triggers,
+                body,
+            } => {
                 self.quantified(
                     alloc,
                     is_formula,
                     *quantifier,
-                    *paren,
+                    *at,
                     params,
                     groups,
                     triggers,
@@ -78,12 +92,16 @@ impl<'s, 'a> Scope<'s, 'a> {
             ExprForm::Implies(xs) => self.junction(alloc, is_formula, xs, faults),
             ExprForm::And(xs) => self.junction(alloc, is_formula, xs, faults),
             ExprForm::Or(xs) => self.junction(alloc, is_formula, xs, faults),
-            ExprForm::Compared(relation, x, y) => self.comparison(alloc, *relation, x, y, faults),
-            ExprForm::Sum(x, terms) => self.sum(alloc, x, terms, faults),
+            ExprForm::Compared {
+                relation,
+                left,
+                right,
+            } => self.comparison(alloc, *relation, left, right, faults),
+            ExprForm::Sum { first, others } => self.sum(alloc, first, others, faults),
             ExprForm::Product(xs) => self.product(alloc, xs, faults),
             ExprForm::Not(x) => self.negation(alloc, is_formula, x, faults),
             ExprForm::Minus(x) => self.minus(alloc, x, faults),
-            ExprForm::Indexed(x, indices) => self.indexed(alloc, x, indices, faults),
+            ExprForm::Indexed { map, indices } => self.indexed(alloc, map, indices, faults),
         }
     }
 

@@ -13,17 +13,17 @@ fn is_built(x: &Expr) -> bool
 {
     match &x.form {
         ExprForm::Number(_) | ExprForm::Truth(_) | ExprForm::Variable(_) => true,
-        ExprForm::Apply(_, xs) => all_built(xs),
-        ExprForm::Indexed(x, indices) => is_built(x) && all_reads(indices),
-        ExprForm::Old(_, _)
-        | ExprForm::If(_, _, _)
-        | ExprForm::Quantified(_, _, _, _, _, _)
+        ExprForm::Apply { arguments, .. } => all_built(arguments),
+        ExprForm::Indexed { map, indices } => is_built(map) && all_reads(indices),
+        ExprForm::Old { .. }
+        | ExprForm::If { .. }
+        | ExprForm::Quantified { .. }
         | ExprForm::Iff(_)
         | ExprForm::Implies(_)
         | ExprForm::And(_)
         | ExprForm::Or(_)
-        | ExprForm::Compared(_, _, _)
-        | ExprForm::Sum(_, _)
+        | ExprForm::Compared { .. }
+        | ExprForm::Sum { .. }
         | ExprForm::Product(_)
         | ExprForm::Not(_)
         | ExprForm::Minus(_) => false,
@@ -68,19 +68,19 @@ fn is_read_or_application(x: &Expr) -> bool
     ensures { result ≡ is_read_or_application x.now }
 {
     match &x.form {
-        ExprForm::Apply(_, _) | ExprForm::Indexed(_, _) => true,
+        ExprForm::Apply { .. } | ExprForm::Indexed { .. } => true,
         ExprForm::Number(_)
         | ExprForm::Truth(_)
         | ExprForm::Variable(_)
-        | ExprForm::Old(_, _)
-        | ExprForm::If(_, _, _)
-        | ExprForm::Quantified(_, _, _, _, _, _)
+        | ExprForm::Old { .. }
+        | ExprForm::If { .. }
+        | ExprForm::Quantified { .. }
         | ExprForm::Iff(_)
         | ExprForm::Implies(_)
         | ExprForm::And(_)
         | ExprForm::Or(_)
-        | ExprForm::Compared(_, _, _)
-        | ExprForm::Sum(_, _)
+        | ExprForm::Compared { .. }
+        | ExprForm::Sum { .. }
         | ExprForm::Product(_)
         | ExprForm::Not(_)
         | ExprForm::Minus(_) => false,
@@ -105,19 +105,19 @@ fn mentions(name: &[u8], x: &Expr) -> bool
 {
     match &x.form {
         ExprForm::Variable(found) => found.text.as_bytes() == name,
-        ExprForm::Apply(_, xs) => any_mentions(name, xs),
-        ExprForm::Indexed(x, indices) => mentions(name, x) || index_mentions(name, indices),
+        ExprForm::Apply { arguments, .. } => any_mentions(name, arguments),
+        ExprForm::Indexed { map, indices } => mentions(name, map) || index_mentions(name, indices),
         ExprForm::Number(_)
         | ExprForm::Truth(_)
-        | ExprForm::Old(_, _)
-        | ExprForm::If(_, _, _)
-        | ExprForm::Quantified(_, _, _, _, _, _)
+        | ExprForm::Old { .. }
+        | ExprForm::If { .. }
+        | ExprForm::Quantified { .. }
         | ExprForm::Iff(_)
         | ExprForm::Implies(_)
         | ExprForm::And(_)
         | ExprForm::Or(_)
-        | ExprForm::Compared(_, _, _)
-        | ExprForm::Sum(_, _)
+        | ExprForm::Compared { .. }
+        | ExprForm::Sum { .. }
         | ExprForm::Product(_)
         | ExprForm::Not(_)
         | ExprForm::Minus(_) => false,

@@ -6,6 +6,7 @@ use Rattle.bpl_grammar.specs.Part.{Part}
 use Rattle.bpl_grammar.specs.Derivative.{empties, left_of}
 use Rattle.bpl_grammar.specs.Depth.{depth_of}
 use Rattle.bpl_grammar.specs.Nesting.{value}
+use Rattle.bpl_grammar.specs.declared.nesting.TheConstants.{NESTINGS}
 
 pub data Mark : Type 0 where
   syntax deep wide : Mark
@@ -17,7 +18,7 @@ pub data Fate : Type 0 where
 
 abbrev pub too_deep : Option ℕ → Bool
 too_deep None = false
-too_deep (Some n) = nat_lt 200 n
+too_deep (Some n) = nat_lt NESTINGS n
 
 abbrev pub too_wide : Lexeme → Bool
 too_wide t = is_kind number t && not (nat_lt (value t.spelling) (2 ^ 127))

@@ -6,6 +6,7 @@ use Rattle.bpl_grammar.specs.Lexeme.{Lexeme, is_kind, reads}
 use Rattle.bpl_grammar.specs.Part.{Part, some, spelled, ◌⨟◌, ◌∣◌, maybe, many, inside, longest, Rule, rule}
 use Rattle.bpl_grammar.specs.Grammar.{grammar}
 use Rattle.bpl_grammar.specs.Spelling.{Takes}
+use Rattle.bpl_grammar.specs.declared.nesting.TheConstants.{NESTINGS}
 
 -- Lies p ts n: the tokens begin the part, and the last of them lies inside n of its pairs of brackets,
 -- operands of prefix signs, `if` expressions and ranges of map types.
@@ -25,7 +26,7 @@ pub data Lies : Part → List Lexeme → ℕ → Type 0 where
 
 -- The last of the tokens lies too deep. (After `else` the longest operand is the deepest reading.)
 abbrev pub IsDeep : Part → List Lexeme → Type 0
-IsDeep p ts = (n : ℕ) × (200 < n) × Lies p ts n
+IsDeep p ts = (n : ℕ) × (NESTINGS < n) × Lies p ts n
 
 -- the number that decimal digits spell
 abbrev pub value : List ℕ → ℕ

@@ -1,5 +1,5 @@
 -- Reading declarations, production by production.
-use Rattle.std.specs.Prelude.{ℕ, suc, Bool, true, false, ◌&&◌, ◌||◌, cond, List, [], drop, codes, Option, Some, None, Ok}
+use Rattle.std.specs.Prelude.{ℕ, suc, ◌-◌, Bool, true, false, ◌&&◌, ◌||◌, cond, List, [], drop, codes, Option, Some, None, Ok}
 use Rattle.bv_base.specs.declared.place.Place.{Place}
 use Rattle.bpl_lex.specs.Token.{id}
 use Rattle.bpl_ast.specs.Place.{Name, Ty}
@@ -11,6 +11,7 @@ use Rattle.bpl_grammar.specs.Reading.{Read, followed, read_as, place_of, read_fi
 use Rattle.bpl_grammar.specs.ReadTypes.{read_params, read_type}
 use Rattle.bpl_grammar.specs.ReadExpressions.{Together, groups_from, groups_with, e_with, read_inner}
 use Rattle.bpl_grammar.specs.ReadStatements.{read_attrs, formula_with, var_with, body_with}
+use Rattle.bpl_grammar.specs.declared.nesting.TheConstants.{NESTINGS}
 
 -- ["unique"]: its place
 unfoldable pub read_unique : List Lexeme → Read (Option Place)
@@ -131,6 +132,6 @@ module _ (room : ℕ) where
       (cond (sees (fixed (codes "type")) ls) (type_decl_with ls)
       (cond (sees (fixed (codes "procedure")) ls) (procedure_with ls) (implementation_with ls))))))
 
--- a declaration, in which a token lies inside at most 200 nestings
+-- a declaration, in which a token lies inside at most so many nestings
 abbrev pub read_decl : List Lexeme → Read DeclBody
-read_decl ls = decl_with 199 ls
+read_decl ls = decl_with (NESTINGS - 1) ls

@@ -7,3 +7,4 @@ pub mod Standing
 pub mod Steps
 pub mod Programs
 pub mod Exactly
+pub mod Rising

@@ -1,5 +1,5 @@
 -- Tokens that lie in a text, each of its kind, and none before a given byte.
-use Rattle.std.specs.Prelude.{◌≡◌, ℕ, ◌≤◌, List, length, Some}
+use Rattle.std.specs.Prelude.{◌≡◌, ℕ, ◌≤◌, List, [], ◌∷◌, length, Some, ⊤}
 use Rattle.std.specs.List.{AllByRecursion}
 use Rattle.bpl_lex.specs.Token.{Token, text_of}
 use Rattle.bpl_lex.specs.Shape.{kind_of}
@@ -13,6 +13,11 @@ pub record LiesIn (bytes : List ℕ) (from : ℕ) (t : Token) : Type 0 where
 
 abbrev pub LieIn : List ℕ → ℕ → List Token → Type 0
 LieIn bytes from ts = AllByRecursion (LiesIn bytes from) ts
+
+-- none of the tokens begins before a given byte, or before an earlier one
+abbrev pub AreRising : ℕ → List Token → Type 0
+AreRising low [] = ⊤
+AreRising low (t ∷ ts) = (low ≤ t.start) × AreRising t.start ts
 
 -- the tokens, one after another, are the text from some byte on
 pub record StandIn (bytes : List ℕ) (ts : List Token) : Type 0 where

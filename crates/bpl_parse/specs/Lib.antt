@@ -1,3 +1,4 @@
+pub mod FaultView
 pub mod InText
 pub mod Answer
 pub mod Seen

@@ -38,7 +38,7 @@ fn indexed(alloc: Global, base: Expr, indices: Vec<Index>) -> Result<Expr, Alloc
     }
     let at = base.at;
     let base = Box::new(alloc, base)?;
-    Ok(Expr::new(at, ExprForm::Indexed(base, indices)))
+    Ok(Expr::new(at, ExprForm::Indexed { map: base, indices }))
 }
 
 impl<'a> Cursor<'a> {
@@ -143,7 +143,13 @@ impl<'a> Cursor<'a> {
         let name = self.name(alloc)?;
         if self.sees(b"(") {
             let args = self.arguments(alloc, room)?;
-            return Ok(Expr::new(at, ExprForm::Apply(name, args)));
+            return Ok(Expr::new(
+                at,
+                ExprForm::Apply {
+                    function: name,
+                    arguments: args,
+                },
+            ));
         }
         Ok(Expr::new(at, ExprForm::Variable(name)))
     }
@@ -192,7 +198,7 @@ impl<'a> Cursor<'a> {
         let value = self.expression(alloc, room)?;
         self.expect(b")")?;
         let value = Box::new(alloc, value)?;
-        Ok(Expr::new(at, ExprForm::Old(at, value)))
+        Ok(Expr::new(at, ExprForm::Old { at, value }))
     }
 
     /// "if" E "then" E "else" E
@@ -211,7 +217,14 @@ impl<'a> Cursor<'a> {
         let condition = Box::new(alloc, condition)?;
         let first = Box::new(alloc, first)?;
         let second = Box::new(alloc, second)?;
-        Ok(Expr::new(at, ExprForm::If(condition, first, second)))
+        Ok(Expr::new(
+            at,
+            ExprForm::If {
+                condition,
+                then_value: first,
+                else_value: second,
+            },
+        ))
     }
 
     /// "(" E ")", or a quantifier

@@ -5,35 +5,39 @@ ghost use Rattle.bpl_grammar.specs.Lexeme.{lexemes};
 ghost use Rattle.bpl_grammar.specs.Terminal.{kind, fixed, sees};
 ghost use Rattle.bpl_grammar.specs.Reading.{place_of, text_at, read_fixed, read_name};
 ghost use Rattle.bpl_parse.specs.Answer.{Gives};
-ghost use Rattle.bpl_parse.specs.InText.{LieIn};
+ghost use Rattle.bpl_parse.specs.InText.{AreRising, LieIn};
 
 use crate::stop::Stop;
 use bpl_ast::Name;
 use bpl_lex::{Token, TokenKind};
-use bv_base::place::{Place, place_at};
+use bv_base::place::{Place, place_onward};
 use std::alloc::Global;
 use std::marker::Model;
 use std::str::from_utf8;
 
-/// The tokens that are left. Contracts see them with their texts, and with their places from a
-/// byte on.
+/// The tokens that are left, and the place of the last one that was passed over, from which the next
+/// one's is counted on. Contracts see the tokens with their texts, and with their places from a byte
+/// on.
 #[derive(Drop)]
 pub(crate) struct Cursor<'a> {
     text: &'a [u8],
     from: u32,
+    known: Place,
+    known_at: u32,
     tokens: &'a [Token],
 }
 
 impl<'a> Model for Cursor<'a> {
-    ghost use Rattle.std.specs.Prelude.{List, length, ◌<◌, ◌-◌, ◌^◌};
+    ghost use Rattle.std.specs.Prelude.{◌≡◌, List, length, ◌<◌, ◌≤◌, ◌-◌, ◌^◌};
+    ghost use Rattle.bv_base.specs.Place.{place_at as place_in};
     ghost use Rattle.bpl_grammar.specs.Lexeme.{Lexeme, lexemes};
-    ghost use Rattle.bpl_parse.specs.InText.{LieIn};
+    ghost use Rattle.bpl_parse.specs.InText.{AreRising, LieIn};
 
     ghost Value = { List Lexeme };
 
     ghost view = { λ c. lexemes c.text.now c.from c.tokens.now };
 
-    ghost invariant = { λ c. (length c.text.now < 2 ^ 32 - 1) × LieIn c.text.now c.from c.tokens.now };
+    ghost invariant = { λ c. (length c.text.now < 2 ^ 32 - 1) × (c.from ≤ c.known_at) × (c.known ≡ place_in c.text.now c.from c.known_at) × AreRising c.known_at c.tokens.now × LieIn c.text.now c.from c.tokens.now };
 }
 
 impl<'a> Cursor<'a> {
@@ -41,9 +45,16 @@ impl<'a> Cursor<'a> {
     pub(crate) fn new(text: &'a [u8], from: u32, tokens: &'a [Token]) -> Cursor<'a>
         requires short { length text.now < 2 ^ 32 - 1 }
         requires inside { LieIn text.now from tokens.now }
+        requires rising { AreRising from tokens.now }
         ensures { result ≡ lexemes text.now from tokens.now }
     {
-        Cursor { text, from, tokens }
+        Cursor {
+            text,
+            from,
+            known: Place { line: 1, col: 1 },
+            known_at: from,
+            tokens,
+        }
     }
 
     /// How many tokens are left.
@@ -57,17 +68,29 @@ impl<'a> Cursor<'a> {
     pub(crate) fn skip(&mut self)
         ensures { self.new ≡ drop 1 self.old }
     {
-        if let Some((_, rest)) = self.tokens.split_first() {
+        let place = self.place();
+        if let Some((token, rest)) = self.tokens.split_first() {
+            self.known = place;
+            self.known_at = token.span.start;
             self.tokens = rest;
         }
     }
 
     /// The place of the next token.
+    #[tactic(auto, using(crate::proofs::Rising::first_rises))]
     pub(crate) fn place(&self) -> Place
         ensures { result ≡ place_of self.now }
     {
         match self.tokens.first() {
-            Some(token) => place_at(self.text, self.from, token.span.start),
+            Some(token) => {
+                place_onward(
+                    self.text,
+                    self.from,
+                    self.known_at,
+                    self.known,
+                    token.span.start,
+                )
+            }
             None => Place { line: 1, col: 1 },
         }
     }
@@ -138,12 +161,15 @@ impl<'a> Cursor<'a> {
     pub(crate) fn sees_second(&self, wanted: &[u8]) -> bool
         ensures { result ≡ sees (fixed wanted.now) (drop 1 self.now) }
     {
-        let Some((_, rest)) = self.tokens.split_first() else {
+        let place = self.place();
+        let Some((token, rest)) = self.tokens.split_first() else {
             return false;
         };
         let ahead = Cursor {
             text: self.text,
             from: self.from,
+            known: place,
+            known_at: token.span.start,
             tokens: rest,
         };
         ahead.sees(wanted)

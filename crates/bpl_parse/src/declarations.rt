@@ -58,7 +58,7 @@ impl<'a> Cursor<'a> {
     /// "const" {Attr} ["unique"] Ids ":" Type ";"
     #[tactic(auto, unfolding(bpl_grammar::specs::ReadDeclarations::const_with))]
     fn constants(&mut self, alloc: Global) -> Result<DeclBody, Stop>
-        ensures { GivesAs body_of (const_with 199 self.old) result self.new }
+        ensures { GivesAs body_of (const_with INSIDE self.old) result self.new }
     {
         self.expect(b"const")?;
         self.attributes(alloc, ROOM)?;
@@ -67,14 +67,14 @@ impl<'a> Cursor<'a> {
         self.expect(b":")?;
         let of = self.roomy_type(alloc, ROOM)?;
         self.expect(b";")?;
-        Ok(DeclBody::Const(unique, names, of))
+        Ok(DeclBody::Const { unique, names, of })
     }
 
     /// "function" {Attr} Id [TPar] "(" [FArg {"," FArg}] ")" ("returns" "(" FArg ")" | ":" Type)
     /// ("{" E "}" | ";")
     #[tactic(auto, unfolding(bpl_grammar::specs::ReadDeclarations::function_with))]
     fn function(&mut self, alloc: Global) -> Result<DeclBody, Stop>
-        ensures { GivesAs body_of (function_with 199 self.old) result self.new }
+        ensures { GivesAs body_of (function_with INSIDE self.old) result self.new }
     {
         self.expect(b"function")?;
         self.attributes(alloc, ROOM)?;
@@ -83,13 +83,19 @@ impl<'a> Cursor<'a> {
         let inputs = self.inputs(alloc, INSIDE)?;
         let output = self.output(alloc)?;
         let value = self.value(alloc, INSIDE)?;
-        Ok(DeclBody::Function(name, params, inputs, output, value))
+        Ok(DeclBody::Function {
+            name,
+            params,
+            arguments: inputs,
+            of: output,
+            value,
+        })
     }
 
     /// ["=" Type]
     #[tactic(auto, unfolding(bpl_grammar::specs::ReadDeclarations::synonym_with))]
     fn synonym(&mut self, alloc: Global) -> Result<Option<Type>, Stop>
-        ensures { Gives (synonym_with 199 self.old) result self.new }
+        ensures { Gives (synonym_with INSIDE self.old) result self.new }
     {
         if self.sees(b"=") {
             self.skip();
@@ -102,20 +108,20 @@ impl<'a> Cursor<'a> {
     /// "type" {Attr} Id ["=" Type] ";"
     #[tactic(auto, unfolding(bpl_grammar::specs::ReadDeclarations::type_decl_with))]
     fn type_name(&mut self, alloc: Global) -> Result<DeclBody, Stop>
-        ensures { GivesAs body_of (type_decl_with 199 self.old) result self.new }
+        ensures { GivesAs body_of (type_decl_with INSIDE self.old) result self.new }
     {
         self.expect(b"type")?;
         self.attributes(alloc, ROOM)?;
         let name = self.name(alloc)?;
         let of = self.synonym(alloc)?;
         self.expect(b";")?;
-        Ok(DeclBody::TypeName(name, of))
+        Ok(DeclBody::TypeName { name, synonym: of })
     }
 
     /// ";" {Spec} | {Spec} Body
     #[tactic(auto, unfolding(bpl_grammar::specs::ReadDeclarations::contract_with))]
     fn contract(&mut self, alloc: Global) -> Result<(Vec<Spec>, Option<Body>), Stop>
-        ensures { GivesAs contract_seen (contract_with 199 self.old) result self.new }
+        ensures { GivesAs contract_seen (contract_with INSIDE self.old) result self.new }
     {
         if self.sees(b";") {
             self.skip();
@@ -130,7 +136,7 @@ impl<'a> Cursor<'a> {
     /// "procedure" {Attr} Id [TPar] Sig (";" {Spec} | {Spec} Body)
     #[tactic(auto, unfolding(bpl_grammar::specs::ReadDeclarations::procedure_with))]
     fn procedure(&mut self, alloc: Global) -> Result<DeclBody, Stop>
-        ensures { GivesAs body_of (procedure_with 199 self.old) result self.new }
+        ensures { GivesAs body_of (procedure_with INSIDE self.old) result self.new }
     {
         self.expect(b"procedure")?;
         self.attributes(alloc, ROOM)?;
@@ -138,13 +144,19 @@ impl<'a> Cursor<'a> {
         let params = self.params(alloc)?;
         let signature = self.signature(alloc, INSIDE)?;
         let (specs, body) = self.contract(alloc)?;
-        Ok(DeclBody::Procedure(name, params, signature, specs, body))
+        Ok(DeclBody::Procedure {
+            name,
+            params,
+            signature,
+            specs,
+            body,
+        })
     }
 
     /// "implementation" {Attr} Id [TPar] Sig Body
     #[tactic(auto, unfolding(bpl_grammar::specs::ReadDeclarations::implementation_with))]
     fn implementation(&mut self, alloc: Global) -> Result<DeclBody, Stop>
-        ensures { GivesAs body_of (implementation_with 199 self.old) result self.new }
+        ensures { GivesAs body_of (implementation_with INSIDE self.old) result self.new }
     {
         self.expect(b"implementation")?;
         self.attributes(alloc, ROOM)?;
@@ -152,6 +164,11 @@ impl<'a> Cursor<'a> {
         let params = self.params(alloc)?;
         let signature = self.signature(alloc, INSIDE)?;
         let body = self.body(alloc, INSIDE)?;
-        Ok(DeclBody::Implementation(name, params, signature, body))
+        Ok(DeclBody::Implementation {
+            name,
+            params,
+            signature,
+            body,
+        })
     }
 }

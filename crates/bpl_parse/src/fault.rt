@@ -27,6 +27,35 @@ pub enum Fault {
     Memory,
 }
 
+impl Fault {
+    ghost use Rattle.bpl_parse.specs.FaultView.{byte_of, name_of};
+
+    /// The byte at which it shows; none where memory ran out.
+    pub fn at(self) -> Option<u32>
+        ensures { result ≡ byte_of self }
+    {
+        match self {
+            Fault::Lex { at } | Fault::Syntax { at } | Fault::Deep { at } | Fault::Wide { at } => {
+                Some(at)
+            }
+            Fault::Memory => None,
+        }
+    }
+
+    /// The name of its kind.
+    pub fn name(self) -> &'static str
+        ensures { result.now ≡ name_of self }
+    {
+        match self {
+            Fault::Lex { .. } => "Lex",
+            Fault::Syntax { .. } => "Syntax",
+            Fault::Deep { .. } => "Deep",
+            Fault::Wide { .. } => "Wide",
+            Fault::Memory => "Memory",
+        }
+    }
+}
+
 impl From<AllocError> for Fault {
     ghost use Rattle.bpl_parse.specs.declared.fault.Fault.TheVariants.{Memory};
 

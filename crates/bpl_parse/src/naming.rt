@@ -33,7 +33,7 @@ pub(crate) fn name_of(alloc: Global, axioms: usize, body: &DeclBody) -> Result<S
     ensures { IfOk result (λ name. string_bytes name ≡ name_of axioms (body_of body.now)) }
 {
     match body {
-        DeclBody::Const(_, names, _) => first_name(alloc, names),
+        DeclBody::Const { names, .. } => first_name(alloc, names),
         DeclBody::Axiom(_) => {
             let number = (axioms + 1).to_string(alloc)?;
             let mut name = String::from_str(alloc, "@")?;
@@ -41,10 +41,13 @@ pub(crate) fn name_of(alloc: Global, axioms: usize, body: &DeclBody) -> Result<S
             Ok(name)
         }
         DeclBody::Var(groups) => first_of_groups(alloc, groups),
-        DeclBody::Function(name, _, _, _, _) => String::from_str(alloc, name.text.as_str()),
-        DeclBody::TypeName(name, _) => String::from_str(alloc, name.text.as_str()),
-        DeclBody::Procedure(name, _, _, _, _) => String::from_str(alloc, name.text.as_str()),
-        DeclBody::Implementation(procedure, _, _, _) => {
+        DeclBody::Function { name, .. } => String::from_str(alloc, name.text.as_str()),
+        DeclBody::TypeName { name, .. } => String::from_str(alloc, name.text.as_str()),
+        DeclBody::Procedure { name, .. } => String::from_str(alloc, name.text.as_str()),
+        DeclBody::Implementation {
+            name: procedure,
+            ..
+        } => {
             let mut name = String::from_str(alloc, "implementation ")?;
             name.push_str(procedure.text.as_str())?;
             Ok(name)
@@ -59,11 +62,11 @@ pub(crate) fn axioms_with(axioms: usize, body: &DeclBody) -> usize
 {
     match body {
         DeclBody::Axiom(_) => axioms + 1,
-        DeclBody::Const(_, _, _) => axioms,
+        DeclBody::Const { .. } => axioms,
         DeclBody::Var(_) => axioms,
-        DeclBody::Function(_, _, _, _, _) => axioms,
-        DeclBody::TypeName(_, _) => axioms,
-        DeclBody::Procedure(_, _, _, _, _) => axioms,
-        DeclBody::Implementation(_, _, _, _) => axioms,
+        DeclBody::Function { .. } => axioms,
+        DeclBody::TypeName { .. } => axioms,
+        DeclBody::Procedure { .. } => axioms,
+        DeclBody::Implementation { .. } => axioms,
     }
 }

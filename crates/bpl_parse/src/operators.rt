@@ -50,7 +50,7 @@ fn added(alloc: Global, first: Expr, others: Vec<Term>) -> Result<Expr, AllocErr
     }
     let at = first.at;
     let first = Box::new(alloc, first)?;
-    Ok(Expr::new(at, ExprForm::Sum(first, others)))
+    Ok(Expr::new(at, ExprForm::Sum { first, others }))
 }
 
 impl<'a> Cursor<'a> {
@@ -237,7 +237,14 @@ impl<'a> Cursor<'a> {
         let at = left.at;
         let left = Box::new(alloc, left)?;
         let right = Box::new(alloc, right)?;
-        Ok(Expr::new(at, ExprForm::Compared(relation, left, right)))
+        Ok(Expr::new(
+            at,
+            ExprForm::Compared {
+                relation,
+                left,
+                right,
+            },
+        ))
     }
 
     /// Sum = Prod {("+" | "-") Prod}

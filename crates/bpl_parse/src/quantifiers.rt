@@ -70,7 +70,14 @@ impl<'a> Cursor<'a> {
         let body = Box::new(alloc, body)?;
         Ok(Expr::new(
             at,
-            ExprForm::Quantified(quantifier, at, params, groups, triggers, body),
+            ExprForm::Quantified {
+                quantifier,
+                at,
+                params,
+                groups,
+                triggers,
+                body,
+            },
         ))
     }
 

@@ -8,13 +8,14 @@ ghost use Rattle.bpl_parse.specs.Seen.{group_seen};
 use crate::cursor::Cursor;
 use crate::stop::Stop;
 use bpl_ast::{Argument, Expr, Group, Name, Signature, Spec, SpecForm, Type};
+use bpl_grammar::NESTINGS;
 use std::alloc::Global;
 
 /// So many nestings may lie in one another.
-pub(crate) const ROOM: u32 = 200;
+pub(crate) const ROOM: u32 = NESTINGS;
 
 /// So many may lie in one of them.
-pub(crate) const INSIDE: u32 = 199;
+pub(crate) const INSIDE: u32 = NESTINGS - 1;
 
 impl<'a> Cursor<'a> {
     /// [Id ":"]
@@ -85,7 +86,7 @@ impl<'a> Cursor<'a> {
     /// "returns" "(" FArg ")" | ":" Type
     #[tactic(auto, unfolding(bpl_grammar::specs::ReadDeclarations::output_with))]
     pub(crate) fn output(&mut self, alloc: Global) -> Result<Type, Stop>
-        ensures { Gives (output_with 199 self.old) result self.new }
+        ensures { Gives (output_with INSIDE self.old) result self.new }
     {
         if self.sees(b"returns") {
             self.skip();
@@ -176,7 +177,7 @@ impl<'a> Cursor<'a> {
     /// ("requires" | "ensures") {Attr} E ";"
     #[tactic(auto, unfolding(bpl_grammar::specs::ReadDeclarations::clause_with))]
     fn clause(&mut self, alloc: Global, free: bool) -> Result<Spec, Stop>
-        ensures { Gives (clause_with 199 free self.old) result self.new }
+        ensures { Gives (clause_with INSIDE free self.old) result self.new }
     {
         let at = self.place();
         if self.sees(b"requires") {
@@ -184,21 +185,21 @@ impl<'a> Cursor<'a> {
             let formula = self.formula(alloc, ROOM)?;
             return Ok(Spec {
                 at,
-                form: SpecForm::Requires(free, formula),
+                form: SpecForm::Requires { free, formula },
             });
         }
         self.expect(b"ensures")?;
         let formula = self.formula(alloc, ROOM)?;
         Ok(Spec {
             at,
-            form: SpecForm::Ensures(free, formula),
+            form: SpecForm::Ensures { free, formula },
         })
     }
 
     /// Spec = ["free"] ("requires" | "ensures") {Attr} E ";" | "modifies" [Ids] ";"
     #[tactic(auto, unfolding(bpl_grammar::specs::ReadDeclarations::spec_with))]
     fn spec(&mut self, alloc: Global) -> Result<Spec, Stop>
-        ensures { Gives (spec_with 199 self.old) result self.new }
+        ensures { Gives (spec_with INSIDE self.old) result self.new }
     {
         if self.sees(b"modifies") {
             return self.modifies(alloc);
@@ -223,7 +224,7 @@ impl<'a> Cursor<'a> {
     /// {Spec}
     #[tactic(auto, unfolding(bpl_grammar::specs::ReadDeclarations::specs_with))]
     pub(crate) fn specs(&mut self, alloc: Global) -> Result<Vec<Spec>, Stop>
-        ensures { GivesAs (λ found. found.items) (specs_with 199 self.old) result self.new }
+        ensures { GivesAs (λ found. found.items) (specs_with INSIDE self.old) result self.new }
     {
         let mut found = Vec::new(alloc);
         while self.starts_spec() {

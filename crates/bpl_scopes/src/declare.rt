@@ -94,7 +94,7 @@ impl<'a> Table<'a> {
         ensures counted { IfOk result (λ c. counts_seen c ≡ counts_with (counts_seen counts) (body_of body.now)) }
     {
         match body {
-            DeclBody::Const(_, names, of) => {
+            DeclBody::Const { names, of, .. } => {
                 let constants = self.declare_constants(decl, counts.constants, names, of)?;
                 Ok(Counts {
                     constants,
@@ -102,7 +102,13 @@ impl<'a> Table<'a> {
                     procedures: counts.procedures,
                 })
             }
-            DeclBody::Function(name, _, ins, of, value) => {
+            DeclBody::Function {
+                name,
+                arguments: ins,
+                of,
+                value,
+                ..
+            } => {
                 let entity = Entity::Function { ins, of, value };
                 self.push(Entry {
                     name: name.text.as_bytes(),
@@ -120,7 +126,7 @@ impl<'a> Table<'a> {
                     procedures: counts.procedures,
                 })
             }
-            DeclBody::TypeName(name, of) => {
+            DeclBody::TypeName { name, synonym: of } => {
                 let entity = Entity::Synonym { of };
                 self.push(Entry {
                     name: name.text.as_bytes(),
@@ -129,7 +135,12 @@ impl<'a> Table<'a> {
                 })?;
                 Ok(counts)
             }
-            DeclBody::Procedure(name, _, signature, specs, _) => {
+            DeclBody::Procedure {
+                name,
+                signature,
+                specs,
+                ..
+            } => {
                 let entity = Entity::Procedure {
                     number: counts.procedures,
                     signature,
@@ -147,7 +158,7 @@ impl<'a> Table<'a> {
                     procedures,
                 })
             }
-            DeclBody::Implementation(_, _, _, _) => Ok(counts),
+            DeclBody::Implementation { .. } => Ok(counts),
         }
     }
 }
