@@ -8,7 +8,7 @@ use Rattle.logic_core.specs.Tree.{boolean, Tree, truth}
 use Rattle.logic_core.specs.Def.{Def, Obligation}
 use Rattle.logic_core.specs.Valid.{Valid}
 use Rattle.logic_core.specs.WellSorted.{IsFormula, IsWellSorted}
-use Rattle.logic_core.specs.Renamed.{both_renamed, def_renamed, EachHas}
+use Rattle.logic_core.specs.Renamed.{def_renamed, EachHas}
 use Rattle.logic_core.specs.Variables.{variables, calls, place_in}
 use Rattle.logic_core.proofs.FirstOccurrences.{all_occur}
 use Rattle.logic_core.proofs.Mentioned.{all_left, all_right, as_it_stands}
@@ -38,7 +38,7 @@ mapped_at f [] i = refl
 mapped_at f (x ∷ xs) zero = refl
 mapped_at f (x ∷ xs) (suc i) = mapped_at f xs i
 
-there_below : {A : Type 0} (xs : List A) (n : ℕ) → There (slice_get xs n) → n < length xs
+pub there_below : {A : Type 0} (xs : List A) (n : ℕ) → There (slice_get xs n) → n < length xs
 there_below [] n h = let c : false ≡ true = h in absurd cc
 there_below (x ∷ xs) zero h = omega arith
 there_below (x ∷ xs) (suc n) h = let below = there_below xs n h in omega (below, arith)
@@ -53,10 +53,10 @@ the_item None h = let c : false ≡ true = h in absurd cc
 the_item (Some x) h = (x, refl)
 
 module _ (o : Obligation) (sorted : IsWellSorted o) where
-  body_is : (f : ℕ) (d : Def) → slice_get o.defs f ≡ Some d → body o.defs f ≡ d.body
+  pub body_is : (f : ℕ) (d : Def) → slice_get o.defs f ≡ Some d → body o.defs f ≡ d.body
   body_is f d e = ap (λ x. unwrap_or (option_map (λ (y : Def). y.body) x) (truth true)) e
 
-  body_mentions : (f : ℕ) → f < length o.defs → EachHas (HasVariable o.vars (take f o.defs)) (HasDefinition o.vars (take f o.defs)) (body o.defs f)
+  pub body_mentions : (f : ℕ) → f < length o.defs → EachHas (HasVariable o.vars (take f o.defs)) (HasDefinition o.vars (take f o.defs)) (body o.defs f)
   body_mentions f below =
       let d = the_item (slice_get o.defs f) (there_from o.defs f below) in
       subst (EachHas (HasVariable o.vars (take f o.defs)) (HasDefinition o.vars (take f o.defs))) (sym (body_is f d.0 d.1))
@@ -70,7 +70,7 @@ module _ (o : Obligation) (sorted : IsWellSorted o) where
   abbrev formulas : List Tree
   formulas = o.goal ∷ o.axioms
 
-  formulas_mention : AllByRecursion (EachHas (HasVariable o.vars o.defs) (HasDefinition o.vars o.defs)) formulas
+  pub formulas_mention : AllByRecursion (EachHas (HasVariable o.vars o.defs) (HasDefinition o.vars o.defs)) formulas
   formulas_mention = every_map (IsFormula o.vars o.defs) (EachHas (HasVariable o.vars o.defs) (HasDefinition o.vars o.defs))
       (λ t h. mentions_there o.vars o.defs t [] (formula_is_sorted o.vars o.defs [] t boolean h)) formulas (sorted.goal, recursion_from_All (IsFormula o.vars o.defs) o.axioms sorted.axioms)
 

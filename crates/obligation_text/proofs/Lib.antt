@@ -12,3 +12,6 @@ pub mod Places
 pub mod Walk
 pub mod CanonicalRenames
 pub mod CanonicalSorted
+pub mod Tables
+pub mod Printable
+pub mod PlacesJoined

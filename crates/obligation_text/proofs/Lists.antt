@@ -1,5 +1,9 @@
 -- What each variable and each definition in a term has, as lists.
-use Rattle.std.specs.Prelude.{ℕ, List, [], ◌∷◌, ◌++◌}
+use Rattle.std.specs.Prelude.{◌≡◌, refl, ℕ, List, [], ◌∷◌, ◌++◌, flat_map}
+use Rattle.std.proofs.Common.{ap, sym, ◌∙◌}
+use Rattle.std.proofs.lemmas.Grind.{flat_map-append}
+use Rattle.std.proofs.lemmas.List.{append-nil}
+use Rattle.logic_core.specs.View.{trees_of}
 use Rattle.std.specs.List.{AllByRecursion}
 use Rattle.logic_core.specs.Tree.{Tree, num, truth, free, bound, linear, mul, read, write, choose, call, negation, all, some, equal, at_most, for_all, exists, Trees, no_trees, tree, Parts, no_parts, part, Patterns, no_patterns, pattern}
 use Rattle.logic_core.specs.Renamed.{EachHas, EachInTrees, EachInParts, EachInPatterns}
@@ -53,3 +57,19 @@ module _ (V C : ℕ → Type 0) where
 
   pub calls_have : (t : Tree) → EachHas V C t → AllByRecursion C (calls t)
   calls_have t h = (as_lists t h).1
+
+-- the terms' lists one behind the other
+pub calls_flat : (ts : List Tree) → calls_of_each (trees_of ts) ≡ flat_map calls ts
+calls_flat [] = refl
+calls_flat (t ∷ ts) = ap (λ ns. calls t ++ ns) (calls_flat ts)
+
+pub variables_flat : (ts : List Tree) → variables_of_each (trees_of ts) ≡ flat_map variables ts
+variables_flat [] = refl
+variables_flat (t ∷ ts) = ap (λ ns. variables t ++ ns) (variables_flat ts)
+
+-- the variables of terms that stand one behind the other
+pub numbered_flat : (bodies axioms : List Tree) (goal : Tree) → flat_map variables (bodies ++ axioms ++ goal ∷ []) ≡ (flat_map variables bodies ++ variables_of_each (trees_of axioms)) ++ variables goal
+numbered_flat bodies axioms goal =
+    flat_map-append variables (bodies ++ axioms) (goal ∷ [])
+    ∙ ap (λ ns. flat_map variables (bodies ++ axioms) ++ ns) (append-nil (variables goal))
+    ∙ ap (λ ns. ns ++ variables goal) (flat_map-append variables bodies axioms ∙ ap (λ ns. flat_map variables bodies ++ ns) (sym (variables_flat axioms)))

@@ -1,7 +1,7 @@
 -- Where numbers stand in a list: in a longer list where they stood, a new one at its end; and what is picked by the numbers of a list.
-use Rattle.std.specs.Prelude.{◌≡◌, refl, ◌⊎◌, ℕ, zero, suc, ◌+◌, ◌<◌, nat_eq, Bool, true, false, ◌||◌, cond, is_some, unwrap_or, Option, Some, None, List, [], ◌∷◌, ◌++◌, length, slice_get}
+use Rattle.std.specs.Prelude.{◌≡◌, refl, ◌⊎◌, ℕ, zero, suc, ◌+◌, ◌<◌, ◌≤◌, nat_eq, Bool, true, false, ◌||◌, cond, is_some, unwrap_or, Option, Some, None, List, [], ◌∷◌, ◌++◌, length, slice_get}
 use Rattle.std.specs.List.{list_any, position_from, AllByRecursion, cons_option}
-use Rattle.std.proofs.Common.{arith, ap, ◌∙◌}
+use Rattle.std.proofs.Common.{arith, ap, ◌∙◌, append-nil}
 use Rattle.std.proofs.lemmas.Bool.{eqb-true, eq-eqb}
 use mathlib.Core.Path.{subst, sym}
 use mathlib.Core.Logic.{inl, inr}
@@ -130,3 +130,20 @@ picked_at {A} items (m ∷ ns) h i n e = by_item (slice_get items m) h.0 refl i 
     by_item None t e i k rest = let c : false ≡ true = t in absurd cc
     by_item (Some a) t e zero k rest = let same : m ≡ n = cc in sym e ∙ ap (slice_get items) same
     by_item (Some a) t e (suc i) k rest = rest i k
+
+-- the items of the first number, and then those of the others
+pub picked_more : {A : Type 0} (items : List A) (n : ℕ) (ns : List ℕ) → picked items (n ∷ []) ++ picked items ns ≡ picked items (n ∷ ns)
+picked_more {A} items n ns = by_item (slice_get items n)
+  where
+    by_item : (o : Option A) → cons_option o [] ++ picked items ns ≡ cons_option o (picked items ns)
+    by_item None = refl
+    by_item (Some a) = refl
+
+-- beyond the items nothing is picked
+pub none_picked : {A : Type 0} (items : List A) (n : ℕ) (found : List A) → length items ≤ n → found ≡ found ++ picked items (n ∷ [])
+none_picked {A} items n found beyond = sym (append-nil found) ∙ ap (λ more. found ++ more) (sym (no_item items n beyond))
+  where
+    no_item : (xs : List A) (k : ℕ) → length xs ≤ k → cons_option (slice_get xs k) [] ≡ []
+    no_item [] k h = refl
+    no_item (x ∷ xs) zero h = absurd (omega (h, arith))
+    no_item (x ∷ xs) (suc k) h = no_item xs k (omega (h, arith))

@@ -1,7 +1,7 @@
 -- The walk to the definitions gives each its number after those that its body calls, and the variables' order holds each that occurs.
-use Rattle.std.specs.Prelude.{◌≡◌, refl, ℕ, zero, suc, ◌<◌, ◌≤◌, Bool, true, false, List, [], ◌∷◌, ◌++◌, length, fold, flat_map, if◌then◌else◌}
+use Rattle.std.specs.Prelude.{◌≡◌, refl, ℕ, zero, suc, ◌-◌, ◌<◌, ◌≤◌, Bool, true, false, List, [], ◌∷◌, ◌++◌, length, fold, flat_map, if◌then◌else◌}
 use Rattle.std.specs.List.{AllByRecursion}
-use Rattle.std.proofs.Common.{arith}
+use Rattle.std.proofs.Common.{arith, ap}
 use mathlib.Core.Path.{subst, sym}
 use mathlib.Core.Logic.{inl, inr}
 use Rattle.logic_core.specs.Def.{Def}
@@ -91,3 +91,11 @@ module _ (ds : List Def) where
     -- the walk from these numbers
     pub walk : (gs : List ℕ) → AllByRecursion (λ g. g < length ds) gs → Walked [] (fold (visited ds (length ds)) [] gs) gs
     walk gs h = steps (visited ds (length ds)) (λ g. g < length ds) (λ order g below good. visit (length ds) order g (omega (below, arith)) below good) gs [] h (λ f none. let c : false ≡ true = none in absurd cc)
+
+-- a step of the walk
+pub visited_step : (ds : List Def) (depth : ℕ) (order : List ℕ) (f : ℕ) → (depth ≡ 0 → ⊥)
+    → visited ds depth order f ≡ (if is_among order f then order else joined (fold (visited ds (depth - 1)) order (calls (body ds f))) f)
+visited_step ds zero order f h = absurd (h refl)
+visited_step ds (suc depth) order f h =
+    let e : depth ≡ suc depth - 1 = omega arith in
+    ap (λ k. if is_among order f then order else joined (fold (visited ds k) order (calls (body ds f))) f) e

@@ -11,17 +11,18 @@ use Rattle.obligation_text.specs.Numbering.{definition_order, variable_order}
 abbrev pub picked : {A : Type 0} → List A → List ℕ → List A
 picked as' ns = filter_map (λ n. slice_get as' n) ns
 
--- definitions and variables by their places in these lists
-abbrev pub renumbered : List ℕ → List ℕ → Obligation → Obligation
-renumbered fs vs o = record {
+-- these definitions and variables alone, in this order, by new numbers
+abbrev pub renumbered : (ℕ → ℕ) → (ℕ → ℕ) → List ℕ → List ℕ → Obligation → Obligation
+renumbered new_def new_var fs vs o = record {
   vars = picked o.vars vs;
-  defs = map (def_renamed (place_in fs) (place_in vs)) (picked o.defs fs);
-  axioms = map (both_renamed (place_in fs) (place_in vs)) o.axioms;
-  goal = both_renamed (place_in fs) (place_in vs) o.goal;
+  defs = map (def_renamed new_def new_var) (picked o.defs fs);
+  axioms = map (both_renamed new_def new_var) o.axioms;
+  goal = both_renamed new_def new_var o.goal;
 }
 
+-- definitions and variables by their places in their orders
 abbrev pub canonical : Obligation → Obligation
-canonical o = let fs = definition_order o in renumbered fs (variable_order o fs) o
+canonical o = let fs = definition_order o in let vs = variable_order o fs in renumbered (place_in fs) (place_in vs) fs vs o
 
 -- it stays well sorted, and is valid exactly where the obligation is
 abbrev pub CanonicalKeeps : Type 0

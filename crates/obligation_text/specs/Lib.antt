@@ -4,3 +4,4 @@ pub mod Text
 pub mod Numbering
 pub mod Canonical
 pub mod Asked
+pub mod Places
