@@ -1,6 +1,14 @@
 mod NamedVariables
 mod Numbers
 mod TypedIsTyped
+pub mod Members
+mod Marks
+mod MarkedRounds
+mod NamesPut
+pub mod NamedAt
+mod Rows
+mod RisingNumbers
+mod ReachedByMarks
 pub mod Spelled
 pub mod Programs
 pub mod Inversion

@@ -7,6 +7,10 @@ pub mod StmtFalls
 pub mod Numbering
 pub mod Clauses
 pub mod Reach
+pub mod Names
+pub mod Rising
+pub mod Marking
+pub mod Walk
 pub mod NoGoto
 pub mod Typed
 pub mod TypedTest

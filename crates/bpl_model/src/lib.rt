@@ -19,6 +19,17 @@ mod typed_procs;
 pub mod typed_stmts;
 pub mod typed_terms;
 
+// Numbers.
+pub mod number;
+
+// What a procedure's names reach, from sets of names up.
+pub mod declarations;
+mod marking;
+mod mentions;
+pub mod name_set;
+pub mod reach;
+mod walk;
+
 // Copies.
 pub mod copy_decls;
 pub mod copy_module;

@@ -1,0 +1,51 @@
+// Sets of names.
+ghost use Rattle.std.specs.Prelude.{◌≡◌, [], OnOk, bytes_eq};
+ghost use Rattle.std.specs.List.{list_any};
+ghost use Rattle.bpl_model.specs.Names.{with_name};
+
+use indexmap::IndexSet;
+use std::alloc::{AllocError, Global};
+use std::marker::Model;
+
+/// Names, each once, in the order in which they were put in first.
+#[derive(Drop)]
+pub struct NameSet<'a> {
+    keys: IndexSet<&'a [u8]>,
+}
+
+impl<'a> Model for NameSet<'a> {
+    ghost use Rattle.std.specs.Prelude.{ℕ, List};
+    ghost use Rattle.bpl_model.specs.Names.{names_seen};
+
+    ghost Value = { List (List ℕ) };
+
+    ghost view = { λ a. names_seen a.keys.keys };
+}
+
+impl<'a> NameSet<'a> {
+    /// No names.
+    pub fn new(alloc: Global) -> NameSet<'a>
+        ensures { result ≡ [] }
+    {
+        NameSet {
+            keys: IndexSet::new(alloc),
+        }
+    }
+
+    /// Puts in a name, if it is new.
+    #[tactic(auto, using(crate::proofs::NamesPut::seen_put))]
+    pub fn put(&mut self, name: &'a [u8]) -> Result<(), AllocError>
+        ensures { OnOk result (self.new ≡ with_name self.old name.now) }
+    {
+        self.keys.insert(name)?;
+        Ok(())
+    }
+
+    /// Whether the name is among them.
+    #[tactic(auto, using(crate::proofs::NamesPut::any_seen))]
+    pub fn contains(&self, name: &[u8]) -> bool
+        ensures { result ≡ list_any (bytes_eq name.now) self.now }
+    {
+        self.keys.contains(name)
+    }
+}
