@@ -37,3 +37,11 @@ pub mod PlainOwn
 pub mod PlainCut
 pub mod PlainKept
 pub mod ExitLaws
+pub mod DrawnBlocks
+pub mod EntryValues
+pub mod BodyDrawn
+pub mod AssumedClauses
+pub mod Innermost
+pub mod AmongGlobals
+pub mod EntryAssumed
+mod MoreGraphs

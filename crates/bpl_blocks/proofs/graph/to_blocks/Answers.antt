@@ -1,0 +1,23 @@
+use Rattle.std.proofs.Common.{◌∙◌, ap, sym, subst}
+use Rattle.flow_core.specs.Graph.{KeepsEntryValues}
+use Rattle.bpl_model.specs.Numbering.{olds_of}
+use Rattle.bpl_model.specs.Typed.{IsTypedModule}
+use Rattle.bpl_blocks.proofs.EntryValues.{replaced_keeps}
+use Rattle.bpl_blocks.proofs.graph.to_blocks.Goals as goal
+
+keeps : (c : goal.After-of-2) → KeepsEntryValues c.of.result c.of-2.result
+keeps c =
+    let m = c.args.module.now in
+    let typed = subst IsTypedModule c.parts-parts.ensures.same c.parts-parts.ensures.typed in
+    let blocks = c.of.ensures ∙ c.in_ok-blocks.ensures in
+    let olds = c.of-2.ensures ∙ (c.in_ok-olds.ensures ∙ ap olds_of c.parts-parts.ensures.same) in
+    subst (λ bs. KeepsEntryValues bs c.of-2.result) (sym blocks) (subst (KeepsEntryValues _) (sym olds) (replaced_keeps m c.args.p.now typed c.requires))
+
+pub new-requires-clause-paired_once : goal.new-requires-clause-paired_once
+new-requires-clause-paired_once c = (keeps c).paired_once
+
+pub new-requires-clause-never_set : goal.new-requires-clause-never_set
+new-requires-clause-never_set c = (keeps c).never_set
+
+pub new-requires-clause-never_target : goal.new-requires-clause-never_target
+new-requires-clause-never_target c = (keeps c).never_target
