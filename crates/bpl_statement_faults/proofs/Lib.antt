@@ -1,0 +1,4 @@
+pub mod Counted
+pub mod StmtSteps
+pub mod LabelSteps
+pub mod CallSteps

@@ -1,0 +1,4 @@
+pub mod StmtFaults
+pub mod BodyView
+pub mod StackView
+pub mod CallView
