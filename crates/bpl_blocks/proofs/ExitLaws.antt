@@ -55,5 +55,5 @@ keeps_failures m p typed there none mark f = whole_kept m p (flips m) (values_fi
 
 -- with what is shown of the graph's shape, the law
 pub with_shape : (m : Module) (p : Proc) → IsTypedModule m → Contains m.procs p → BodyHasNoGoto p.body
-    → IsPlain (to_blocks m (cut_calls m p)) → TargetsCover (to_blocks m (cut_calls m p)) → OnlyHeadsAgain (to_blocks m (cut_calls m p)).blocks → KeepsFailures m (cut_calls m p)
+    → IsPlain (to_blocks m (cut_calls m p)) → TargetsCover (to_blocks m (cut_calls m p)) → OnlyHeadsAgain (to_blocks m (cut_calls m p)).blocks → KeepsFailures m (cut_calls m p) (to_blocks m (cut_calls m p))
 with_shape m p typed there none plain covered heads = record { kept = keeps_failures m p typed there none; plain = plain; covered = covered; only_heads = heads }

@@ -39,6 +39,7 @@ pub mod PlainKept
 pub mod ExitLaws
 pub mod DrawnBlocks
 pub mod EntryValues
+pub mod ReplacedKept
 pub mod BodyDrawn
 pub mod AssumedClauses
 pub mod Innermost

@@ -8,7 +8,7 @@ ghost use Rattle.bpl_model.specs.Numbering.{first_own, olds_of};
 ghost use Rattle.bpl_model.specs.StmtView.{stmts_of};
 ghost use Rattle.bpl_blocks.specs.Blocks.{assume_all, at_entry, block, blocks_of, body_blocks, to_blocks};
 ghost use Rattle.bpl_blocks.specs.Drawn.{with_list};
-ghost use Rattle.bpl_blocks.specs.Kept.{HasCallsReplaced};
+ghost use Rattle.bpl_blocks.specs.Kept.{HasCallsReplaced, KeepsFailures};
 
 use crate::block::draw_list;
 use crate::clauses::all_clauses;
@@ -24,12 +24,16 @@ use std::alloc::{AllocError, Global};
 
 /// The graph of a procedure whose calls are replaced, its blocks in the order of the text: block 0
 /// assumes what holds at entry, and the last block asserts each checked `ensures`. A procedure
-/// without a body has no blocks. `laws` says what becomes of failing executions.
+/// without a body has no blocks. Each failing execution has a failing run with the same mark and from
+/// the same state; the graph is plain, and each head's targets hold what its loop may set. The time is
+/// linear in the size of the body times the depth of its nesting, but for sorting variables, after one
+/// walk over the module.
 ///
 /// An error is want of memory.
 pub fn to_blocks(alloc: Global, module: &Module, p: &Proc) -> Result<Graph, AllocError>
     requires { HasCallsReplaced «module».now p.now }
-    ensures { IfOk result (λ g. g ≡ to_blocks «module».now p.now) }
+    ensures exact { IfOk result (λ g. g ≡ to_blocks «module».now p.now) }
+    ensures kept { IfOk result (λ g. KeepsFailures «module».now p.now g) }
 {
     let parts = module.parts();
     let blocks = blocks_of(alloc, module, p)?;
