@@ -1,0 +1,4 @@
+pub mod Reaching
+pub mod NextNames
+pub mod NextNumbers
+pub mod ComingBack

@@ -1,0 +1,7 @@
+use Rattle.std.proofs.Common.{◌≡◌, drop}
+use Rattle.bpl_scopes.specs.Fault.{is_among}
+use Rattle.bpl_dependencies.specs.AppliedView.{texts_seen}
+use Rattle.bpl_dependencies.proofs.variables.is_any_of.Given as goal
+
+abbrev pub invariant-loop-found : goal.invariant-loop-found
+invariant-loop-found l = is_among (texts_seen (drop l.found-index l.names)) l.name ≡ is_among (texts_seen l.names) l.name

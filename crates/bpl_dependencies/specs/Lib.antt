@@ -1,0 +1,4 @@
+pub mod AppliedView
+pub mod NamesAt
+pub mod Rounds
+pub mod Reach

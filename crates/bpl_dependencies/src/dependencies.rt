@@ -1,0 +1,104 @@
+// Which names lead to themselves, and which functions are logical.
+ghost use Rattle.std.specs.Prelude.{◌≡◌, length, IfOk};
+ghost use Rattle.bpl_dependencies.specs.Reach.{edges_seen, AreEdges, flags_at, leads_far};
+ghost use Rattle.bpl_scopes.specs.Functions.{leads_to_itself, in_number_order};
+
+use crate::edges::table_edges;
+use crate::flags::{far_flags, logical_flags};
+use crate::numbers::number_functions;
+use crate::reach::{comes_back, is_set};
+use bpl_scopes::{Environment, Positions, Table, Types};
+use std::alloc::{AllocError, Global};
+use std::marker::Model;
+
+/// What is declared, and what leads to what.
+#[derive(Drop)]
+pub struct Dependencies<'a> {
+    environment: Environment<'a>,
+    edges: Vec<Vec<usize>>,
+    far: Vec<bool>,
+}
+
+impl<'a> Model for Dependencies<'a> {
+    ghost use Rattle.std.specs.Prelude.{◌≡◌, List, length};
+    ghost use Rattle.bpl_scopes.specs.Scopes.{Entry as entry};
+    ghost use Rattle.bpl_scopes.specs.EntryCodes.{coded_table};
+
+    ghost Value = { List entry };
+
+    ghost coded = { coded_table };
+
+    ghost use Rattle.bpl_dependencies.specs.Reach.{edges_seen, AreEdges, flags_at, leads_far};
+
+    ghost view = { λ a. a.environment };
+
+    ghost invariant = { λ a. (AreEdges a.environment (edges_seen a.edges.items)) × (a.far.items ≡ flags_at a.environment (leads_far a.environment (length a.environment))) };
+}
+
+// Whether the name leads to itself. A name from which no way goes far doesn't.
+#[tactic(auto, using(crate::proofs::ComingBack::absent_leads, crate::proofs::ComingBack::no_far_way, crate::proofs::ComingBack::comes_back_is))]
+fn is_cyclic(
+    alloc: Global,
+    table: &Table,
+    edges: &[Vec<usize>],
+    far: &[bool],
+    name: &[u8],
+) -> Result<bool, AllocError>
+    requires edges { AreEdges table.now (edges_seen edges.now) }
+    requires far { far.now ≡ flags_at table.now (leads_far table.now (length table.now)) }
+    ensures { IfOk result (λ b. b ≡ leads_to_itself table.now name.now) }
+{
+    let Some(at) = table.find(name) else {
+        return Ok(false);
+    };
+    if !is_set(far, at) {
+        return Ok(false);
+    }
+    comes_back(alloc, edges, at)
+}
+
+impl<'a> Dependencies<'a> {
+    /// What a table's names lead to.
+    pub fn of(alloc: Global, types: Types<'a>) -> Result<Dependencies<'a>, AllocError>
+        ensures { IfOk result (λ d. d ≡ types.entry) }
+    {
+        let edges = table_edges(alloc, types.table())?;
+        let logical = logical_flags(alloc, types.table(), &edges)?;
+        let far = far_flags(alloc, types.table(), &edges)?;
+        Ok(Dependencies {
+            environment: Environment::new(types, logical),
+            edges,
+            far,
+        })
+    }
+
+    /// What is declared.
+    pub fn environment(&self) -> &Environment<'a>
+        ensures { result.now ≡ self.now }
+    {
+        &self.environment
+    }
+
+    /// Whether the name leads to itself.
+    pub fn leads_to_itself(&self, alloc: Global, name: &[u8]) -> Result<bool, AllocError>
+        ensures { IfOk result (λ b. b ≡ leads_to_itself self.now name.now) }
+    {
+        is_cyclic(
+            alloc,
+            self.environment.types().table(),
+            &self.edges,
+            &self.far,
+            name,
+        )
+    }
+
+    /// The functions in the order of their numbers: each stands behind those that it applies.
+    pub fn function_order(&self, alloc: Global) -> Result<Positions<'a>, AllocError>
+        ensures { IfOk result (λ p. p ≡ in_number_order self.now) }
+    {
+        let table = self.environment.types().table();
+        let mut order = Positions::new(alloc);
+        number_functions(table, &self.edges, table.entries(), &mut order)?;
+        Ok(order)
+    }
+}

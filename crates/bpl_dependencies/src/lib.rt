@@ -1,0 +1,21 @@
+//! What functions and synonyms depend on: the functions that a body applies, the synonyms in a
+//! type, which of them lead to themselves, which functions are logical, and in which order functions
+//! are numbered.
+#![tactic(auto)]
+
+// The variables that hide names, the names that an expression applies and a type names, and whether
+// a quantifier stands in an expression.
+mod applied;
+mod named;
+mod quantified;
+pub mod variables;
+
+// What leads to what.
+pub mod dependencies;
+mod edges;
+mod flags;
+mod numbers;
+mod reach;
+
+pub use dependencies::Dependencies;
+pub use variables::{Variables, argument_names};
