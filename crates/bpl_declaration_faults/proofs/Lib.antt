@@ -1,0 +1,2 @@
+pub mod VarSteps
+pub mod DeclSteps
