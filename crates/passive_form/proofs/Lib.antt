@@ -1,4 +1,6 @@
 pub mod Ranges
+pub mod Rows
+pub mod FirstWritten
 mod UnequalJoin
 pub mod Renamed
 pub mod Mentioned

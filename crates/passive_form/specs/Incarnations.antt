@@ -1,5 +1,5 @@
 -- The passive form of a rising graph: each assignment and havoc makes new incarnations, and so does a join of unequal ones.
-use Rattle.std.specs.Prelude.{ℕ, nat_eq, ◌==◌, nat_lt, not, cond, List, [], ◌∷◌, ◌++◌, map, length, slice_index_or, set, filter, find, flat_map, unwrap_or, option_map}
+use Rattle.std.specs.Prelude.{ℕ, Bool, nat_eq, ◌==◌, nat_lt, not, cond, List, [], ◌∷◌, ◌++◌, map, length, slice_index_or, set, filter, find, flat_map, unwrap_or, option_map}
 use Rattle.std.specs.List.{list_any, list_all, range_with_len}
 use Rattle.logic_core.specs.Tree.{Kind, int, Tree, free, equal}
 use Rattle.logic_core.specs.Variables.{renamed}
@@ -63,8 +63,15 @@ nothing_done = record { joined = []; commands = []; last = [] }
 abbrev pub numbers : List Block → List ℕ
 numbers blocks = range_with_len 0 (length blocks)
 
+abbrev pub has_edge : List Block → ℕ → ℕ → Bool
+has_edge blocks p b = list_any (λ c. c == b) (block_at blocks p).next
+
+-- the blocks below n with an edge to block b
+abbrev pub predecessors_below : List Block → ℕ → ℕ → List ℕ
+predecessors_below blocks n b = filter (λ p. has_edge blocks p b) (range_with_len 0 n)
+
 abbrev pub predecessors : List Block → ℕ → List ℕ
-predecessors blocks b = filter (λ p. list_any (λ c. c == b) (block_at blocks p).next) (numbers blocks)
+predecessors blocks b = predecessors_below blocks (length blocks) b
 
 -- the variables on which two predecessors disagree, those of calls apart
 abbrev pub disagree : ℕ → List Incarnations → List ℕ

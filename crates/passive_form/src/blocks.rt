@@ -1,15 +1,18 @@
 // Blocks one after another, and what each has in the passive form.
 ghost use Rattle.std.specs.Prelude.{◌≡◌, ◌++◌, ◌<◌, [], length, slice_index_or, map, flat_map, IfOk, OnOk};
+ghost use Rattle.std.specs.List.{range_with_len};
 ghost use Rattle.logic_core.specs.Tree.{free, equal};
 ghost use Rattle.flow_core.specs.declared.command.Command.TheVariants.{Assume};
-ghost use Rattle.passive_form.specs.Incarnations.{incarnation, first_incarnation, first_incarnations, nothing_done, numbers, do_block, do_blocks, equations_for, passive_block};
+ghost use Rattle.passive_form.specs.Incarnations.{incarnation, first_incarnations, predecessors, nothing_done, numbers, do_block, do_blocks, equations_for, passive_block};
 
 use crate::done::{Done, last_of};
-use crate::joins::{arriving, disagree, predecessors};
+use crate::incarnations::Incarnations;
+use crate::joins::{arriving, disagree};
 use crate::made::{Made, equation};
 use crate::passive::PassiveBlock;
+use crate::predecessors::predecessors;
 use flow_core::command::copy_numbers;
-use flow_core::{Block, Command, Graph};
+use flow_core::{Command, Graph};
 use logic_core::copy::copy_sorts;
 use logic_core::{Node, Sequence, Sort, Term};
 use std::alloc::{AllocError, Global};
@@ -21,24 +24,27 @@ pub struct AllDone {
     pub blocks: Sequence<Done>,
 }
 
-// The variable's own number, and of an entry value its global's.
-fn first_incarnation(graph: &Graph, variable: u64) -> u64
-    ensures { result ≡ first_incarnation graph.now variable }
+// Each variable's own number.
+fn own_numbers(alloc: Global, count: usize) -> Result<Vec<u64>, AllocError>
+    ensures { IfOk result (λ v. v.items ≡ range_with_len 0 count) }
 {
-    for old in graph.olds() {
-        if old.1 == variable {
-            return old.0;
-        }
-    }
-    variable
+    (0..count as u64).collect(alloc)
 }
 
-fn first_incarnations(alloc: Global, graph: &Graph, vars: &[Sort]) -> Result<Vec<u64>, AllocError>
-    ensures { IfOk result (λ v. v.items ≡ first_incarnations graph.now vars.now) }
+// Of an entry value its global's number, and else the variable's own. The first pair counts, so it
+// is written last.
+fn first_incarnations(
+    alloc: Global,
+    graph: &Graph,
+    vars: &[Sort],
+) -> Result<Incarnations, AllocError>
+    ensures { IfOk result (λ i. i ≡ first_incarnations graph.now vars.now) }
 {
-    let mut numbers = Vec::new(alloc);
-    for variable in 0..vars.len() as u64 {
-        numbers.push(first_incarnation(graph, variable))?;
+    let olds = graph.olds();
+    let mut numbers = Incarnations::new(own_numbers(alloc, vars.len())?);
+    for i in (0..olds.len()).rev() {
+        let old = olds[i];
+        numbers.renew(old.1, old.0);
     }
     Ok(numbers)
 }
@@ -50,18 +56,19 @@ fn do_block(
     first: &[u64],
     sorts: Sequence<Sort>,
     before: &[Done],
+    entering: &[u64],
     number: u64,
 ) -> Result<(Sequence<Sort>, Done), AllocError>
+    requires { entering.now ≡ predecessors graph.now.blocks number }
     ensures sorts { IfOk result (λ r. r.0 ≡ (do_block graph.now first.now sorts before.now number).0.sorts) }
     ensures done { IfOk result (λ r. r.1 ≡ (do_block graph.now first.now sorts before.now number).1) }
 {
-    let entering = predecessors(alloc, graph.blocks(), number)?;
     let mut made = Made {
         sorts,
-        present: arriving(alloc, graph.own(), first, before, &entering)?,
+        present: arriving(alloc, graph.own(), first, before, entering)?,
         commands: Sequence::new(alloc),
     };
-    let unequal = disagree(alloc, graph.own(), before, &entering)?;
+    let unequal = disagree(alloc, graph.own(), before, entering)?;
     let joined = made.join(alloc, &unequal)?;
     if let Some(block) = graph.blocks().get(number as usize) {
         made.perform_all(alloc, block.commands.as_slice())?;
@@ -79,11 +86,15 @@ pub fn do_blocks(alloc: Global, graph: &Graph, vars: &[Sort]) -> Result<AllDone,
     ensures sorts { IfOk result (λ r. r.sorts ≡ (do_blocks graph.now (first_incarnations graph.now vars.now) vars.now [] (numbers graph.now.blocks)).0) }
     ensures blocks { IfOk result (λ r. r.blocks ≡ (do_blocks graph.now (first_incarnations graph.now vars.now) vars.now [] (numbers graph.now.blocks)).1) }
 {
-    let first = first_incarnations(alloc, graph, vars)?;
+    let all = graph.blocks();
+    let rows = predecessors(alloc, all)?;
+    let numbers = first_incarnations(alloc, graph, vars)?;
+    let first = numbers.as_slice();
     let mut sorts = Sequence::of(copy_sorts(alloc, vars)?);
     let mut blocks = Vec::new(alloc);
-    for number in 0..graph.blocks().len() as u64 {
-        let (more, done) = do_block(alloc, graph, &first, sorts, &blocks, number)?;
+    for number in 0..all.len() as u64 {
+        let entering = rows[number as usize].as_slice();
+        let (more, done) = do_block(alloc, graph, first, sorts, &blocks, entering, number)?;
         sorts = more;
         blocks.push(done)?;
     }

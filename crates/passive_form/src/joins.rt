@@ -1,38 +1,13 @@
 // Where the predecessors of a block join.
-ghost use Rattle.std.specs.Prelude.{◌≡◌, ◌==◌, ◌∷◌, nat_eq, nat_lt, cond, map, slice_index_or, IfOk, OnOk};
-ghost use Rattle.std.specs.List.{list_any, list_all, range_with_len};
-ghost use Rattle.flow_core.specs.Graph.{block_at};
-ghost use Rattle.passive_form.specs.Incarnations.{incarnation, nothing_done, predecessors, lasts, disagree, arriving, havocked, new_at_join};
+ghost use Rattle.std.specs.Prelude.{◌≡◌, ◌∷◌, nat_eq, nat_lt, cond, map, slice_index_or, IfOk, OnOk};
+ghost use Rattle.std.specs.List.{list_all, range_with_len};
+ghost use Rattle.passive_form.specs.Incarnations.{incarnation, nothing_done, lasts, disagree, arriving, havocked, new_at_join};
 
 use crate::done::{Done, last_of};
 use crate::incarnations::Incarnations;
 use crate::made::Made;
-use flow_core::Block;
 use logic_core::Sequence;
 use std::alloc::{AllocError, Global};
-
-// Whether an edge goes from the one block to the other.
-fn has_edge(blocks: &[Block], from: u64, to: u64) -> bool
-    ensures { result ≡ list_any (λ c. c == to) (block_at blocks.now from).next }
-{
-    match blocks.get(from as usize) {
-        Some(block) => block.next.as_slice().iter().any(|c| *c == to),
-        None => false,
-    }
-}
-
-/// The blocks with an edge to this one, in rising order.
-pub fn predecessors(alloc: Global, blocks: &[Block], block: u64) -> Result<Vec<u64>, AllocError>
-    ensures { IfOk result (λ v. v.items ≡ predecessors blocks.now block) }
-{
-    let mut numbers = Vec::new(alloc);
-    for p in 0..blocks.len() as u64 {
-        if has_edge(blocks, p, block) {
-            numbers.push(p)?;
-        }
-    }
-    Ok(numbers)
-}
 
 // Whether the variable has this incarnation at the end of each of the blocks.
 fn agree(done: &[Done], blocks: &[u64], variable: u64, number: u64) -> bool

@@ -16,6 +16,7 @@ mod blocks;
 mod done;
 mod graph;
 mod joins;
+mod predecessors;
 
 // What the passive form keeps.
 pub mod laws;

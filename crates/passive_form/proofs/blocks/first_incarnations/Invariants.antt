@@ -1,7 +1,8 @@
-use Rattle.std.proofs.Common.{◌≡◌, map}
+use Rattle.std.proofs.Common.{◌≡◌, map, length, drop}
 use Rattle.std.specs.List.{range_with_len}
-use Rattle.passive_form.specs.Incarnations.{first_incarnation}
+use Rattle.passive_form.proofs.FirstWritten.{by_pairs}
 use Rattle.passive_form.proofs.blocks.first_incarnations.Given as goal
 
-abbrev pub invariant-loop-variable : goal.invariant-loop-variable
-invariant-loop-variable l = l.numbers.items ≡ map (first_incarnation l.graph) (range_with_len 0 l.variable)
+-- by the pairs from the i-th on
+abbrev pub invariant-loop-i : goal.invariant-loop-i
+invariant-loop-i l = l.numbers ≡ map (by_pairs (drop l.i l.olds)) (range_with_len 0 (length l.vars))
