@@ -11,12 +11,13 @@ use Rattle.bpl_model.specs.Execution.{ExecBody, failed}
 use Rattle.bpl_goto.specs.Forward.{AllGoForward}
 use Rattle.bpl_goto.specs.Removed.{removed, remove_gotos}
 
-pub record KeepsFailures (m : Module) (p : Proc) : Type 0 where
-  pub same : (σ : State) → IsEntry m p σ → (mark : Mark) → ExecBody m p σ (failed mark) ↔ ExecBody (remove_gotos m) (removed p) σ (failed mark)
-  pub no_goto : BodyHasNoGoto (removed p).body
+-- q in n fails exactly as p in m does
+pub record KeepsFailures (m n : Module) (p q : Proc) : Type 0 where
+  pub same : (σ : State) → IsEntry m p σ → (mark : Mark) → ExecBody m p σ (failed mark) ↔ ExecBody n q σ (failed mark)
+  pub no_goto : BodyHasNoGoto q.body
 
 abbrev pub RemoveGotosKeepsFailures : Type 0
-RemoveGotosKeepsFailures = (m : Module) (p : Proc) → IsTypedModule m → AllGoForward m → Contains m.procs p → KeepsFailures m p
+RemoveGotosKeepsFailures = (m : Module) (p : Proc) → IsTypedModule m → AllGoForward m → Contains m.procs p → KeepsFailures m (remove_gotos m) p (removed p)
 
 -- what the module's type keeps holds of the result
 abbrev pub RemoveGotosStaysTyped : Type 0

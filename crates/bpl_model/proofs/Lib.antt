@@ -4,7 +4,7 @@ mod TypedIsTyped
 pub mod Members
 mod Marks
 mod MarkedRounds
-mod NamesPut
+pub mod NamesPut
 pub mod NamedAt
 mod Rows
 mod RisingNumbers
