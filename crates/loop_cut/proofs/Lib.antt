@@ -1,4 +1,5 @@
 mod Loop
+mod CutLoops
 mod States
 mod Mentioned
 mod CutBlocks

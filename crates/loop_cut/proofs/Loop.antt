@@ -10,16 +10,16 @@ use Rattle.flow_core.specs.declared.block.Block.{Block}
 use Rattle.flow_core.specs.Graph.{Graph}
 use Rattle.loop_cut.specs.Cut.{cut}
 
-abbrev marked : ℕ → ℕ → GoalKind → Mark
+abbrev pub marked : ℕ → ℕ → GoalKind → Mark
 marked l c k = record { place = record { line = l; col = c }; kind = k }
 
-abbrev n : ℕ → Tree
+abbrev pub n : ℕ → Tree
 n k = num (pos k)
 
-abbrev plus_one : Tree → Tree
+abbrev pub plus_one : Tree → Tree
 plus_one t = linear (part (pos 1) t (part (pos 1) (n 1) no_parts)) (pos 0)
 
-abbrev block : List Command → List ℕ → Block
+abbrev pub block : List Command → List ℕ → Block
 block cs next = record { commands = cs; next = next; head = None }
 
 -- i := 0; while (true) invariant i <= 3; { i := i + 1; if (i == 4) { break; } } assert i == 4; assert i <= 3;
