@@ -7,4 +7,4 @@ use Rattle.proof_check.specs.declared.fault.CheckFault.TheVariants.{Memory, Reje
 
 abbrev pub fault_text : CheckFault → List ℕ
 fault_text Memory = codes "out of memory"
-fault_text (Rejected n r) = codes "node " ++ decimal n ++ codes ": " ++ rule_word (rule_of r) ++ codes " is refused"
+fault_text (Rejected n r) = codes "node " ++ (decimal n ++ (codes ": " ++ (rule_word (rule_of r) ++ codes " is refused")))

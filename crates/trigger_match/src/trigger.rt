@@ -63,7 +63,16 @@ pub fn matches_over(
     kinds.reverse();
     let found = nothing_found(alloc, sorts)?;
     let mut tuples = Vec::new(alloc);
-    push_tuples(alloc, vars, defs, &kinds, trigger, ground, &found, &mut tuples)?;
+    push_tuples(
+        alloc,
+        vars,
+        defs,
+        &kinds,
+        trigger,
+        ground,
+        &found,
+        &mut tuples,
+    )?;
     Ok(tuples)
 }
 
