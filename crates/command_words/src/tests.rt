@@ -1,0 +1,31 @@
+// Words that are read where memory is ample, and words that are none.
+use crate::{Command, Mode, Usage, read_words};
+use std::alloc::{AllocError, Global};
+use std::test::Fail;
+
+fn words_of(alloc: Global, texts: &[&str]) -> Result<Vec<String>, AllocError> {
+    let mut words = Vec::new(alloc);
+    for text in texts {
+        words.push(String::from_str(alloc, *text)?)?;
+    }
+    Ok(words)
+}
+
+#[test]
+fn words_are_read(rt: HostRuntime) -> Result<(), Fail> {
+    let words = words_of(rt.alloc(), &["gen", "--size=5", "--seed", "1"])?;
+    let read = Command {
+        mode: Mode::Gen,
+        turns: 20_000,
+        workers: 0,
+        seed: 1,
+        size: 5,
+    };
+    assert_eq!(rt; read_words(rt.alloc(), words.as_slice()), Ok(read));
+    let words = words_of(rt.alloc(), &["check", "--turns", "0"])?;
+    assert_eq!(rt;
+        read_words(rt.alloc(), words.as_slice()),
+        Err(Usage::NoReading)
+    );
+    Ok(())
+}
