@@ -1,4 +1,5 @@
 // Texts with their tokens, texts that are read, texts that are refused, and canonical texts.
+use crate::fault_of;
 use bpl_ast::Decl;
 use bpl_parse::{Fault, parse_decls};
 use std::alloc::Global;
@@ -17,8 +18,6 @@ fn declared(rt: &impl Abort, alloc: Global, text: &[u8]) -> Result<Vec<Decl>, Fa
 }
 
 fn is_refused(rt: &impl Abort, alloc: Global, text: &[u8], expected: Fault) {
-    match declared(rt, alloc, text) {
-        Ok(_) => panic!(rt; "{text:?} is read"),
-        Err(fault) => assert_eq!(rt; fault, expected, "{text:?}"),
-    }
+    assert!(rt; text.len() < u32::MAX as usize);
+    assert_eq!(rt; fault_of(alloc, text), Some(expected), "{text:?}");
 }
