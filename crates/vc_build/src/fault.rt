@@ -1,0 +1,47 @@
+// Why goals aren't built.
+use std::alloc::{AllocError, AllocFailed};
+
+/// What of a program's goals has a limit.
+#[derive(Clone, Copy, PartialEq, Eq, Debug)]
+pub enum Measure {
+    /// Their number, of which there are 65,536 at most.
+    Count,
+    /// The bytes of their obligations' texts, of which there are 67,108,864 at most.
+    Bytes,
+}
+
+/// Why goals aren't built.
+#[derive(Debug, Drop)]
+pub enum BuildFault {
+    /// A limit is exceeded.
+    Large {
+        /// Which one.
+        what: Measure,
+        /// The number there, at the first goal that exceeds it.
+        number: u64,
+    },
+    /// There is no memory for them.
+    Memory,
+}
+
+impl From<AllocError> for BuildFault {
+    ghost use Rattle.std.specs.Prelude.{◌≡◌};
+    ghost use Rattle.vc_build.specs.declared.fault.BuildFault.TheVariants.{Memory};
+
+    ghost from_gives = { λ _ e. e ≡ Memory };
+
+    fn from(_error: AllocError) -> BuildFault {
+        BuildFault::Memory
+    }
+}
+
+impl<T: Drop> From<AllocFailed<T>> for BuildFault {
+    ghost use Rattle.std.specs.Prelude.{◌≡◌};
+    ghost use Rattle.vc_build.specs.declared.fault.BuildFault.TheVariants.{Memory};
+
+    ghost from_gives = { λ _ e. e ≡ Memory };
+
+    fn from(_error: AllocFailed<T>) -> BuildFault {
+        BuildFault::Memory
+    }
+}
