@@ -1,0 +1,5 @@
+pub mod ChangedFacts
+pub mod Lists
+pub mod Moves
+pub mod Sizes
+pub mod Steps

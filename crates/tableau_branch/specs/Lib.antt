@@ -1,0 +1,12 @@
+pub mod Applied
+pub mod Branch
+pub mod Cases
+pub mod Change
+pub mod Codes
+pub mod Move
+pub mod OneBranch
+pub mod Oriented
+pub mod Replacing
+pub mod Shapes
+pub mod Variables
+pub mod View
