@@ -1,0 +1,4 @@
+pub mod Written
+pub mod Kinds
+pub mod Words
+pub mod Faults

@@ -1,0 +1,16 @@
+//! A program's fault as it is written: its kind, the declaration, the place there and the word that
+//! stands there; and its line. Each is exactly as `specs/` has it.
+#![tactic(auto)]
+
+// The parts of a fault, and its line.
+pub mod written;
+
+// The names of kinds, and the words at places.
+mod kinds;
+mod words;
+
+// A fault of a text, of a declaration, and of a program that is too large.
+pub mod faults;
+
+pub use faults::{fault_in_decl, fault_in_text, fault_of_size};
+pub use written::Written;
