@@ -1,4 +1,4 @@
-use Rattle.std.proofs.Common.{◌≡◌, ◌+◌, [], ◌∷◌, ◌++◌, length, arith, ap, subst}
+use Rattle.std.proofs.Common.{◌≡◌, [], ◌∷◌, ◌++◌, length, arith, ap, subst}
 use Rattle.obligation_text.specs.Text.{obligation_text}
 use Rattle.vc_build.specs.Exceeds.{IsFaultOf}
 use Rattle.vc_build.proofs.Limits.{fault_at, at_exit, tallied}
