@@ -1,12 +1,9 @@
 -- Tokens that stand one after another in a text: each lies in it, and those behind one stand behind it.
-use Rattle.std.proofs.Common.{◌≡◌, ℕ, zero, suc, ◌+◌, ◌<◌, ◌≤◌, List, [], ◌∷◌, length, get_or, drop, sym, subst, ap, ◌∙◌, arith}
+use Rattle.std.proofs.Common.{◌≡◌, ℕ, ◌+◌, ◌<◌, ◌≤◌, List, [], ◌∷◌, length, get_or, drop, refl, sym, subst, ap, ◌∙◌, arith}
 use Rattle.std.proofs.lemmas.List.{at_drop_more}
 use Rattle.bpl_lex.specs.Token.{Token}
 use Rattle.bpl_lex.specs.Spelled.{AreInOrder}
-
-pub from_within : (from upto : ℕ) (ts : List Token) → AreInOrder from upto ts → from ≤ upto
-from_within from upto [] h = h
-from_within from upto (t ∷ ts) h = omega (arith, h.0, h.1, from_within t.finish upto ts h.2)
+use Rattle.bpl_lex.proofs.Laws.{each_inside}
 
 lower : (a b upto : ℕ) (ts : List Token) → a ≤ b → AreInOrder b upto ts → AreInOrder a upto ts
 lower a b upto [] le h = omega (arith, le, h)
@@ -17,11 +14,10 @@ pub record IsInside (upto : ℕ) (t : Token) : Type 0 where
   pub ordered : t.start ≤ t.finish
   pub within : t.finish ≤ upto
 
-pub each_inside : (from upto : ℕ) (ts : List Token) (i : ℕ) (t : Token) → AreInOrder from upto ts → i < length ts → t ≡ get_or ts i t → IsInside upto t
-each_inside from upto [] i t h lt is = absurd (omega arith)
-each_inside from upto (u ∷ ts) zero t h lt is =
-    subst (IsInside upto) (sym is) (record { ordered = omega (arith, h.1); within = from_within u.finish upto ts h.2 })
-each_inside from upto (u ∷ ts) (suc i) t h lt is = each_inside u.finish upto ts i t h.2 (omega arith) is
+pub inside_at : (from upto : ℕ) (ts : List Token) (i : ℕ) (t : Token) → AreInOrder from upto ts → i < length ts → t ≡ get_or ts i t → IsInside upto t
+inside_at from upto ts i t h lt is =
+    let there = subst (λ (u : Token). (u.start < u.finish) × (u.finish ≤ upto)) (sym is) (each_inside from upto ts h i t lt) in
+    record { ordered = omega (arith, there.0); within = there.1 }
 
 -- the next token, and those behind it
 pub record GoesOn (at upto i : ℕ) (ts : List Token) (t : Token) : Type 0 where
@@ -31,7 +27,7 @@ pub record GoesOn (at upto i : ℕ) (ts : List Token) (t : Token) : Type 0 where
 
 with_next : (at upto : ℕ) (t : Token) (us : List Token) → AreInOrder at upto (t ∷ us) → (at ≤ t.start) × IsInside upto t × AreInOrder t.start upto us
 with_next at upto t us h =
-    (h.0, record { ordered = omega (arith, h.1); within = from_within t.finish upto us h.2 }, lower t.start t.finish upto us (omega (arith, h.1)) h.2)
+    (h.0, inside_at at upto (t ∷ us) 0 t h (omega arith) refl, lower t.start t.finish upto us (omega (arith, h.1)) h.2)
 
 pub goes_on : (at upto i : ℕ) (ts : List Token) (t : Token) → AreInOrder at upto (drop i ts) → i < length ts → t ≡ get_or ts i t → GoesOn at upto i ts t
 goes_on at upto i ts t h lt is =

@@ -4,7 +4,7 @@ use Rattle.bv_base.specs.Place.{place_at}
 use Rattle.bpl_lex.specs.Token.{Token}
 use Rattle.bpl_lex.specs.Spelled.{AreInOrder}
 use Rattle.fault_text.specs.Words.{same_place, stands_at}
-use Rattle.fault_text.proofs.InOrder.{each_inside, GoesOn, goes_on}
+use Rattle.fault_text.proofs.InOrder.{inside_at, GoesOn, goes_on}
 use Rattle.fault_text.proofs.Found.{found_later}
 use Rattle.fault_text.proofs.words.word_standing.Goals as goal
 use Rattle.fault_text.proofs.words.word_standing.Goals.{After-token}
@@ -30,7 +30,7 @@ place_onward-here-requires-clause-fits c = omega (arith, begins c, (onward c).in
 
 pub text_in-requires-clause-inside : goal.text_in-requires-clause-inside
 text_in-requires-clause-inside c =
-    (each_inside 0 (length c.args.text.now) c.args.tokens.now c.loop-token.token-index c.token-item.result c.requires.in_order c.loop-token-test.true c.token-item.is).within
+    (inside_at 0 (length c.args.text.now) c.args.tokens.now c.loop-token.token-index c.token-item.result c.requires.in_order c.loop-token-test.true c.token-item.is).within
 
 pub loop-token-preserved : goal.loop-token-preserved
 loop-token-preserved c =
