@@ -1,0 +1,2 @@
+pub mod Elaborate
+pub mod ModuleLaws
