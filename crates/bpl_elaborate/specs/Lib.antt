@@ -1,0 +1,4 @@
+pub mod Weights
+pub mod Locals
+pub mod Implemented
+pub mod Places
