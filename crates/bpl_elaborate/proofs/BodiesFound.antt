@@ -1,8 +1,7 @@
 -- The body beside the first name of a procedure is that of its first implementation.
 use Rattle.std.proofs.Common.{◌≡◌, refl, sym, ap, ◌∙◌, ℕ, suc, Bool, true, false, List, [], ◌∷◌, ◌++◌, flat_map, Option, Some, None}
-use Rattle.std.specs.Prelude.{bytes_eq, cond, option_map, slice_get}
+use Rattle.std.specs.Prelude.{bytes_eq, cond, option_map}
 use Rattle.bpl_ast.specs.Statement.{DeclBody, constant, function, axiom_of, variables, synonym, procedure, implementation, Decl}
-use Rattle.bpl_model.specs.Module.{Proc}
 use Rattle.bpl_scopes.specs.Positions.{first_at}
 use Rattle.bpl_scopes.specs.Scopes.{Text, Table, Counts}
 use Rattle.module_laws.specs.Elaborate.{Implemented, or_else, own_body, implements, implementation_of, proc_of, procs_in}

@@ -5,10 +5,10 @@ use Rattle.logic_laws.proofs.DefinedSorts.{last_or_before}
 use Rattle.bpl_scopes.specs.Fault.{is_among}
 use Rattle.bpl_scopes.specs.Positions.{first_at}
 use Rattle.bpl_scopes.specs.Scopes.{Text, Table, entity_of}
-use Rattle.bpl_scopes.specs.Functions.{is_function, leads, leads_to_itself, numbered, function_names, in_number_order}
+use Rattle.bpl_scopes.specs.Functions.{leads, leads_to_itself, numbered, function_names, in_number_order}
 use Rattle.module_laws.proofs.Ways.{Member, member_any, any_member, same_text, text_itself, leads_step, leads_one, leads_up}
 use Rattle.module_laws.proofs.TypesKnown.{SynonymsFine}
-use Rattle.module_laws.proofs.FunctionOrder.{IsFunction, AllFunctions, NextOf, either_side, next_functions, names_are}
+use Rattle.module_laws.proofs.FunctionOrder.{IsFunction, NextOf, either_side, next_functions, names_are}
 
 -- each name stands first where it stands
 abbrev pub Distinct : List Text → Type 0

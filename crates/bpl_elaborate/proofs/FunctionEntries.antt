@@ -4,7 +4,7 @@ use Rattle.std.specs.Prelude.{bytes_eq, find, cond, option_map}
 use Rattle.std.specs.List.{list_any}
 use Rattle.bpl_ast.specs.Place.{Name, Ty}
 use Rattle.bpl_ast.specs.Statement.{DeclBody, constant, function, axiom_of, variables, synonym, procedure, implementation, Decl}
-use Rattle.bpl_scopes.specs.Scopes.{Text, Entity, a_constant, a_global, a_function, a_synonym, a_procedure, Entry, Table, table_of, Counts, no_counts, counts_with, typed_names, names_of, entries_from, entries_of, entries_after, entity_of}
+use Rattle.bpl_scopes.specs.Scopes.{Text, Entity, a_constant, a_global, Entry, Table, table_of, Counts, no_counts, counts_with, typed_names, names_of, entries_from, entries_of, entries_after, entity_of}
 use Rattle.bpl_scopes.specs.Functions.{is_function}
 use Rattle.bpl_elaborate.specs.Places.{function_name}
 

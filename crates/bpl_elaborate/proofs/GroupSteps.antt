@@ -1,5 +1,5 @@
 -- The variables of one group more.
-use Rattle.std.proofs.Common.{◌≡◌, sym, ap, ◌∙◌, ℕ, ◌+◌, ◌<◌, false, length, drop, get_or, List, [], ◌∷◌, ◌++◌, map, append_assoc, Option}
+use Rattle.std.proofs.Common.{◌≡◌, sym, ap, ◌∙◌, ℕ, ◌+◌, ◌<◌, false, length, drop, get_or, List, [], ◌++◌, map, append_assoc, Option}
 use Rattle.logic_core.specs.Tree.{Kind, Tree}
 use Rattle.bpl_ast.specs.Place.{Name}
 use Rattle.bpl_ast.specs.ExprView.{groups_of, clause_of}

@@ -5,7 +5,6 @@ use Rattle.bpl_ast.specs.Place.{Name, Ty}
 use Rattle.bpl_ast.specs.Tree.{Groups, no_groups, group}
 use Rattle.bpl_ast.specs.Statement.{Signature}
 use Rattle.bpl_model.specs.Module.{Global, Local}
-use Rattle.bpl_scopes.specs.declared.part.Part.{Part}
 use Rattle.bpl_scopes.specs.declared.part.Part.TheVariants.{ClauseOfGlobal as in_clause_of_global, ClauseOfIn as in_clause_of_in, ClauseOfOut as in_clause_of_out, ClauseOfLocal as in_clause_of_local}
 use Rattle.bpl_scopes.specs.declared.part.Role.{Role}
 use Rattle.bpl_scopes.specs.Scopes.{Text, Table, Counts, Scope, typed_names, names_of, texts_of, signature_names}

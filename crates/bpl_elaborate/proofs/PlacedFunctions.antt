@@ -1,5 +1,5 @@
 -- The functions of the declarations at their places are those of the module.
-use Rattle.std.proofs.Common.{◌≡◌, ◌≢◌, refl, ap, sym, ◌∙◌, inl, inr, ◌⊎◌, subst, ℕ, zero, suc, pred, ◌+◌, ◌<◌, arith, nat_eq, eqb-true, eq-eqb, Bool, true, false, List, [], ◌∷◌, ◌++◌, set, replicate, length, length-set, Option, Some, None}
+use Rattle.std.proofs.Common.{◌≡◌, refl, ap, sym, ◌∙◌, inl, inr, ◌⊎◌, subst, ℕ, zero, suc, pred, ◌+◌, ◌<◌, arith, nat_eq, eqb-true, eq-eqb, Bool, true, false, List, [], ◌∷◌, ◌++◌, set, replicate, length, length-set, Option, Some, None}
 use Rattle.std.specs.Prelude.{bytes_eq, cond, option_map, flat_map, slice_get}
 use Rattle.std.specs.List.{list_any}
 use Rattle.std.proofs.lemmas.List.{length-replicate}

@@ -1,6 +1,6 @@
 -- The bodies of implementations, under the names of their procedures.
 use Rattle.std.specs.Prelude.{ℕ, List, [], ◌∷◌, map, flat_map, Option, Some, None, slice_get}
-use Rattle.bpl_ast.specs.Statement.{Signature, Body, DeclBody, implementation, procedure, Decl}
+use Rattle.bpl_ast.specs.Statement.{DeclBody, implementation, procedure, Decl}
 use Rattle.bpl_model.specs.Module.{Proc}
 use Rattle.bpl_scopes.specs.Positions.{first_at}
 use Rattle.bpl_scopes.specs.Scopes.{Text, Table, Counts}

@@ -1,5 +1,5 @@
 -- Where the declarations of functions stand, in the order of the functions' numbers.
-use Rattle.std.specs.Prelude.{ℕ, ◌+◌, List, [], ◌∷◌, length, set, replicate, slice_get, Option, Some, None}
+use Rattle.std.specs.Prelude.{ℕ, ◌+◌, List, [], ◌∷◌, length, set, replicate, Option, Some, None}
 use Rattle.bpl_ast.specs.Statement.{DeclBody, function, Decl}
 use Rattle.bpl_model.specs.Module.{Function}
 use Rattle.bpl_scopes.specs.Positions.{first_at}

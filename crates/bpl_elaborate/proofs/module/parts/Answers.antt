@@ -1,4 +1,4 @@
-use Rattle.std.proofs.Common.{◌≡◌, ap, ◌∙◌}
+use Rattle.std.proofs.Common.{◌≡◌, ◌∙◌}
 use Rattle.std.proofs.lemmas.Result.{IfOk-weaker}
 use Rattle.bpl_scopes.specs.CountsView.{counts_seen}
 use Rattle.bpl_scopes.specs.Scopes.{table_of, no_counts, counts_after}

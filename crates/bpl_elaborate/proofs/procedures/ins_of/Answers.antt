@@ -2,7 +2,6 @@ use Rattle.std.proofs.Common.{◌≡◌, sym, ap, ◌∙◌}
 use Rattle.std.proofs.lemmas.Result.{IfOk-weaker}
 use Rattle.bpl_ast.specs.ExprView.{groups_of}
 use Rattle.bpl_scopes.specs.CountsView.{counts_seen}
-use Rattle.bpl_scopes.specs.Scopes.{texts_of, signature_names}
 use Rattle.bpl_scopes.specs.declared.part.Part.TheVariants.{ClauseOfIn as in_clause_of_in}
 use Rattle.bpl_faults.specs.ScopeView.{scope_seen}
 use Rattle.bpl_declaration_faults.specs.Variables.{in_vars, parameters, scope_of}
