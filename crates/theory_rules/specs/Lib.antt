@@ -1,0 +1,14 @@
+pub mod Back
+pub mod ChosenBoth
+pub mod Codes
+pub mod CombinedView
+pub mod Combining
+pub mod Condition
+pub mod Counting
+pub mod Differ
+pub mod DifferOver
+pub mod PassBegun
+pub mod Past
+pub mod ReadsBack
+pub mod Trichotomy
+pub mod Ways
