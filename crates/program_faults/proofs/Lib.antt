@@ -1,0 +1,2 @@
+pub mod InText
+pub mod Position

@@ -1,0 +1,2 @@
+pub mod WrittenFault
+pub mod FaultView
