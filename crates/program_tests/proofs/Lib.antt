@@ -1,0 +1,2 @@
+mod CutGraphs
+pub mod WithoutGotos

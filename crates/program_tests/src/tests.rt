@@ -1,0 +1,7 @@
+// Worked out by hand from the rules: the text of an obligation, from the statements on, and a trigger
+// of two patterns.
+mod passes;
+mod program;
+mod sorted;
+mod terms;
+mod triggers;
