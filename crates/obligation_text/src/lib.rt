@@ -14,7 +14,7 @@ mod order;
 // Texts, keys, and the questions that have them.
 pub mod asked;
 pub mod printing;
-mod text;
+pub mod text;
 
 // Laws of numbers and texts.
 pub mod laws;

@@ -10,29 +10,32 @@ use logic_core::term::{Node, Term};
 use std::alloc::AllocError;
 
 /// The bytes come behind.
-pub(crate) fn put(out: &mut Vec<u8>, bytes: &[u8]) -> Result<(), AllocError>
+pub fn put(out: &mut Vec<u8>, bytes: &[u8]) -> Result<(), AllocError>
     ensures { OnOk result (out.new.items ≡ out.old.items ++ bytes.now) }
 {
     out.extend_from_slice(bytes)?;
     Ok(())
 }
 
+/// The number's decimal digits come behind.
 #[tactic(auto, using(crate::proofs::Printable::number_is))]
-pub(crate) fn put_number(out: &mut Vec<u8>, n: u64) -> Result<(), AllocError>
+pub fn put_number(out: &mut Vec<u8>, n: u64) -> Result<(), AllocError>
     ensures { OnOk result (out.new.items ≡ out.old.items ++ number_text n) }
 {
     let mut buffer = Buffer::new();
     put(out, buffer.format(n).as_bytes())
 }
 
+/// The number's decimal digits come behind, with a minus sign where it is negative.
 #[tactic(auto, using(crate::proofs::Printable::signed_is))]
-fn put_signed(out: &mut Vec<u8>, n: i128) -> Result<(), AllocError>
+pub fn put_signed(out: &mut Vec<u8>, n: i128) -> Result<(), AllocError>
     ensures { OnOk result (out.new.items ≡ out.old.items ++ signed_text n) }
 {
     let mut buffer = Buffer::new();
     put(out, buffer.format(n).as_bytes())
 }
 
+/// The sort's text comes behind.
 #[tactic(auto, using(logic_core::proofs::Mentioned::behind))]
 pub(crate) fn put_sort(out: &mut Vec<u8>, sort: &Sort) -> Result<(), AllocError>
     ensures { OnOk result (out.new.items ≡ out.old.items ++ sort_text sort.now) }
@@ -61,9 +64,9 @@ pub(crate) fn put_sorts(out: &mut Vec<u8>, sorts: &[Sort]) -> Result<(), AllocEr
     Ok(())
 }
 
-// The opening parenthesis and the head of a form.
+/// The opening parenthesis and the head of a form come behind.
 #[tactic(auto, using(logic_core::proofs::Mentioned::behind))]
-fn open(out: &mut Vec<u8>, head: &[u8]) -> Result<(), AllocError>
+pub fn open(out: &mut Vec<u8>, head: &[u8]) -> Result<(), AllocError>
     ensures { OnOk result (out.new.items ≡ out.old.items ++ codes "(" ++ head.now) }
 {
     put(out, b"(")?;
@@ -120,10 +123,10 @@ pub fn put_term(out: &mut Vec<u8>, term: &Term) -> Result<(), AllocError>
     }
 }
 
-// A space, and the term's text.
+/// A space and the term's text come behind.
 #[cycle(text)]
 #[tactic(auto, using(logic_core::proofs::Mentioned::behind))]
-pub(crate) fn put_spaced(out: &mut Vec<u8>, term: &Term) -> Result<(), AllocError>
+pub fn put_spaced(out: &mut Vec<u8>, term: &Term) -> Result<(), AllocError>
     ensures { OnOk result (out.new.items ≡ out.old.items ++ spaced (term_text term.now)) }
 {
     put(out, b" ")?;

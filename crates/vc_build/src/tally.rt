@@ -1,5 +1,5 @@
 // Goals, within the limits on their number and on the bytes of their texts.
-ghost use Rattle.std.specs.Prelude.{◌≡◌, ◌+◌, ◌^◌, ◌<◌, ◌≤◌, [], ◌∷◌, ◌++◌, None, IfErr, IfOk, OnErr, OnOk};
+ghost use Rattle.std.specs.Prelude.{◌≡◌, ◌+◌, ◌^◌, ◌<◌, ◌≤◌, [], ◌∷◌, ◌++◌, None, IfErr, IfOk, OnErr, OnOk, length};
 ghost use Rattle.vc_build.specs.Large.{count_limit, byte_limit, large_after, large};
 ghost use Rattle.vc_build.specs.Exceeds.{IsFaultBy, IsFaultOf};
 
@@ -73,6 +73,13 @@ impl Tally {
             goals: Vec::new(alloc),
             bytes: 0,
         }
+    }
+
+    /// How many goals there are.
+    pub fn len(&self) -> usize
+        ensures { result ≡ length self.now }
+    {
+        self.goals.len()
     }
 
     /// One more goal, where it exceeds no limit; else the goals stay as they are.
