@@ -16,7 +16,7 @@ use Rattle.bpl_grammar.specs.ReadExpressions.{joined, read_inner, e_with, imp_wi
 use Rattle.canonical_laws.specs.Same.{start}
 use Rattle.canonical_laws.specs.Written.{two_exprs}
 use Rattle.canonical_laws.specs.Spelled.{token}
-use Rattle.canonical_laws.specs.Ahead.{weight, is_iff, is_implies, is_and, is_or, is_factor, stops}
+use Rattle.canonical_laws.specs.Ahead.{weight, is_sign, stops}
 use Rattle.canonical_laws.proofs.Levels.{reader_at, ReadsAt}
 use Rattle.canonical_laws.proofs.Stopping.{unseen, is_ahead, lt_true, lt_false}
 use Rattle.canonical_laws.proofs.Operands.{NodeReads}
@@ -82,7 +82,7 @@ product_last (Some IndexSign) xs h = absurd (cc)
 
 -- the chain's own sign is not ahead
 
-not_iff : (s : Option Sign) (xs : Exprs) → IsTrue (stops 0 s (iffs xs)) → is_iff s ≡ false
+not_iff : (s : Option Sign) (xs : Exprs) → IsTrue (stops 0 s (iffs xs)) → is_sign IffSign s ≡ false
 not_iff None xs h = refl
 not_iff (Some IffSign) xs h = absurd (cc)
 not_iff (Some ImpliesSign) xs h = refl
@@ -93,7 +93,7 @@ not_iff (Some TermSign) xs h = refl
 not_iff (Some FactorSign) xs h = refl
 not_iff (Some IndexSign) xs h = refl
 
-not_implies : (s : Option Sign) (xs : Exprs) → IsTrue (stops 1 s (implies xs)) → is_implies s ≡ false
+not_implies : (s : Option Sign) (xs : Exprs) → IsTrue (stops 1 s (implies xs)) → is_sign ImpliesSign s ≡ false
 not_implies None xs h = refl
 not_implies (Some IffSign) xs h = refl
 not_implies (Some ImpliesSign) xs h = absurd (cc)
@@ -104,7 +104,7 @@ not_implies (Some TermSign) xs h = refl
 not_implies (Some FactorSign) xs h = refl
 not_implies (Some IndexSign) xs h = refl
 
-not_and : (s : Option Sign) (xs : Exprs) → IsTrue (stops 2 s (ands xs)) → is_and s ≡ false
+not_and : (s : Option Sign) (xs : Exprs) → IsTrue (stops 2 s (ands xs)) → is_sign AndSign s ≡ false
 not_and None xs h = refl
 not_and (Some IffSign) xs h = refl
 not_and (Some ImpliesSign) xs h = refl
@@ -115,7 +115,7 @@ not_and (Some TermSign) xs h = refl
 not_and (Some FactorSign) xs h = refl
 not_and (Some IndexSign) xs h = refl
 
-not_or : (s : Option Sign) (xs : Exprs) → IsTrue (stops 2 s (ors xs)) → is_or s ≡ false
+not_or : (s : Option Sign) (xs : Exprs) → IsTrue (stops 2 s (ors xs)) → is_sign OrSign s ≡ false
 not_or None xs h = refl
 not_or (Some IffSign) xs h = refl
 not_or (Some ImpliesSign) xs h = refl
@@ -126,7 +126,7 @@ not_or (Some TermSign) xs h = refl
 not_or (Some FactorSign) xs h = refl
 not_or (Some IndexSign) xs h = refl
 
-not_factor : (s : Option Sign) (xs : Exprs) → IsTrue (stops 5 s (products xs)) → is_factor s ≡ false
+not_factor : (s : Option Sign) (xs : Exprs) → IsTrue (stops 5 s (products xs)) → is_sign FactorSign s ≡ false
 not_factor None xs h = refl
 not_factor (Some IffSign) xs h = refl
 not_factor (Some ImpliesSign) xs h = refl

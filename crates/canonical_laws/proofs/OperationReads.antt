@@ -18,7 +18,7 @@ use Rattle.canonical_laws.specs.Same.{start, bare, bare_terms}
 use Rattle.canonical_laws.specs.Written.{some_terms}
 use Rattle.canonical_laws.specs.Nestings.{operand_depth, terms_depth}
 use Rattle.canonical_laws.specs.Spelled.{token, Spelled, done, next}
-use Rattle.canonical_laws.specs.Ahead.{weight, is_term, ahead, stops, stops_operand}
+use Rattle.canonical_laws.specs.Ahead.{weight, is_sign, ahead, stops, stops_operand}
 use Rattle.canonical_laws.proofs.Parts.{split, spelled_length, Items, stop, step, items_repeated}
 use Rattle.canonical_laws.proofs.Levels.{reader_at, ReadsAt}
 use Rattle.canonical_laws.proofs.Stopping.{unseen, is_ahead}
@@ -159,7 +159,7 @@ sum_low (Some TermSign) x ts h = absurd (cc)
 sum_low (Some FactorSign) x ts h = absurd (cc)
 sum_low (Some IndexSign) x ts h = absurd (cc)
 
-no_term_low : (s : Option Sign) → IsLow 4 s → is_term s ≡ false
+no_term_low : (s : Option Sign) → IsLow 4 s → is_sign TermSign s ≡ false
 no_term_low None h = refl
 no_term_low (Some IffSign) h = refl
 no_term_low (Some ImpliesSign) h = refl

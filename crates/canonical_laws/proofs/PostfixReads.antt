@@ -18,7 +18,7 @@ use Rattle.canonical_laws.specs.Same.{start, bare, bare_indices}
 use Rattle.canonical_laws.specs.Written.{some_indices}
 use Rattle.canonical_laws.specs.Nestings.{operand_depth, indices_depth}
 use Rattle.canonical_laws.specs.Spelled.{token, Spelled, done, next}
-use Rattle.canonical_laws.specs.Ahead.{sees_text, is_index, stops}
+use Rattle.canonical_laws.specs.Ahead.{sees_text, is_sign, stops}
 use Rattle.canonical_laws.proofs.Parts.{split, spelled_length, Items, stop, step, items_repeated}
 use Rattle.canonical_laws.proofs.Levels.{reader_at, ReadsAt}
 use Rattle.canonical_laws.proofs.Stopping.{unseen, is_ahead}
@@ -146,7 +146,7 @@ same_indexed v x [] (at_index y is) s h k = absurd (cc)
 same_indexed v x [] (update y z is) s h k = absurd (cc)
 same_indexed v x (t ∷ vs) is s h k = λ i. expr start (indexed (h i) (k i))
 
-not_index : (s : Option Sign) (x : Expr) (is : Indices) → IsTrue (stops 7 s (indexed x is)) → is_index s ≡ false
+not_index : (s : Option Sign) (x : Expr) (is : Indices) → IsTrue (stops 7 s (indexed x is)) → is_sign IndexSign s ≡ false
 not_index None x is h = refl
 not_index (Some IffSign) x is h = refl
 not_index (Some ImpliesSign) x is h = refl

@@ -10,7 +10,7 @@ use Rattle.bpl_ast.specs.declared.sign.Sign.TheVariants.{IffSign, ImpliesSign, A
 use Rattle.bpl_ast.specs.declared.sign.Chain.{Chain}
 use Rattle.bpl_ast.specs.declared.sign.Chain.TheVariants.{NoChain}
 use Rattle.bpl_grammar.specs.Lexeme.{Lexeme}
-use Rattle.canonical_laws.specs.Ahead.{weight, sees_text, sees_sign, is_iff, is_implies, is_and, is_or, is_relation, is_term, is_factor, is_index, only, ahead, stops, stops_operand}
+use Rattle.canonical_laws.specs.Ahead.{weight, sees_text, sees_sign, is_sign, only, ahead, stops, stops_operand}
 use Rattle.canonical_laws.proofs.Levels.{either_no, is_passed, both_true, no_not}
 
 -- not a sign of this level
@@ -20,14 +20,14 @@ Differs k (Some q) = weight q ≡ k → ⊥
 
 -- what is ahead, taken apart
 pub record IsAhead (s : Option Sign) (us : List Lexeme) : Type 0 where
-  pub iff : IsTrue (only (is_iff s) (sees_sign IffSign us))
-  pub implies : IsTrue (only (is_implies s) (sees_sign ImpliesSign us))
-  pub conjunct : IsTrue (only (is_and s) (sees_sign AndSign us))
-  pub disjunct : IsTrue (only (is_or s) (sees_sign OrSign us))
-  pub relation : IsTrue (only (is_relation s) (sees_sign RelationSign us))
-  pub term : IsTrue (only (is_term s) (sees_sign TermSign us))
-  pub factor : IsTrue (only (is_factor s) (sees_sign FactorSign us))
-  pub index : IsTrue (only (is_index s) (sees_sign IndexSign us))
+  pub iff : IsTrue (only (is_sign IffSign s) (sees_sign IffSign us))
+  pub implies : IsTrue (only (is_sign ImpliesSign s) (sees_sign ImpliesSign us))
+  pub conjunct : IsTrue (only (is_sign AndSign s) (sees_sign AndSign us))
+  pub disjunct : IsTrue (only (is_sign OrSign s) (sees_sign OrSign us))
+  pub relation : IsTrue (only (is_sign RelationSign s) (sees_sign RelationSign us))
+  pub term : IsTrue (only (is_sign TermSign s) (sees_sign TermSign us))
+  pub factor : IsTrue (only (is_sign FactorSign s) (sees_sign FactorSign us))
+  pub index : IsTrue (only (is_sign IndexSign s) (sees_sign IndexSign us))
   pub call : IsTrue (not (sees_text "(" us))
 
 pub is_ahead : (s : Option Sign) (us : List Lexeme) → IsTrue (ahead s us) → IsAhead s us
@@ -53,106 +53,30 @@ both_too : (a b : Bool) → IsTrue a → IsTrue b → IsTrue (a && b)
 both_too true b h k = k
 both_too false b h k = absurd (cc)
 
-pub no_iff : (s : Option Sign) → Differs 0 s → is_iff s ≡ false
-no_iff None d = refl
-no_iff (Some IffSign) d = absurd (d refl)
-no_iff (Some ImpliesSign) d = refl
-no_iff (Some AndSign) d = refl
-no_iff (Some OrSign) d = refl
-no_iff (Some RelationSign) d = refl
-no_iff (Some TermSign) d = refl
-no_iff (Some FactorSign) d = refl
-no_iff (Some IndexSign) d = refl
-
-pub no_implies : (s : Option Sign) → Differs 1 s → is_implies s ≡ false
-no_implies None d = refl
-no_implies (Some IffSign) d = refl
-no_implies (Some ImpliesSign) d = absurd (d refl)
-no_implies (Some AndSign) d = refl
-no_implies (Some OrSign) d = refl
-no_implies (Some RelationSign) d = refl
-no_implies (Some TermSign) d = refl
-no_implies (Some FactorSign) d = refl
-no_implies (Some IndexSign) d = refl
-
-no_and : (s : Option Sign) → Differs 2 s → is_and s ≡ false
-no_and None d = refl
-no_and (Some IffSign) d = refl
-no_and (Some ImpliesSign) d = refl
-no_and (Some AndSign) d = absurd (d refl)
-no_and (Some OrSign) d = refl
-no_and (Some RelationSign) d = refl
-no_and (Some TermSign) d = refl
-no_and (Some FactorSign) d = refl
-no_and (Some IndexSign) d = refl
-
-no_or : (s : Option Sign) → Differs 2 s → is_or s ≡ false
-no_or None d = refl
-no_or (Some IffSign) d = refl
-no_or (Some ImpliesSign) d = refl
-no_or (Some AndSign) d = refl
-no_or (Some OrSign) d = absurd (d refl)
-no_or (Some RelationSign) d = refl
-no_or (Some TermSign) d = refl
-no_or (Some FactorSign) d = refl
-no_or (Some IndexSign) d = refl
-
-no_relation_sign : (s : Option Sign) → Differs 3 s → is_relation s ≡ false
-no_relation_sign None d = refl
-no_relation_sign (Some IffSign) d = refl
-no_relation_sign (Some ImpliesSign) d = refl
-no_relation_sign (Some AndSign) d = refl
-no_relation_sign (Some OrSign) d = refl
-no_relation_sign (Some RelationSign) d = absurd (d refl)
-no_relation_sign (Some TermSign) d = refl
-no_relation_sign (Some FactorSign) d = refl
-no_relation_sign (Some IndexSign) d = refl
-
-pub no_term : (s : Option Sign) → Differs 4 s → is_term s ≡ false
-no_term None d = refl
-no_term (Some IffSign) d = refl
-no_term (Some ImpliesSign) d = refl
-no_term (Some AndSign) d = refl
-no_term (Some OrSign) d = refl
-no_term (Some RelationSign) d = refl
-no_term (Some TermSign) d = absurd (d refl)
-no_term (Some FactorSign) d = refl
-no_term (Some IndexSign) d = refl
-
-pub no_factor : (s : Option Sign) → Differs 5 s → is_factor s ≡ false
-no_factor None d = refl
-no_factor (Some IffSign) d = refl
-no_factor (Some ImpliesSign) d = refl
-no_factor (Some AndSign) d = refl
-no_factor (Some OrSign) d = refl
-no_factor (Some RelationSign) d = refl
-no_factor (Some TermSign) d = refl
-no_factor (Some FactorSign) d = absurd (d refl)
-no_factor (Some IndexSign) d = refl
-
-pub no_index : (s : Option Sign) → Differs 7 s → is_index s ≡ false
-no_index None d = refl
-no_index (Some IffSign) d = refl
-no_index (Some ImpliesSign) d = refl
-no_index (Some AndSign) d = refl
-no_index (Some OrSign) d = refl
-no_index (Some RelationSign) d = refl
-no_index (Some TermSign) d = refl
-no_index (Some FactorSign) d = refl
-no_index (Some IndexSign) d = absurd (d refl)
+-- a sign of another level isn't next
+no_sign : (q : Sign) (s : Option Sign) → Differs (weight q) s → is_sign q s ≡ false
+no_sign IffSign (Some IffSign) d = absurd (d refl)
+no_sign ImpliesSign (Some ImpliesSign) d = absurd (d refl)
+no_sign AndSign (Some AndSign) d = absurd (d refl)
+no_sign OrSign (Some OrSign) d = absurd (d refl)
+no_sign RelationSign (Some RelationSign) d = absurd (d refl)
+no_sign TermSign (Some TermSign) d = absurd (d refl)
+no_sign FactorSign (Some FactorSign) d = absurd (d refl)
+no_sign IndexSign (Some IndexSign) d = absurd (d refl)
+no_sign q s d = refl
 
 -- a production of another level doesn't go on with it
 pub passed : (k : ℕ) (s : Option Sign) (us : List Lexeme) → IsTrue (ahead s us) → Differs k s → IsTrue (is_passed k us)
-passed zero s us h d = only_no _ _ (no_iff s d) (is_ahead s us h).iff
-passed (suc zero) s us h d = only_no _ _ (no_implies s d) (is_ahead s us h).implies
+passed zero s us h d = only_no _ _ (no_sign IffSign s d) (is_ahead s us h).iff
+passed (suc zero) s us h d = only_no _ _ (no_sign ImpliesSign s d) (is_ahead s us h).implies
 passed (suc (suc zero)) s us h d =
     let a = is_ahead s us h in
-    both_too _ _ (only_no _ _ (no_and s d) a.conjunct) (only_no _ _ (no_or s d) a.disjunct)
-passed (suc (suc (suc zero))) s us h d = only_no _ _ (no_relation_sign s d) (is_ahead s us h).relation
-passed (suc (suc (suc (suc zero)))) s us h d = only_no _ _ (no_term s d) (is_ahead s us h).term
-passed (suc (suc (suc (suc (suc zero))))) s us h d = only_no _ _ (no_factor s d) (is_ahead s us h).factor
+    both_too _ _ (only_no _ _ (no_sign AndSign s d) a.conjunct) (only_no _ _ (no_sign OrSign s d) a.disjunct)
+passed (suc (suc (suc zero))) s us h d = only_no _ _ (no_sign RelationSign s d) (is_ahead s us h).relation
+passed (suc (suc (suc (suc zero)))) s us h d = only_no _ _ (no_sign TermSign s d) (is_ahead s us h).term
+passed (suc (suc (suc (suc (suc zero))))) s us h d = only_no _ _ (no_sign FactorSign s d) (is_ahead s us h).factor
 passed (suc (suc (suc (suc (suc (suc zero)))))) s us h d = refl
-passed (suc (suc (suc (suc (suc (suc (suc zero))))))) s us h d = only_no _ _ (no_index s d) (is_ahead s us h).index
+passed (suc (suc (suc (suc (suc (suc (suc zero))))))) s us h d = only_no _ _ (no_sign IndexSign s d) (is_ahead s us h).index
 passed (suc (suc (suc (suc (suc (suc (suc (suc k)))))))) s us h d = refl
 
 pub none_goes : (q : Sign) → goes_on q NoChain false ≡ false → ⊥

@@ -33,37 +33,17 @@ sees_sign TermSign ls = sees_text "+" ls || sees_text "-" ls
 sees_sign FactorSign ls = sees_text "*" ls
 sees_sign IndexSign ls = sees_text "[" ls
 
-abbrev pub is_iff : Option Sign → Bool
-is_iff (Some IffSign) = true
-is_iff s = false
-
-abbrev pub is_implies : Option Sign → Bool
-is_implies (Some ImpliesSign) = true
-is_implies s = false
-
-abbrev pub is_and : Option Sign → Bool
-is_and (Some AndSign) = true
-is_and s = false
-
-abbrev pub is_or : Option Sign → Bool
-is_or (Some OrSign) = true
-is_or s = false
-
-abbrev pub is_relation : Option Sign → Bool
-is_relation (Some RelationSign) = true
-is_relation s = false
-
-abbrev pub is_term : Option Sign → Bool
-is_term (Some TermSign) = true
-is_term s = false
-
-abbrev pub is_factor : Option Sign → Bool
-is_factor (Some FactorSign) = true
-is_factor s = false
-
-abbrev pub is_index : Option Sign → Bool
-is_index (Some IndexSign) = true
-is_index s = false
+-- whether this sign may be next
+abbrev pub is_sign : Sign → Option Sign → Bool
+is_sign IffSign (Some IffSign) = true
+is_sign ImpliesSign (Some ImpliesSign) = true
+is_sign AndSign (Some AndSign) = true
+is_sign OrSign (Some OrSign) = true
+is_sign RelationSign (Some RelationSign) = true
+is_sign TermSign (Some TermSign) = true
+is_sign FactorSign (Some FactorSign) = true
+is_sign IndexSign (Some IndexSign) = true
+is_sign w s = false
 
 -- whether what is seen is what is wanted, where nothing else may be seen
 abbrev pub only : Bool → Bool → Bool
@@ -73,8 +53,8 @@ only false b = not b
 -- no sign but this one may be next, and no parenthesis of a call
 abbrev pub ahead : Option Sign → List Lexeme → Bool
 ahead s ls =
-    only (is_iff s) (sees_sign IffSign ls) && only (is_implies s) (sees_sign ImpliesSign ls) && only (is_and s) (sees_sign AndSign ls) && only (is_or s) (sees_sign OrSign ls)
-    && only (is_relation s) (sees_sign RelationSign ls) && only (is_term s) (sees_sign TermSign ls) && only (is_factor s) (sees_sign FactorSign ls) && only (is_index s) (sees_sign IndexSign ls)
+    only (is_sign IffSign s) (sees_sign IffSign ls) && only (is_sign ImpliesSign s) (sees_sign ImpliesSign ls) && only (is_sign AndSign s) (sees_sign AndSign ls) && only (is_sign OrSign s) (sees_sign OrSign ls)
+    && only (is_sign RelationSign s) (sees_sign RelationSign ls) && only (is_sign TermSign s) (sees_sign TermSign ls) && only (is_sign FactorSign s) (sees_sign FactorSign ls) && only (is_sign IndexSign s) (sees_sign IndexSign ls)
     && not (sees_text "(" ls)
 
 -- whether an expression that is read where a production of that level stands stops before the sign
