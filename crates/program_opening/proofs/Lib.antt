@@ -1,0 +1,5 @@
+pub mod Texts
+pub mod OwnNames
+pub mod Sound
+pub mod Openings
+pub mod Counted

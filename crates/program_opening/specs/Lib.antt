@@ -1,0 +1,4 @@
+pub mod ProcGoals
+pub mod Opening
+pub mod OpenedView
+pub mod Laws

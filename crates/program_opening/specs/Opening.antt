@@ -1,0 +1,57 @@
+-- What a text is to the commands: a program without a fault, whose module this is, or one with a first fault, as it is written.
+use Rattle.std.specs.Prelude.{◌≡◌, ◌⊎◌, ℕ, List, codes, Option, Some, None}
+use Rattle.bpl_ast.specs.Statement.{Decl}
+use Rattle.bpl_grammar.specs.Part.{rule, program as any_program}
+use Rattle.bpl_grammar.specs.Fault.{Fault as TextFault, HasFault}
+use Rattle.bpl_grammar.specs.Programs.{SpellsProgram}
+use Rattle.bpl_scopes.specs.declared.fault.Fault.{Fault}
+use Rattle.bpl_declaration_faults.specs.DeclFaults.{fault_of}
+use Rattle.bpl_model.specs.Module.{Module}
+use Rattle.module_laws.specs.Elaborate.{module_of}
+use Rattle.vc_build.specs.declared.fault.Measure.{Measure}
+use Rattle.vc_build.specs.declared.fault.Measure.TheVariants.{Count, Bytes}
+use Rattle.vc_build.specs.Large.{program_large}
+use Rattle.fault_text.specs.Written.{Written}
+use Rattle.fault_text.specs.Faults.{fault_of_size}
+use Rattle.program_faults.specs.WrittenFault.{text_fault, decl_fault}
+
+pub data Opening : Type 0 where
+  program : Module → Opening
+  refused : Written → Opening
+
+-- ---- a program that is too large
+
+abbrev pub measure_word : Measure → List ℕ
+measure_word Count = codes "goals"
+measure_word Bytes = codes "bytes"
+
+abbrev pub size_fault : Measure → ℕ → Written
+size_fault what number = fault_of_size (measure_word what) number
+
+abbrev pub unless_large : Module → Option (Measure × ℕ) → Opening
+unless_large m None = program m
+unless_large m (Some p) = refused (size_fault p.0 p.1)
+
+abbrev pub unless_fault : List Decl → Option (ℕ × Fault) → Opening
+unless_fault ds (Some p) = refused (decl_fault ds p)
+unless_fault ds None = unless_large (module_of ds) (program_large (module_of ds))
+
+-- the first fault by names and sorts, and then the limits on goals
+abbrev pub opening : List Decl → Opening
+opening ds = unless_fault ds (fault_of ds)
+
+-- ---- what a text is
+
+pub record IsSpelled (text : List ℕ) (o : Opening) : Type 0 where
+  pub decls : List Decl
+  pub spelled : SpellsProgram text decls
+  pub is : o ≡ opening decls
+
+pub record IsFaulty (text : List ℕ) (o : Opening) : Type 0 where
+  pub fault : TextFault
+  pub there : HasFault (rule any_program) text fault
+  pub is : o ≡ refused (text_fault text fault)
+
+-- a text spells declarations, or has a fault
+abbrev pub Opens : List ℕ → Opening → Type 0
+Opens text o = IsSpelled text o ⊎ IsFaulty text o

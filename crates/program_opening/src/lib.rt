@@ -1,0 +1,17 @@
+//! From a text to its program: the module, with the goals of each procedure that has a body, or the
+//! first fault of the text as it is written. `open` gives exactly what the text is by the grammar, by
+//! the faults of names and sorts, and by the limits on goals.
+#![tactic(auto)]
+
+// The goals of a program, procedure by procedure.
+pub mod goals;
+
+// What a text is.
+pub mod opening;
+mod size;
+
+// That a text is one thing, and what a program's module keeps.
+pub mod laws;
+
+pub use goals::{ProcGoals, program_goals};
+pub use opening::{Opened, open};
