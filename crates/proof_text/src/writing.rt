@@ -1,0 +1,218 @@
+// The texts of steps and proofs.
+ghost use Rattle.std.specs.Prelude.{◌≡◌, ◌++◌, IfOk, OnOk};
+ghost use Rattle.obligation_text.specs.Numbers.{signed_text};
+ghost use Rattle.obligation_text.specs.Text.{spaced, form};
+ghost use Rattle.proof_core.specs.View.{step_of, steps_of, proofs_of};
+ghost use Rattle.proof_core.specs.ProofView.{end_of};
+ghost use Rattle.proof_text.specs.Reading.{Spells};
+ghost use Rattle.proof_text.specs.Text.{fact_text, named_text, tuple_text, step_text, steps_text, child, proof_text, end_text, children_text};
+
+use crate::ranges::proof_fits;
+use logic_core::term::Term;
+use obligation_text::text::{open, put, put_number, put_signed, put_spaced};
+use proof_core::proof::{End, Proof, Step};
+use std::alloc::{AllocError, Global};
+
+// A space, and a fact's number.
+#[tactic(auto, using(logic_core::proofs::Mentioned::behind))]
+fn put_fact(out: &mut Vec<u8>, f: u64) -> Result<(), AllocError>
+    ensures { OnOk result (out.new.items ≡ out.old.items ++ fact_text f) }
+{
+    put(out, b" ")?;
+    put_number(out, f)
+}
+
+// A space, and a multiplier.
+#[tactic(auto, using(logic_core::proofs::Mentioned::behind))]
+fn put_multiplier(out: &mut Vec<u8>, n: i128) -> Result<(), AllocError>
+    ensures { OnOk result (out.new.items ≡ out.old.items ++ spaced (signed_text n)) }
+{
+    put(out, b" ")?;
+    put_signed(out, n)
+}
+
+// The terms, each after a space.
+#[tactic(auto, using(logic_core::proofs::Mentioned::behind))]
+fn put_tuple(out: &mut Vec<u8>, terms: &[Term]) -> Result<(), AllocError>
+    ensures { OnOk result (out.new.items ≡ out.old.items ++ tuple_text terms.now) }
+{
+    for term in terms {
+        put_spaced(out, term)?;
+    }
+    Ok(())
+}
+
+// A node that names one fact.
+#[tactic(auto, using(logic_core::proofs::Mentioned::behind))]
+fn put_fact_node(out: &mut Vec<u8>, head: &[u8], f: u64) -> Result<(), AllocError>
+    ensures { OnOk result (out.new.items ≡ out.old.items ++ form head.now (fact_text f)) }
+{
+    open(out, head)?;
+    put_fact(out, f)?;
+    put(out, b")")
+}
+
+// A node that names a fact and a term in it.
+#[tactic(auto, using(logic_core::proofs::Mentioned::behind))]
+fn put_term_node(out: &mut Vec<u8>, head: &[u8], f: u64, term: &Term) -> Result<(), AllocError>
+    ensures { OnOk result (out.new.items ≡ out.old.items ++ form head.now (fact_text f ++ named_text term.now)) }
+{
+    open(out, head)?;
+    put_fact(out, f)?;
+    put_spaced(out, term)?;
+    put(out, b")")
+}
+
+#[tactic(auto, using(logic_core::proofs::Mentioned::behind))]
+fn put_step(out: &mut Vec<u8>, step: &Step) -> Result<(), AllocError>
+    ensures { OnOk result (out.new.items ≡ out.old.items ++ step_text (step_of step.now)) }
+{
+    match step {
+        Step::Split(f) => put_fact_node(out, b"s", *f),
+        Step::Instantiate(f, terms) => {
+            open(out, b"i")?;
+            put_fact(out, *f)?;
+            put_tuple(out, terms)?;
+            put(out, b")")
+        }
+        Step::Skolem(f) => put_fact_node(out, b"w", *f),
+        Step::Replace(f, g, term) => {
+            open(out, b"e")?;
+            put_fact(out, *f)?;
+            put_fact(out, *g)?;
+            put_spaced(out, term)?;
+            put(out, b")")
+        }
+        Step::Unfold(f, term) => put_term_node(out, b"u", *f, term),
+        Step::Back(f, term) => put_term_node(out, b"r", *f, term),
+        Step::Differ(f) => put_fact_node(out, b"d", *f),
+        Step::Combine(f, p, g, q) => {
+            open(out, b"k")?;
+            put_fact(out, *f)?;
+            put_multiplier(out, *p)?;
+            put_fact(out, *g)?;
+            put_multiplier(out, *q)?;
+            put(out, b")")
+        }
+        Step::Tighten(f) => put_fact_node(out, b"t", *f),
+    }
+}
+
+// The steps, each before a space.
+#[tactic(auto, using(logic_core::proofs::Mentioned::behind))]
+fn put_steps(out: &mut Vec<u8>, steps: &[Step]) -> Result<(), AllocError>
+    ensures { OnOk result (out.new.items ≡ out.old.items ++ steps_text (steps_of steps.now)) }
+{
+    for step in steps {
+        put_step(out, step)?;
+        put(out, b" ")?;
+    }
+    Ok(())
+}
+
+#[cycle(write)]
+#[tactic(auto, using(logic_core::proofs::Mentioned::behind))]
+fn put_proof(out: &mut Vec<u8>, proof: &Proof) -> Result<(), AllocError>
+    ensures { OnOk result (out.new.items ≡ out.old.items ++ proof_text proof.now) }
+{
+    put_steps(out, &proof.steps)?;
+    put_end(out, &proof.end)
+}
+
+// A space, and the proof in brackets.
+#[cycle(write)]
+#[tactic(auto, using(logic_core::proofs::Mentioned::behind))]
+fn put_child(out: &mut Vec<u8>, proof: &Proof) -> Result<(), AllocError>
+    ensures { OnOk result (out.new.items ≡ out.old.items ++ child (proof_text proof.now)) }
+{
+    put(out, b" [")?;
+    put_proof(out, proof)?;
+    put(out, b"]")
+}
+
+#[cycle(write)]
+#[tactic(auto, using(logic_core::proofs::Mentioned::behind))]
+fn put_children(out: &mut Vec<u8>, proofs: &[Proof]) -> Result<(), AllocError>
+    ensures { OnOk result (out.new.items ≡ out.old.items ++ children_text (proofs_of proofs.now)) }
+{
+    for proof in proofs {
+        put_child(out, proof)?;
+    }
+    Ok(())
+}
+
+// A node that names a term, with a child for each of three cases.
+#[cycle(write)]
+#[tactic(auto, using(logic_core::proofs::Mentioned::behind))]
+fn put_three_ways(
+    out: &mut Vec<u8>,
+    head: &[u8],
+    term: &Term,
+    below: &Proof,
+    same: &Proof,
+    above: &Proof,
+) -> Result<(), AllocError>
+    ensures { OnOk result (out.new.items ≡ out.old.items ++ form head.now (named_text term.now ++ child (proof_text below.now) ++ child (proof_text same.now) ++ child (proof_text above.now))) }
+{
+    open(out, head)?;
+    put_spaced(out, term)?;
+    put_child(out, below)?;
+    put_child(out, same)?;
+    put_child(out, above)?;
+    put(out, b")")
+}
+
+#[cycle(write)]
+#[tactic(auto, using(logic_core::proofs::Mentioned::behind))]
+fn put_end(out: &mut Vec<u8>, end: &End) -> Result<(), AllocError>
+    ensures { OnOk result (out.new.items ≡ out.old.items ++ end_text (end_of end.now)) }
+{
+    match end {
+        End::Close(f, g) => {
+            open(out, b"c")?;
+            put_fact(out, *f)?;
+            put_fact(out, *g)?;
+            put(out, b")")
+        }
+        End::Cases(f, first, others) => {
+            open(out, b"s")?;
+            put_fact(out, *f)?;
+            put_child(out, first)?;
+            put_children(out, others)?;
+            put(out, b")")
+        }
+        End::Condition(f, term, yes, no) => {
+            open(out, b"s")?;
+            put_fact(out, *f)?;
+            put_spaced(out, term)?;
+            put_child(out, yes)?;
+            put_child(out, no)?;
+            put(out, b")")
+        }
+        End::Past(term, below, same, above) => {
+            put_three_ways(out, b"p", term, below, same, above)
+        }
+        End::Trichotomy(term, below, same, above) => {
+            put_three_ways(out, b"y", term, below, same, above)
+        }
+    }
+}
+
+// The bytes of the proof's text.
+fn written(alloc: Global, proof: &Proof) -> Result<Vec<u8>, AllocError>
+    ensures { IfOk result (λ v. v.items ≡ proof_text proof.now) }
+{
+    let mut out = Vec::new(alloc);
+    put_proof(&mut out, proof)?;
+    Ok(out)
+}
+
+/// The proof's text.
+#[tactic(auto, using(crate::proofs::RoundTrip::spells))]
+pub fn write(alloc: Global, proof: &Proof) -> Result<Vec<u8>, AllocError>
+    ensures { IfOk result (λ v. Spells v.items proof.now) }
+{
+    proof_fits(proof);
+    let text = written(alloc, proof)?;
+    Ok(text)
+}
