@@ -1,10 +1,9 @@
 -- Bytes that are no proof's text are bad at one place, and how a reader finds it.
-use Rattle.std.proofs.Common.{◌≡◌, ℕ, ◌+◌, ◌≤◌, ◌<◌, IsTrue, List, [], ◌∷◌, ◌++◌, length, take, drop, refl, ap, sym, ◌∙◌, subst, append_assoc, ⊎_elim, arith}
+use Rattle.std.proofs.Common.{ℕ, ◌+◌, ◌≤◌, List, [], ◌∷◌, ◌++◌, length, take, drop, refl, ap, sym, ◌∙◌, subst, append_assoc, ⊎_elim, arith}
 use Rattle.std.proofs.lemmas.List.{take-append-drop, take-take, take_at, take_all, length-append}
 use Rattle.std.proofs.lemmas.Bool.{cases_lt}
 use Rattle.std.proofs.Math.Nat.{le_refl, lt_irrefl}
 use Rattle.proof_core.specs.Proof.{Proof}
-use Rattle.proof_text.specs.Text.{proof_text}
 use Rattle.proof_text.specs.Reading.{Spells, BeginsOne, IsBadAt, OneBadPlace}
 
 begins_shorter : (a b : List ℕ) → BeginsOne (a ++ b) → BeginsOne a

@@ -1,13 +1,13 @@
 -- From each state of a proof's reader some bytes lead to the end of a proof.
-use Rattle.std.proofs.Common.{◌≡◌, ℕ, zero, suc, ◌+◌, ℤ, pos, negsuc, Bool, true, false, Option, None, Some, List, [], ◌∷◌, ◌++◌, codes, refl, ap, sym, ◌∙◌}
+use Rattle.std.proofs.Common.{◌≡◌, ℕ, ℤ, pos, negsuc, Bool, true, false, Option, None, Some, List, [], ◌∷◌, ◌++◌, codes, refl, ap, ◌∙◌}
 use Rattle.logic_core.specs.Tree.{int, Tree, num, truth, free, bound, linear, call, negation, at_most, no_trees}
 use Rattle.logic_core.specs.View.{parts_of}
 use Rattle.logic_core.specs.Wide.{◌>>=◌}
 use Rattle.proof_core.specs.Proof.{Step, by_split, by_instantiate, Proof, proof, End, by_close, by_cases, by_condition}
 use Rattle.proof_core.specs.View.{proofs_of}
-use Rattle.proof_text.specs.TermStates.{full_of, many_of, bound_of, nested, completed, filled}
+use Rattle.proof_text.specs.TermStates.{full_of, many_of, nested, completed, filled}
 use Rattle.proof_text.specs.TermStates.{at as in_holes}
-use Rattle.proof_text.specs.States.{numbered, multiplied, given, proved, three_of, at, inside, stepped, ended, into, step, run}
+use Rattle.proof_text.specs.States.{proved, three_of, at, inside, stepped, ended, step, run}
 use Rattle.proof_text.specs.declared.hole.Hole.{Hole}
 use Rattle.proof_text.specs.declared.hole.Hole.TheVariants as hole
 use Rattle.proof_text.specs.declared.hole.Full.TheVariants as full
@@ -17,7 +17,6 @@ use Rattle.proof_text.specs.declared.term_state.Letter.TheVariants as letter
 use Rattle.proof_text.specs.declared.term_state.Signed.TheVariants as signed
 use Rattle.proof_text.specs.declared.term_state.TermCursor.{TermCursor}
 use Rattle.proof_text.specs.declared.term_state.TermCursor.TheVariants as term
-use Rattle.proof_text.specs.declared.term_state.TermState.{TermState}
 use Rattle.proof_text.specs.declared.node.Fact.{Fact}
 use Rattle.proof_text.specs.declared.node.Fact.TheVariants as fact
 use Rattle.proof_text.specs.declared.node.Factor.{Factor}

@@ -1,5 +1,5 @@
 -- Whether a term may end.
-use Rattle.std.proofs.Common.{◌≡◌, Bool, true, false, Option, None, Some, refl}
+use Rattle.std.proofs.Common.{◌≡◌, true, false, Option, None, Some, refl}
 use Rattle.logic_core.specs.Tree.{Tree}
 use Rattle.proof_text.specs.TermStates.{present}
 

@@ -1,11 +1,11 @@
 -- The digits of a number below a bound lead a reader that goes on digit by digit to that number.
-use Rattle.std.proofs.Common.{◌≡◌, ℕ, zero, suc, ◌+◌, ◌-◌, ◌*◌, ◌/◌, ◌%◌, ◌^◌, ◌<◌, ◌≤◌, nat_eq, nat_lt, ℤ, pos, negsuc, Bool, true, false, ◌&&◌, ◌||◌, if◌then◌else◌, Option, None, Some, option_map, List, [], ◌∷◌, ◌++◌, refl, ap, sym, ◌∙◌, append_assoc, arith}
+use Rattle.std.proofs.Common.{◌≡◌, ℕ, zero, suc, ◌+◌, ◌-◌, ◌*◌, ◌/◌, ◌%◌, ◌^◌, ◌<◌, ◌≤◌, nat_eq, nat_lt, pos, negsuc, Bool, true, false, ◌&&◌, if◌then◌else◌, Option, None, Some, option_map, List, [], ◌∷◌, ◌++◌, refl, ap, sym, ◌∙◌, append_assoc, arith}
 use Rattle.std.specs.Prelude.{⊤}
 use Rattle.std.proofs.lemmas.Bool.Decides.{nat_tests}
 use Rattle.logic_core.specs.Wide.{fits, ◌>>=◌, when}
-use Rattle.obligation_text.specs.Numbers.{number_text, signed_text}
+use Rattle.obligation_text.specs.Numbers.{number_text}
 use Rattle.proof_text.specs.Reading.{is_number}
-use Rattle.proof_text.specs.Digit.{digit, grown, grown_integer, is_positive, more_number, more_integer, first_negative}
+use Rattle.proof_text.specs.Digit.{digit, grown, is_positive, more_number, more_integer, first_negative}
 use Rattle.proof_text.specs.TermStates.{at_byte, by_stop, or_else}
 use Rattle.proof_text.specs.States.{step, run}
 use Rattle.proof_text.specs.declared.state.State.{State}

@@ -1,20 +1,20 @@
 -- The reader reads the text of each proof whose numbers fit their types, and no other's.
-use Rattle.std.proofs.Common.{◌≡◌, ℕ, suc, ◌+◌, ◌-◌, ◌*◌, ◌^◌, nat_lt, ℤ, pos, negsuc, Bool, true, false, ◌&&◌, Option, None, Some, option_map, List, [], ◌∷◌, ◌++◌, refl, ap, sym, ◌∙◌, append_assoc, arith}
+use Rattle.std.proofs.Common.{◌≡◌, ℕ, suc, ◌+◌, ◌-◌, ◌*◌, ◌^◌, nat_lt, ℤ, pos, negsuc, Bool, true, false, ◌&&◌, Some, option_map, List, [], ◌∷◌, ◌++◌, refl, ap, sym, ◌∙◌, append_assoc, arith}
 use Rattle.std.proofs.lemmas.List.{append-nil}
 use Rattle.std.specs.List.{list_all}
 use Rattle.std.proofs.lemmas.Bool.Decides.{nat_tests}
 use Rattle.logic_core.specs.Tree.{Tree, num, truth, free, bound, linear, mul, read, write, choose, call, negation, all, some, equal, at_most, for_all, exists}
-use Rattle.logic_core.specs.Wide.{fits, ◌>>=◌, when}
+use Rattle.logic_core.specs.Wide.{fits, when}
 use Rattle.obligation_text.specs.Numbers.{number_text, signed_text}
 use Rattle.obligation_text.proofs.Printed.{onto}
 use Rattle.proof_core.specs.Proof.{Step, by_split, by_instantiate, by_skolem, by_replace, by_unfold, by_back, by_differ, by_combine, by_tighten, Proof, proof, Proofs, no_proofs, one_proof, End, by_close, by_cases, by_condition, by_past, by_trichotomy}
 use Rattle.proof_core.specs.View.{proofs_of}
 use Rattle.proof_text.specs.Text.{proof_text}
 use Rattle.proof_text.specs.Reading.{is_number, term_fits, step_fits, steps_fit, proof_fits, end_fits, proofs_fit}
-use Rattle.proof_text.specs.Digit.{digit, more_number, more_integer, first_negative}
-use Rattle.proof_text.specs.TermStates.{at_byte, or_else}
+use Rattle.proof_text.specs.Digit.{digit, more_integer}
+use Rattle.proof_text.specs.TermStates.{or_else}
 use Rattle.proof_text.specs.TermStates.{at as in_holes}
-use Rattle.proof_text.specs.States.{numbered, multiplied, given, proved, three_of, at, inside, stepped, next_node, ended, into, beyond_space, beyond_close, beyond_step, step, start, run}
+use Rattle.proof_text.specs.States.{numbered, multiplied, given, proved, three_of, at, stepped, next_node, ended, into, beyond_space, beyond_close, beyond_step, start, run}
 use Rattle.proof_text.specs.States.{in_term as one_term}
 use Rattle.proof_text.specs.declared.term_state.Signed.TheVariants as signed
 use Rattle.proof_text.specs.declared.term_state.TermCursor.TheVariants as term
@@ -28,14 +28,12 @@ use Rattle.proof_text.specs.declared.node.Argument.{Argument}
 use Rattle.proof_text.specs.declared.node.Argument.TheVariants as argument
 use Rattle.proof_text.specs.declared.node.Branch.{Branch}
 use Rattle.proof_text.specs.declared.node.Branch.TheVariants as branch
-use Rattle.proof_text.specs.declared.node.Beyond.{Beyond}
 use Rattle.proof_text.specs.declared.node.Beyond.TheVariants as beyond
 use Rattle.proof_text.specs.declared.node.Level.{Level}
-use Rattle.proof_text.specs.declared.state.Cursor.{Cursor}
-use Rattle.proof_text.specs.declared.state.Cursor.TheVariants.{NodeDue, NodeOpened, StepDone, FactDue, Number, FactorDue, Minus, Digits, CaseOrTerm, Inside, ChildDue, After, Ended}
+use Rattle.proof_text.specs.declared.state.Cursor.TheVariants.{NodeDue, FactDue, Number, FactorDue, Minus, Digits, CaseOrTerm, After, Ended}
 use Rattle.proof_text.specs.declared.state.State.{State}
 use Rattle.proof_text.proofs.Printed.{fact_onto, number_onto, named_onto, tuple_onto, step_onto, steps_onto, proof_onto, end_onto, children_onto, put_proof}
-use Rattle.proof_text.proofs.NumbersComplete.{two_tests, or_when, digit_of, below_signs, above_digits, other_byte, no_stop, number_goes, integer_goes, negative_goes, negative_begins, step_at, CountsTo, counts}
+use Rattle.proof_text.proofs.NumbersComplete.{two_tests, or_when, digit_of, above_digits, other_byte, no_stop, number_goes, integer_goes, negative_goes, negative_begins, step_at, CountsTo, counts}
 use Rattle.proof_text.proofs.Endings.{stop}
 use Rattle.proof_text.proofs.TermsComplete.{Follows, no_sign, inner, inside_digit, item_counts, number_reads, term_reads}
 use Rattle.proof_text.proofs.StepsShown.{child_onto}

@@ -5,8 +5,7 @@ use Rattle.logic_core.specs.Wide.{◌>>=◌, when}
 use Rattle.proof_core.specs.Proof.{Step, Proof}
 use Rattle.proof_text.specs.Text.{proof_text}
 use Rattle.proof_text.specs.Reading.{proof_fits, Spells, BeginsOne, IsBadAt, OneProofATextHas}
-use Rattle.proof_text.specs.TermStates.{is_empty}
-use Rattle.proof_text.specs.States.{at, step, start, run, whole, read_proof}
+use Rattle.proof_text.specs.States.{at, step, start, run, read_proof}
 use Rattle.proof_text.specs.declared.node.Level.{Level}
 use Rattle.proof_text.specs.declared.state.Cursor.{Cursor}
 use Rattle.proof_text.specs.declared.state.Cursor.TheVariants.{NodeDue, NodeOpened, StepDone, FactDue, Number, FactorDue, Minus, Digits, CaseOrTerm, Inside, ChildDue, After, Ended}

@@ -1,11 +1,9 @@
 -- A proof that was written is read again.
-use Rattle.std.proofs.Common.{◌≡◌, ◌⊎◌, inl, inr, ℕ, true, List, Result, Ok, Err, IfOk, IfErr, refl, ap, sym}
+use Rattle.std.proofs.Common.{◌≡◌, inl, inr, ℕ, true, List, Ok, Err, refl, ap}
 use Rattle.proof_core.specs.Proof.{Proof}
 use Rattle.proof_text.specs.Text.{proof_text}
 use Rattle.proof_text.specs.Reading.{proof_fits, Spells}
-use Rattle.proof_text.specs.Faults.{SaysOf}
 use Rattle.proof_text.specs.RoundTrip.{ReadGivesBack}
-use Rattle.proof_text.specs.declared.fault.ProofFault.{ProofFault}
 use Rattle.proof_text.specs.declared.fault.ProofFault.TheVariants.{BadProof, Memory}
 use Rattle.proof_text.proofs.Reader.{one_proof_a_text_has}
 

@@ -1,16 +1,13 @@
 -- A step of a proof's reader shows one byte more.
-use Rattle.std.proofs.Common.{◌≡◌, ℕ, ◌+◌, nat_eq, ℤ, pos, negsuc, Bool, true, false, ◌||◌, if◌then◌else◌, Option, None, Some, option_map, List, [], ◌∷◌, ◌++◌, refl, ap, sym, ◌∙◌}
+use Rattle.std.proofs.Common.{◌≡◌, ℕ, nat_eq, ℤ, pos, Bool, true, false, ◌||◌, if◌then◌else◌, Option, None, Some, option_map, List, [], ◌∷◌, ◌++◌, refl, ap, ◌∙◌}
 use Rattle.logic_core.specs.Tree.{Tree}
-use Rattle.logic_core.specs.View.{trees_of}
 use Rattle.obligation_text.specs.Numbers.{number_text, signed_text}
-use Rattle.obligation_text.proofs.Printed.{onto, trees_onto}
-use Rattle.proof_core.specs.Proof.{Step, by_split, by_instantiate, by_skolem, by_replace, by_unfold, by_back, by_differ, by_combine, by_tighten, Proof, proof, Proofs, no_proofs, one_proof, End, by_close, by_cases, by_condition, by_past, by_trichotomy}
+use Rattle.obligation_text.proofs.Printed.{onto}
+use Rattle.proof_core.specs.Proof.{Step, by_split, by_instantiate, by_skolem, by_replace, by_unfold, by_back, by_differ, by_combine, by_tighten, Proof, End, by_close, by_cases, by_condition}
 use Rattle.proof_core.specs.View.{proofs_of}
 use Rattle.proof_text.specs.Digit.{digit, more_number, more_integer, first_negative}
-use Rattle.proof_text.specs.TermStates.{at_byte, or_else, finished, term_step, completed}
-use Rattle.proof_text.specs.States.{numbered, multiplied, given, proved, three_of, at, inside, term_due, stepped, next_node, ended, into, head_moves, beyond_space, beyond_close, beyond_step, in_term, behind_term, inside_step, child_moves, step, start, run}
-use Rattle.proof_text.specs.declared.hole.Hole.{Hole}
-use Rattle.proof_text.specs.declared.term_state.TermCursor.{TermCursor}
+use Rattle.proof_text.specs.TermStates.{at_byte, finished, term_step}
+use Rattle.proof_text.specs.States.{numbered, multiplied, given, proved, three_of, at, inside, next_node, ended, into, head_moves, beyond_space, beyond_close, beyond_step, in_term, behind_term, child_moves, step}
 use Rattle.proof_text.specs.declared.term_state.TermCursor.TheVariants as term
 use Rattle.proof_text.specs.declared.term_state.TermState.{TermState}
 use Rattle.proof_text.specs.declared.node.Fact.{Fact}
@@ -30,7 +27,7 @@ use Rattle.proof_text.specs.declared.state.Cursor.{Cursor}
 use Rattle.proof_text.specs.declared.state.Cursor.TheVariants.{NodeDue, NodeOpened, StepDone, FactDue, Number, FactorDue, Minus, Digits, CaseOrTerm, Inside, ChildDue, After, Ended}
 use Rattle.proof_text.specs.declared.state.State.{State}
 use Rattle.proof_text.proofs.Printed.{fact_onto, number_onto, named_onto, tuple_onto, step_onto, steps_onto, proof_onto, end_onto, children_onto}
-use Rattle.proof_text.proofs.TermsShown.{around, cursor_onto, Grows, EachGrows, byte_grows, stop_grows, either_grows, more_number_is, more_integer_is, first_digit_is, first_negative_is, number_grows, number_begins}
+use Rattle.proof_text.proofs.TermsShown.{Grows, EachGrows, byte_grows, stop_grows, either_grows, more_number_is, more_integer_is, first_digit_is, first_negative_is, number_grows, number_begins}
 use Rattle.proof_text.proofs.TermsShown.{shown as term_shown}
 use Rattle.proof_text.proofs.TermSteps.{term_step_grows, finished_shown}
 

@@ -1,11 +1,11 @@
 -- A step of a term's reader shows one byte more.
-use Rattle.std.proofs.Common.{◌≡◌, ℕ, zero, suc, ◌+◌, nat_eq, ℤ, pos, negsuc, Bool, true, false, if◌then◌else◌, Option, None, Some, option_map, List, [], ◌∷◌, ◌++◌, refl, ap, sym, ◌∙◌, arith}
-use Rattle.logic_core.specs.Tree.{Kind, int, boolean, map, Tree, num, truth, free, bound, linear}
+use Rattle.std.proofs.Common.{◌≡◌, ℕ, zero, suc, ◌+◌, ℤ, pos, true, false, Option, None, Some, option_map, List, [], ◌∷◌, ◌++◌, refl, ap, sym, ◌∙◌, arith}
+use Rattle.logic_core.specs.Tree.{Kind, int, boolean, Tree, num, truth, free, bound, linear}
 use Rattle.logic_core.specs.View.{trees_of, parts_of, patterns_of}
 use Rattle.obligation_text.specs.Numbers.{number_text, signed_text}
 use Rattle.obligation_text.proofs.Printed.{sort_onto, together_onto, sorts_onto, onto, trees_onto, parts_onto, triggers_onto}
 use Rattle.proof_text.specs.Digit.{digit, more_number, more_integer, first_negative}
-use Rattle.proof_text.specs.TermStates.{at_byte, by_stop, or_else, pair_of, triple_of, many_of, bound_of, full_of, filled, at, into, completed, nested, item_moves, head_moves, less_moves, sign_moves, sort_moves, sorts_end, behind_space, behind_close, trigger_moves, lettered, counted, behind_step, next_behind, term_step, finished}
+use Rattle.proof_text.specs.TermStates.{at_byte, by_stop, many_of, full_of, filled, at, completed, nested, item_moves, head_moves, less_moves, sign_moves, sort_moves, sorts_end, behind_space, behind_close, trigger_moves, lettered, counted, behind_step, next_behind, term_step, finished}
 use Rattle.proof_text.specs.declared.hole.Pair.TheVariants as pair
 use Rattle.proof_text.specs.declared.hole.Triple.TheVariants as triple
 use Rattle.proof_text.specs.declared.hole.Binder.{Binder}
@@ -25,7 +25,7 @@ use Rattle.proof_text.specs.declared.term_state.Signed.TheVariants as signed
 use Rattle.proof_text.specs.declared.term_state.TermCursor.{TermCursor}
 use Rattle.proof_text.specs.declared.term_state.TermCursor.TheVariants.{Item, Opened, Less, Due, Lettered, SignedDue, Minus, Digits, Sorts, After, Whole}
 use Rattle.proof_text.specs.declared.term_state.TermState.{TermState}
-use Rattle.proof_text.proofs.TermsShown.{pair_onto, binder_onto, body_onto, sum_onto, hole_onto, around, full_onto, behind_onto, letter_onto, signed_onto, maps, cursor_onto, shown, Grows, EachGrows, byte_grows, stop_grows, either_grows, more_number_is, more_integer_is, first_digit_is, first_negative_is, number_grows, number_begins}
+use Rattle.proof_text.proofs.TermsShown.{binder_onto, body_onto, hole_onto, around, full_onto, behind_onto, letter_onto, signed_onto, maps, cursor_onto, shown, Grows, EachGrows, byte_grows, stop_grows, either_grows, more_number_is, more_integer_is, first_digit_is, first_negative_is, number_grows, number_begins}
 
 -- lists with one more item behind
 pub trees_more : (ts : List Tree) (t : Tree) (r : List ℕ) → trees_onto (trees_of (ts ++ t ∷ [])) r ≡ trees_onto (trees_of ts) (32 ∷ onto t r)

@@ -1,18 +1,18 @@
 -- The reader reads the text of each term whose numbers fit their types, and no other's.
-use Rattle.std.proofs.Common.{◌≡◌, ℕ, zero, suc, ◌+◌, ◌*◌, ◌/◌, ◌%◌, ◌<◌, ◌≤◌, ◌-◌, ◌^◌, nat_eq, nat_lt, ℤ, pos, negsuc, Bool, true, false, ◌&&◌, ◌||◌, if◌then◌else◌, Option, None, Some, option_map, List, [], ◌∷◌, ◌++◌, refl, ap, sym, ◌∙◌, subst, append_assoc, arith}
+use Rattle.std.proofs.Common.{◌≡◌, ℕ, suc, ◌+◌, ◌*◌, ◌<◌, ◌-◌, ◌^◌, nat_eq, nat_lt, ℤ, pos, negsuc, Bool, true, false, ◌&&◌, ◌||◌, if◌then◌else◌, Option, None, Some, option_map, List, [], ◌∷◌, ◌++◌, refl, ap, sym, ◌∙◌, append_assoc, arith}
 use Rattle.std.proofs.lemmas.List.{append-nil}
 use Rattle.std.proofs.lemmas.Bool.Decides.{nat_tests}
 use Rattle.logic_core.specs.Tree.{Kind, int, boolean, map, Tree, num, truth, free, bound, linear, mul, read, write, choose, call, negation, all, some, equal, at_most, for_all, exists, Trees, no_trees, tree, Parts, no_parts, part, Patterns, no_patterns, pattern}
 use Rattle.logic_core.specs.View.{trees_of, parts_of, patterns_of}
-use Rattle.logic_core.specs.Wide.{fits, ◌>>=◌, when}
+use Rattle.logic_core.specs.Wide.{fits, when}
 use Rattle.obligation_text.specs.Numbers.{number_text, signed_text}
 use Rattle.obligation_text.proofs.Printed.{sort_onto, together_onto, sorts_onto, onto, trees_onto, parts_onto, triggers_onto}
 use Rattle.proof_core.specs.Proof.{Step}
 use Rattle.proof_text.specs.Reading.{is_number, term_fits, terms_fit, parts_fit, triggers_fit}
-use Rattle.proof_text.specs.Digit.{digit, grown, grown_integer, is_positive, more_number, more_integer, first_negative}
-use Rattle.proof_text.specs.TermStates.{or_else, pair_of, triple_of, many_of, bound_of, full_of, nested, completed, filled}
+use Rattle.proof_text.specs.Digit.{digit, more_integer}
+use Rattle.proof_text.specs.TermStates.{or_else, pair_of, triple_of, many_of, bound_of, nested}
 use Rattle.proof_text.specs.TermStates.{at as in_holes}
-use Rattle.proof_text.specs.States.{at, inside, step, run}
+use Rattle.proof_text.specs.States.{inside, run}
 use Rattle.proof_text.specs.declared.hole.Pair.{Pair}
 use Rattle.proof_text.specs.declared.hole.Pair.TheVariants as pair
 use Rattle.proof_text.specs.declared.hole.Triple.{Triple}
@@ -23,7 +23,6 @@ use Rattle.proof_text.specs.declared.hole.Many.{Many}
 use Rattle.proof_text.specs.declared.hole.Many.TheVariants as many
 use Rattle.proof_text.specs.declared.hole.Hole.{Hole}
 use Rattle.proof_text.specs.declared.hole.Hole.TheVariants as hole
-use Rattle.proof_text.specs.declared.hole.Full.TheVariants as full
 use Rattle.proof_text.specs.declared.hole.Behind.TheVariants as behind
 use Rattle.proof_text.specs.declared.term_state.Letter.{Letter}
 use Rattle.proof_text.specs.declared.term_state.Letter.TheVariants as letter
@@ -36,9 +35,7 @@ use Rattle.proof_text.specs.declared.state.State.{State}
 use Rattle.proof_text.specs.TermStates.{at_byte, item_moves, behind_step, next_behind, behind_space, behind_close, lettered, counted, term_step, finished}
 use Rattle.proof_text.specs.States.{in_term as one_term, behind_term as one_behind}
 use Rattle.proof_text.specs.declared.term_state.TermCursor.{TermCursor}
-use Rattle.proof_text.specs.declared.term_state.TermState.{TermState}
-use Rattle.proof_text.specs.declared.hole.Behind.{Behind}
-use Rattle.proof_text.proofs.NumbersComplete.{when_both, two_tests, or_when, digit_of, below_signs, above_digits, other_byte, no_stop, number_goes, integer_goes, negative_goes, negative_begins, step_at, CountsTo, counts}
+use Rattle.proof_text.proofs.NumbersComplete.{two_tests, or_when, digit_of, below_signs, above_digits, other_byte, no_stop, number_goes, integer_goes, negative_goes, negative_begins, step_at, CountsTo, counts}
 use Rattle.proof_text.proofs.Nested.{nested_more}
 use Rattle.proof_text.proofs.Endings.{stop, in_term, behind_term, free_alike, bound_alike, number_alike}
 

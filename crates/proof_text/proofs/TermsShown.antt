@@ -1,16 +1,16 @@
 -- The text that a state of a term's reader has read grows by the byte that leads to the next state.
-use Rattle.std.proofs.Common.{◌≡◌, ℕ, zero, suc, ◌+◌, ◌-◌, ◌*◌, ◌<◌, nat_eq, nat_lt, ℤ, pos, negsuc, Bool, true, false, ◌&&◌, cond, if◌then◌else◌, Option, None, Some, option_map, List, [], ◌∷◌, ◌++◌, refl, ap, sym, ◌∙◌, subst, append_assoc, arith}
+use Rattle.std.proofs.Common.{◌≡◌, ℕ, zero, suc, ◌+◌, ◌-◌, ◌*◌, ◌<◌, nat_eq, nat_lt, ℤ, pos, negsuc, Bool, true, false, if◌then◌else◌, Option, None, Some, option_map, List, [], ◌∷◌, ◌++◌, refl, ap, sym, ◌∙◌, subst, append_assoc, arith}
 use Rattle.std.specs.Prelude.{⊤}
 use Rattle.std.proofs.lemmas.Bool.Decides.{nat_tests}
 use Rattle.std.proofs.lemmas.Bool.{eqb-true}
-use Rattle.logic_core.specs.Tree.{Kind, int, boolean, Tree, num, truth, free, bound, linear}
+use Rattle.logic_core.specs.Tree.{Kind, Tree}
 use Rattle.logic_core.specs.View.{trees_of, parts_of, patterns_of}
 use Rattle.logic_core.specs.Wide.{◌>>=◌, when, fits}
 use Rattle.obligation_text.specs.Numbers.{number_text, signed_text}
-use Rattle.obligation_text.proofs.Printed.{sort_onto, together_onto, sorts_onto, onto, trees_onto, parts_onto, triggers_onto}
+use Rattle.obligation_text.proofs.Printed.{together_onto, sorts_onto, onto, trees_onto, parts_onto, triggers_onto}
 use Rattle.proof_text.specs.Reading.{is_number}
-use Rattle.proof_text.specs.Digit.{digit, grown, grown_integer, is_positive, goes_on, more_number, more_integer, first_negative}
-use Rattle.proof_text.specs.TermStates.{at_byte, by_stop, or_else, pair_of, triple_of, many_of, bound_of, full_of, filled, at, into, completed, nested, item_moves, head_moves, less_moves, sign_moves, sort_moves, sorts_end, trigger_moves, lettered, counted, behind_step, next_behind, term_step}
+use Rattle.proof_text.specs.Digit.{digit, grown, is_positive, more_number, more_integer, first_negative}
+use Rattle.proof_text.specs.TermStates.{at_byte, by_stop, or_else}
 use Rattle.proof_text.specs.declared.hole.Pair.{Pair}
 use Rattle.proof_text.specs.declared.hole.Pair.TheVariants as pair
 use Rattle.proof_text.specs.declared.hole.Triple.{Triple}

@@ -1,5 +1,5 @@
 -- Reading numbers digit by digit: no number but 0 begins with 0, and none leaves its type.
-use Rattle.std.specs.Prelude.{ℕ, zero, suc, ◌+◌, ◌-◌, ◌*◌, nat_lt, ℤ, pos, negsuc, Bool, true, false, ◌&&◌, if◌then◌else◌, Option, None, Some}
+use Rattle.std.specs.Prelude.{ℕ, ◌+◌, ◌-◌, ◌*◌, nat_lt, ℤ, pos, negsuc, Bool, true, if◌then◌else◌, Option, None, Some}
 use Rattle.logic_core.specs.Wide.{fits, ◌>>=◌, when}
 use Rattle.proof_text.specs.Reading.{is_number}
 

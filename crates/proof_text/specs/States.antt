@@ -1,13 +1,11 @@
 -- Reading a proof byte by byte. A state is the nodes that are open around the place, innermost first, the steps before it in its branch, and where in its node the place is.
-use Rattle.std.specs.Prelude.{ℕ, nat_eq, ℤ, pos, Bool, true, false, ◌||◌, if◌then◌else◌, Option, None, Some, option_map, List, [], ◌∷◌, ◌++◌}
+use Rattle.std.specs.Prelude.{ℕ, nat_eq, ℤ, pos, ◌||◌, if◌then◌else◌, Option, None, Some, option_map, List, [], ◌∷◌, ◌++◌}
 use Rattle.logic_core.specs.Tree.{Tree}
 use Rattle.logic_core.specs.Wide.{◌>>=◌}
 use Rattle.proof_core.specs.Proof.{Step, by_split, by_instantiate, by_skolem, by_replace, by_unfold, by_back, by_differ, by_combine, by_tighten, Proof, proof, End, by_close, by_cases, by_condition, by_past, by_trichotomy}
 use Rattle.proof_core.specs.View.{proofs_of}
 use Rattle.proof_text.specs.Digit.{digit, more_number, more_integer, first_negative}
 use Rattle.proof_text.specs.TermStates.{is_empty, at_byte, by_stop, or_else, term_step, finished}
-use Rattle.proof_text.specs.declared.hole.Hole.{Hole}
-use Rattle.proof_text.specs.declared.term_state.TermCursor.{TermCursor}
 use Rattle.proof_text.specs.declared.term_state.TermCursor.TheVariants.{Item}
 use Rattle.proof_text.specs.declared.term_state.TermState.{TermState}
 use Rattle.proof_text.specs.declared.node.Fact.{Fact}

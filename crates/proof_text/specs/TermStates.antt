@@ -2,7 +2,6 @@
 use Rattle.std.specs.Prelude.{ℕ, zero, suc, ◌+◌, nat_eq, ℤ, pos, Bool, true, false, if◌then◌else◌, Option, None, Some, option_map, List, [], ◌∷◌, ◌++◌}
 use Rattle.logic_core.specs.Tree.{Kind, int, boolean, map, Tree, num, truth, free, bound, linear, mul, read, write, choose, call, negation, all, some, equal, at_most, for_all, exists}
 use Rattle.logic_core.specs.View.{trees_of, parts_of, patterns_of}
-use Rattle.logic_core.specs.Wide.{◌>>=◌}
 use Rattle.proof_text.specs.Digit.{digit, more_number, more_integer, first_negative}
 use Rattle.proof_text.specs.declared.hole.Pair.{Pair}
 use Rattle.proof_text.specs.declared.hole.Pair.TheVariants as pair
