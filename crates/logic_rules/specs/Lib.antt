@@ -1,0 +1,9 @@
+pub mod Closing
+pub mod Codes
+pub mod Flattening
+pub mod Instantiating
+pub mod Rewriting
+pub mod Skolem
+pub mod Splitting
+pub mod Unfolding
+pub mod View
