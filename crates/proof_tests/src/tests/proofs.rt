@@ -1,165 +1,91 @@
-// Proofs for tests, read from texts.
-use super::build::Operands;
+// A proof by every rule.
+use super::build::{X, Y, call, choice, read_past, variable};
 use super::obligations::obligation;
 use proof_check::{CheckFault, Rule, check};
 use proof_core::proof::{End, Proof, Step};
 use std::alloc::{AllocError, Global};
+use std::test::Fail;
 
-/// What the checker says.
-#[derive(Clone, Copy, PartialEq, Eq, Debug, Drop)]
-pub enum Answer {
-    /// The proof is accepted.
-    Accepted,
-    /// The first node that is refused, and its rule.
-    Refused(u64, Rule),
-    /// An axiom or the goal of the test is no formula.
-    NoFormula,
+// Each step works on an axiom.
+fn steps(alloc: Global) -> Result<Vec<Step>, AllocError> {
+    let mut steps = Vec::new(alloc);
+    steps.push(Step::Split(1))?;
+    steps.push(Step::Instantiate(2, Vec::from_array(alloc, [variable(X)])?))?;
+    steps.push(Step::Skolem(3))?;
+    steps.push(Step::Replace(5, 4, variable(X)))?;
+    steps.push(Step::Combine(5, 1, 4, 1))?;
+    steps.push(Step::Tighten(5))?;
+    steps.push(Step::Unfold(6, call(alloc)?))?;
+    steps.push(Step::Back(7, read_past(alloc, variable(X))?))?;
+    steps.push(Step::Differ(9))?;
+    Ok(steps)
 }
 
-/// What the checker says of the proof of this text, of a goal from axioms.
-pub fn said(alloc: Global, axioms: &str, goal: &str, text: &str) -> Result<Answer, AllocError> {
-    let Some(o) = obligation(alloc, axioms, goal)? else {
-        return Ok(Answer::NoFormula);
+// A proof without steps.
+fn ended(alloc: Global, end: End) -> Proof {
+    let steps = Vec::new(alloc);
+    Proof { steps, end }
+}
+
+fn boxed(alloc: Global, end: End) -> Result<Box<Proof>, AllocError> {
+    Ok(Box::new(alloc, ended(alloc, end))?)
+}
+
+// A close by the axiom that is false.
+fn closed(alloc: Global) -> Result<Box<Proof>, AllocError> {
+    boxed(alloc, End::Close(0, 0))
+}
+
+// Cases of p or q; of what a read past a write finds; and of a choice.
+fn children(alloc: Global) -> Result<(Box<Proof>, Box<Proof>, Box<Proof>), AllocError> {
+    let mut others = Vec::new(alloc);
+    others.push(ended(alloc, End::Close(0, 0)))?;
+    let cases = End::Cases(10, closed(alloc)?, others);
+    let place = read_past(alloc, variable(Y))?;
+    let past = End::Past(place, closed(alloc)?, closed(alloc)?, closed(alloc)?);
+    let condition = End::Condition(11, choice(alloc)?, closed(alloc)?, closed(alloc)?);
+    Ok((
+        boxed(alloc, cases)?,
+        boxed(alloc, past)?,
+        boxed(alloc, condition)?,
+    ))
+}
+
+fn by_every_rule(alloc: Global) -> Result<Proof, AllocError> {
+    let (below, same, above) = children(alloc)?;
+    Ok(Proof {
+        steps: steps(alloc)?,
+        end: End::Trichotomy(variable(X), below, same, above),
+    })
+}
+
+// Whether the proof is accepted, or the node that is refused and its rule; None where an axiom is no
+// formula.
+fn judged(alloc: Global, proof: &Proof) -> Result<Option<Result<(), CheckFault>>, AllocError> {
+    match obligation(alloc)? {
+        Some(o) => Ok(Some(check(alloc, &o, proof))),
+        None => Ok(None),
+    }
+}
+
+#[test]
+fn a_proof_by_every_rule_is_accepted(rt: HostRuntime) -> Result<(), Fail> {
+    let alloc = rt.alloc();
+    let proof = by_every_rule(alloc)?.copy(alloc)?;
+    assert_eq!(rt; proof.size(), 20);
+    assert!(rt; matches!(judged(alloc, &proof)?, Some(Ok(()))));
+    Ok(())
+}
+
+#[test]
+fn a_conjunction_is_not_skolemized(rt: HostRuntime) -> Result<(), Fail> {
+    let alloc = rt.alloc();
+    let mut forged = by_every_rule(alloc)?;
+    forged.steps.push(Step::Skolem(1))?;
+    let Some(Err(CheckFault::Rejected { node, rule })) = judged(alloc, &forged)? else {
+        panic!(rt; "a conjunction was skolemized");
     };
-    let proof = proof(alloc, text)?;
-    match check(alloc, &o, &proof) {
-        Ok(()) => Ok(Answer::Accepted),
-        Err(CheckFault::Rejected { node, rule }) => Ok(Answer::Refused(node, rule)),
-        Err(CheckFault::Memory) => Err(AllocError),
-    }
-}
-
-// The terms and proofs that a node still wants, the next ones last.
-#[derive(Drop)]
-struct Nodes {
-    alloc: Global,
-    operands: Operands,
-    proofs: Vec<Proof>,
-}
-
-impl Nodes {
-    // A proof without steps.
-    fn ended(&self, end: End) -> Proof {
-        Proof {
-            steps: Vec::new(self.alloc),
-            end,
-        }
-    }
-
-    // The next proof, and a close where there is none.
-    fn next(&mut self) -> Proof {
-        match self.proofs.pop() {
-            Some(proof) => proof,
-            None => self.ended(End::Close(0, 0)),
-        }
-    }
-
-    fn boxed(&mut self) -> Result<Box<Proof>, AllocError> {
-        let proof = self.next();
-        Ok(Box::new(self.alloc, proof)?)
-    }
-
-    fn proofs(&mut self, count: u32) -> Result<Vec<Proof>, AllocError> {
-        let mut proofs = Vec::new(self.alloc);
-        for _ in 0..count {
-            proofs.push(self.next())?;
-        }
-        Ok(proofs)
-    }
-
-    // The number of a fact.
-    fn fact(&mut self) -> u64 {
-        u64::try_from(self.operands.number()).unwrap_or(0)
-    }
-
-    // The step of this word.
-    fn step(&mut self, word: &str) -> Result<Option<Step>, AllocError> {
-        Ok(Some(match word {
-            "split" => Step::Split(self.fact()),
-            "instantiate0" => Step::Instantiate(self.fact(), Vec::new(self.alloc)),
-            "instantiate1" => Step::Instantiate(self.fact(), self.operands.list(1)?),
-            "skolem" => Step::Skolem(self.fact()),
-            "replace" => Step::Replace(self.fact(), self.fact(), self.operands.next()),
-            "unfold" => Step::Unfold(self.fact(), self.operands.next()),
-            "back" => Step::Back(self.fact(), self.operands.next()),
-            "differ" => Step::Differ(self.fact()),
-            "combine" => self.combination(),
-            "tighten" => Step::Tighten(self.fact()),
-            _ => return Ok(None),
-        }))
-    }
-
-    fn combination(&mut self) -> Step {
-        let (f, p) = (self.fact(), self.operands.number());
-        let (g, q) = (self.fact(), self.operands.number());
-        Step::Combine(f, p, g, q)
-    }
-
-    // The end of this word.
-    fn end(&mut self, word: &str) -> Result<Option<End>, AllocError> {
-        match word {
-            "close" => Ok(Some(End::Close(self.fact(), self.fact()))),
-            "cases1" => self.cases(0),
-            "cases2" => self.cases(1),
-            "condition" => {
-                let (yes, no) = (self.boxed()?, self.boxed()?);
-                let (f, t) = (self.fact(), self.operands.next());
-                Ok(Some(End::Condition(f, t, yes, no)))
-            }
-            "past" | "trichotomy" => self.three(word == "past"),
-            _ => Ok(None),
-        }
-    }
-
-    // A split with so many children behind the first.
-    fn cases(&mut self, others: u32) -> Result<Option<End>, AllocError> {
-        let first = self.boxed()?;
-        let others = self.proofs(others)?;
-        Ok(Some(End::Cases(self.fact(), first, others)))
-    }
-
-    fn three(&mut self, is_past: bool) -> Result<Option<End>, AllocError> {
-        let (below, same, above) = (self.boxed()?, self.boxed()?, self.boxed()?);
-        let t = self.operands.next();
-        if is_past {
-            Ok(Some(End::Past(t, below, same, above)))
-        } else {
-            Ok(Some(End::Trichotomy(t, below, same, above)))
-        }
-    }
-
-    // A node of a proof, or a construct of a term.
-    fn read(&mut self, word: &str) -> Result<(), AllocError> {
-        if let Some(end) = self.end(word)? {
-            let proof = self.ended(end);
-            self.proofs.push(proof)?;
-            return Ok(());
-        }
-        match self.step(word)? {
-            Some(step) => self.put_first(step),
-            None => self.operands.read(word),
-        }
-    }
-
-    // A step before the next proof.
-    fn put_first(&mut self, step: Step) -> Result<(), AllocError> {
-        if let Some(proof) = self.proofs.last_mut() {
-            proof.steps.insert(0, step)?;
-        }
-        Ok(())
-    }
-}
-
-// The proof of a text in Polish notation: a step stands before the nodes that follow it, and an end
-// before the proofs of its children.
-fn proof(alloc: Global, text: &str) -> Result<Proof, AllocError> {
-    let mut nodes = Nodes {
-        alloc,
-        operands: Operands::new(alloc),
-        proofs: Vec::new(alloc),
-    };
-    for word in text.rsplit(' ') {
-        nodes.read(word)?;
-    }
-    Ok(nodes.next())
+    assert_eq!(rt; node, 10);
+    assert!(rt; rule == Rule::Skolem);
+    Ok(())
 }

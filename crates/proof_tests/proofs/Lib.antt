@@ -1,0 +1,6 @@
+mod TermExamples
+mod OrderExamples
+mod SortExamples
+mod NormalTables
+mod FactExamples
+mod ProofSizes
