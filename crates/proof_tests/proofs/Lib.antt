@@ -4,3 +4,4 @@ mod SortExamples
 mod NormalTables
 mod FactExamples
 mod ProofSizes
+mod TriggerExamples
