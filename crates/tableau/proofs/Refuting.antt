@@ -1,23 +1,28 @@
 -- A search that ends Proved has the proof of its first branch.
-use Rattle.std.specs.Prelude.{◌≡◌, refl, ℕ, zero, suc, ◌-◌, nat_lt, Bool, true, false, Option, Some, None, List, [], ◌∷◌, ◌++◌, slice_get, All}
-use Rattle.std.proofs.Common.{sym, ◌∙◌, ap, subst}
-use Rattle.logic_core.specs.Def.{Def, Obligation}
+use Rattle.std.specs.Prelude.{◌≡◌, refl, ℕ, zero, suc, ◌-◌, nat_lt, Bool, true, false, Option, Some, None, List, [], ◌∷◌, ◌++◌, slice_get}
+use Rattle.std.proofs.Common.{◌∙◌, subst}
+use Rattle.logic_core.specs.Def.{Def}
 use Rattle.proof_core.specs.Proof.{Proof}
 use Rattle.proof_core.specs.Context.{Context, start}
 use Rattle.proof_core.specs.Accepted.{Refutes, IsAccepted}
 use Rattle.proof_core.specs.Soundness.{IsSorted}
-use Rattle.logic_core.specs.WellSorted.{IsWellSorted}
 use Rattle.proof_core.proofs.CloseSound.{start_is_sound}
-use Rattle.tableau.specs.Branch.{Branch, Attempt, none, leaves, gives}
-use Rattle.tableau.specs.Move.{Move, Played, cost, branches_of, steps_of}
-use Rattle.tableau.specs.Closing.{close, flatten}
-use Rattle.tableau.specs.Rewriting.{rewrite, unfold_call}
-use Rattle.tableau.specs.Splitting.{split}
+use Rattle.tableau_branch.specs.Branch.{Branch, Attempt, none, leaves, gives}
+use Rattle.tableau_branch.specs.Move.{Move, Played, cost, branches_of, steps_of}
 use Rattle.tableau.specs.Search.{first_rule, rules, step, Verdict, proved, «open», turns, wide, Run, ended, after, after_attempt, run, proofs_before, first_branch, Answer, answer_of, found_by, answer, FindsAccepted}
-use Rattle.tableau.proofs.Tracked.{IsKnown, Tracks, numbered_known}
+use Rattle.tableau.proofs.Tracked.{numbered_known}
 use Rattle.tableau.proofs.Outcomes.{IsPlaced, ArePlaced, placed_append, Outcome, RefutedBy, refuted_before}
-use Rattle.tableau.proofs.RulesGo.{close_goes, flatten_goes}
-use Rattle.tableau.proofs.RewritesGo.{rewrite_goes, unfold_goes, split_goes}
+use Rattle.tableau.proofs.ClosingGoes.{close_goes}
+use Rattle.tableau.proofs.FlatteningGoes.{flatten_goes}
+use Rattle.tableau.proofs.RewritingGoes.{rewrite_goes}
+use Rattle.tableau.proofs.UnfoldingGoes.{unfold_goes}
+use Rattle.tableau.proofs.SkolemGoes.{skolem_goes, differ_goes}
+use Rattle.tableau.proofs.SplittingGoes.{split_goes}
+use Rattle.tableau.proofs.TrichotomyGoes.{trichotomy_goes}
+use Rattle.tableau.proofs.ConditionGoes.{condition_goes}
+use Rattle.tableau.proofs.PastGoes.{past_goes, back_goes}
+use Rattle.tableau.proofs.InstantiatingGoes.{instantiate_goes}
+use Rattle.tableau.proofs.CombiningGoes.{combine_goes}
 
 module _ (defs : List Def) where
   -- what a rule gives goes on in contexts
@@ -35,13 +40,42 @@ module _ (defs : List Def) where
   no_rule : RuleGoes (first_rule [])
   no_rule b c m h placed = absurd (cc)
 
+  -- what each of these rules gives goes on
+  abbrev AllGo : List (Branch → Attempt Move) → Type 0
+  AllGo [] = Unit {0}
+  AllGo (r ∷ rs) = RuleGoes r × AllGo rs
+
+  first_goes : (rs : List (Branch → Attempt Move)) → AllGo rs → RuleGoes (first_rule rs)
+  first_goes [] all = no_rule
+  first_goes (r ∷ rs) all = one_rule_more r rs all.0 (first_goes rs all.1)
+
   step_goes : RuleGoes (step defs)
   unfolding step
-  step_goes = one_rule_more close (flatten defs ∷ rewrite defs ∷ unfold_call defs ∷ split defs ∷ []) (close_goes defs)
-      (one_rule_more (flatten defs) (rewrite defs ∷ unfold_call defs ∷ split defs ∷ []) (flatten_goes defs)
-      (one_rule_more (rewrite defs) (unfold_call defs ∷ split defs ∷ []) (rewrite_goes defs)
-      (one_rule_more (unfold_call defs) (split defs ∷ []) (unfold_goes defs)
-      (one_rule_more (split defs) [] (split_goes defs) no_rule))))
+  step_goes = first_goes (rules defs) (
+    close_goes defs,
+    (
+      flatten_goes defs,
+      (
+        skolem_goes defs,
+        (
+          rewrite_goes defs,
+          (
+            back_goes defs,
+            (
+              unfold_goes defs,
+              (
+                combine_goes defs,
+                (
+                  trichotomy_goes defs,
+                  (split_goes defs, (condition_goes defs, (past_goes defs, (differ_goes defs, (instantiate_goes defs, tt))))),
+                ),
+              ),
+            ),
+          ),
+        ),
+      ),
+    ),
+  )
 
   -- the moves of a run that ends Proved make proofs of its branches
   abbrev Proves : List Context → Run → Type 0

@@ -1,19 +1,18 @@
 -- The first branch of a search, and its answer.
 use Rattle.std.specs.Prelude.{◌≡◌, refl, ℕ, Option, Some, None, option_map, IfSome, List, [], ◌∷◌, ◌++◌}
-use Rattle.std.proofs.Common.{ap, sym, subst, ◌∙◌}
+use Rattle.std.proofs.Common.{ap, subst}
 use Rattle.logic_core.specs.Tree.{Tree, negation}
 use Rattle.logic_core.specs.Def.{Def, Obligation}
 use Rattle.logic_core.specs.Normal.{normal}
 use Rattle.logic_core.specs.Wide.{◌>>=◌}
 use Rattle.logic_laws.proofs.Options.{bind_some}
 use Rattle.proof_core.specs.Proof.{Proof}
-use Rattle.proof_core.specs.Context.{Context, appended, appended_each, start}
+use Rattle.proof_core.specs.Context.{Context, appended_each, start}
 use Rattle.proof_core.specs.Accepted.{IsAccepted}
 use Rattle.logic_core.specs.WellSorted.{IsWellSorted}
-use Rattle.tableau.specs.Branch.{Branch, normal_in}
-use Rattle.tableau.specs.Closing.{each}
-use Rattle.tableau.specs.Search.{wide, Run, run, first_branch, Answer, answer_of, answer}
-use Rattle.tableau.proofs.Tracked.{with_facts, each_appended}
+use Rattle.tableau_branch.specs.Branch.{Branch, normal_in, each}
+use Rattle.tableau.specs.Search.{wide, run, first_branch, Answer, answer_of, answer}
+use Rattle.tableau.proofs.Tracked.{each_appended}
 use Rattle.tableau.proofs.Refuting.{finds_accepted}
 
 module _ {A B : Type 0} (f : A → Option B) where
@@ -60,7 +59,7 @@ module _ (o : Obligation) where
   form t = normal o.vars o.defs [] t
 
   abbrev empty : Branch
-  empty = record { facts = []; vars = o.vars; next = 0 }
+  empty = record { facts = []; calls = []; marks = []; vars = o.vars; next = 0 }
 
   abbrev nothing : Context
   nothing = record { vars = o.vars; facts = [] }

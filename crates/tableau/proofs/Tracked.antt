@@ -1,18 +1,17 @@
 -- A branch of the search beside the context of a proof: each fact stands in the context under its number, and contexts only grow.
-use Rattle.std.specs.Prelude.{◌≡◌, refl, ℕ, zero, suc, ◌+◌, Bool, true, false, Option, Some, None, List, [], ◌∷◌, ◌++◌, length, take, drop, slice_get, All, if◌then◌else◌, ◌||◌}
+use Rattle.std.specs.Prelude.{◌≡◌, refl, ℕ, zero, suc, ◌+◌, true, Option, Some, None, List, [], ◌∷◌, ◌++◌, length, slice_get, All, ◌||◌}
 use Rattle.std.proofs.Common.{sym, ◌∙◌, ap, subst, arith}
 use Rattle.std.proofs.lemmas.List.{append_assoc, length_push}
-use Rattle.std.proofs.lemmas.List.Elements.{All-nil, All-cons, All-head, All-tail, All-append, All-take, All-drop, All-weaker, All-push}
+use Rattle.std.proofs.lemmas.List.Elements.{All-nil, All-cons, All-head, All-tail, All-weaker, All-push}
 use Rattle.logic_core.specs.Tree.{Kind, Tree}
 use Rattle.logic_core.specs.Def.{Def}
 use Rattle.logic_core.specs.Normal.{normal}
 use Rattle.logic_core.specs.Wide.{◌>>=◌}
 use Rattle.logic_core.specs.Junction.{is_truth}
-use Rattle.proof_core.specs.Context.{Context, fact, with_fact, appended, appended_each}
+use Rattle.proof_core.specs.Context.{Context, fact, with_fact, appended_each}
 use Rattle.logic_laws.proofs.Options.{bind_some, cond_has}
-use Rattle.tableau.specs.Branch.{Fact, Branch, At, first_from, numbered, normal_in, is_there, without}
-use Rattle.tableau.specs.Change.{Made, added, added_each, kept, changed_at}
-use Rattle.tableau.specs.Closing.{each}
+use Rattle.tableau_branch.specs.Branch.{Fact, Branch, At, first_from, numbered, normal_in, is_there, each}
+use Rattle.tableau_branch.specs.Change.{kept}
 
 abbrev pub IsKnown : Context → Fact → Type 0
 IsKnown c f = fact c f.number ≡ Some f.term
@@ -67,37 +66,9 @@ each_appended defs (t ∷ ts) us c b v h =
     let whole : with_facts (with_fact c p.0) q.0 ≡ with_facts c us = ap (λ fs. record { vars = c.vars; facts = fs }) (append_assoc c.facts (p.0 ∷ []) q.0 ∙ ap (λ ys. c.facts ++ ys) is_us) in
     rw first (rest ∙ ap Some whole)
 
--- a fact that is added, and facts that are
-pub added_tracks : (c : Context) (f : Fact) (m : Made) → Tracks m.branch c → IsKnown c f → Tracks (added f m).branch c
-added_tracks c f m t k = cond_has (λ (n : Made). Tracks n.branch c) (is_truth true f.term || is_there f.term m.branch.facts) m _ (λ _. t) (λ _. record { vars = t.vars; next = t.next; facts = All-push (IsKnown c) m.branch.facts f t.facts k })
-
-pub added_each_tracks : (c : Context) (fs : List Fact) (m : Made) → Tracks m.branch c → All (IsKnown c) fs → Tracks (added_each fs m).branch c
-added_each_tracks c [] m t k = t
-added_each_tracks c (f ∷ fs) m t k = added_each_tracks c fs (added f m) (added_tracks c f m t (All-head (IsKnown c) f fs k)) (All-tail (IsKnown c) f fs k)
-
--- adding makes no nodes
-pub added_steps : (f : Fact) (m : Made) → (added f m).steps ≡ m.steps
-added_steps f m = cond_has (λ (n : Made). n.steps ≡ m.steps) (is_truth true f.term || is_there f.term m.branch.facts) m _ (λ _. refl) (λ _. refl)
-
-pub added_each_steps : (fs : List Fact) (m : Made) → (added_each fs m).steps ≡ m.steps
-added_each_steps [] m = refl
-added_each_steps (f ∷ fs) m = added_each_steps fs (added f m) ∙ added_steps f m
-
 -- what is kept of a changed fact
 pub kept_known : (c : Context) (done : List Fact) (f : Fact) (fs : List Fact) → All (IsKnown c) done → IsKnown c f → All (IsKnown c) (kept done f fs)
 kept_known c done f fs all k = cond_has (λ gs. All (IsKnown c) gs) (is_truth true f.term || (is_there f.term done || is_there f.term fs)) done (done ++ f ∷ []) (λ _. all) (λ _. All-push (IsKnown c) done f all k)
-
--- the branch without a fact
-pub without_tracks : (c : Context) (b : Branch) (n : ℕ) → Tracks b c → Tracks (without n b) c
-without_tracks c b n t = record { vars = t.vars; next = t.next; facts = All-append (IsKnown c) (take n b.facts) (drop (n + 1) b.facts) (All-take (IsKnown c) n b.facts t.facts) (All-drop (IsKnown c) (n + 1) b.facts t.facts) }
-
--- the fact at a place changed
-pub changed_tracks : (c : Context) (n : ℕ) (f : Fact) (m : Made) → Tracks m.branch c → IsKnown c f → Tracks (changed_at n f m).branch c
-changed_tracks c n f m t k = let fs = m.branch.facts in record {
-  vars = t.vars;
-  next = t.next;
-  facts = All-append (IsKnown c) (kept (take n fs) f (drop (n + 1) fs)) (drop (n + 1) fs) (kept_known c (take n fs) f (drop (n + 1) fs) (All-take (IsKnown c) n fs t.facts) k) (All-drop (IsKnown c) (n + 1) fs t.facts);
-}
 
 -- of a fact that is found: it is known, and the test finds something in it
 pub found_known : {A : Type 0} (test : Fact → Option A) (P : Fact → Type 0) (n : ℕ) (fs : List Fact) (a : At A) → first_from test n fs ≡ Some a → All P fs → P a.fact × (test a.fact ≡ Some a.what)

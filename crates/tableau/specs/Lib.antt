@@ -1,13 +1,6 @@
-pub mod Branch
-pub mod FactCodes
-pub mod Change
-pub mod Oriented
-pub mod Move
-pub mod Closing
-pub mod Rewriting
-pub mod Splitting
-pub mod Applied
-pub mod Search
-pub mod View
+pub mod Counted
+pub mod PartialView
+pub mod Rules
 pub mod RunView
+pub mod Search
 pub mod Settled

@@ -1,7 +1,7 @@
 -- What the end of a search stands for.
 use Rattle.std.specs.Prelude.{map}
 use Rattle.tableau.specs.Search as spec
-use Rattle.tableau.specs.View.{played_of}
+use Rattle.tableau_branch.specs.View.{played_of}
 use Rattle.tableau.specs.declared.ended.Run.{Run}
 use Rattle.tableau.specs.declared.ended.Verdict.{Verdict}
 use Rattle.tableau.specs.declared.ended.Verdict.TheVariants.{Proved, Open, Turns, Wide}

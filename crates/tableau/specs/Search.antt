@@ -1,16 +1,27 @@
 -- The search: a step applies the first rule that can be applied, on the top branch; the verdict, and the proof made of the steps' nodes.
-use Rattle.std.specs.Prelude.{◌≡◌, ℕ, zero, suc, ◌+◌, ◌-◌, nat_lt, Bool, true, false, is_some, Option, Some, None, List, [], ◌∷◌, ◌++◌, length, drop, slice_get}
+use Rattle.std.specs.Prelude.{◌≡◌, ℕ, zero, suc, ◌-◌, nat_lt, Bool, true, false, is_some, Option, Some, None, List, [], ◌∷◌, ◌++◌, length, drop, slice_get}
 use Rattle.logic_core.specs.Def.{Def, Obligation}
-use Rattle.proof_core.specs.Proof.{Step, Proof, proof, by_close, by_cases}
+use Rattle.logic_core.specs.Tree.{Tree}
+use Rattle.proof_core.specs.Proof.{Step, Proof, proof, by_close, by_cases, by_condition, by_past, by_trichotomy}
 use Rattle.proof_core.specs.View.{proofs_of}
 use Rattle.proof_core.specs.Context.{Context, start}
 use Rattle.proof_core.specs.Accepted.{IsAccepted}
 use Rattle.logic_core.specs.WellSorted.{IsWellSorted}
-use Rattle.tableau.specs.Branch.{Branch, Attempt, none, leaves, gives, numbered}
-use Rattle.tableau.specs.Move.{Ending, goes_on, closes, forks, Move, cost, branches_of, Played, played}
-use Rattle.tableau.specs.Closing.{close, flatten}
-use Rattle.tableau.specs.Rewriting.{rewrite, unfold_call}
-use Rattle.tableau.specs.Splitting.{split}
+use Rattle.tableau_branch.specs.Branch.{Branch, Attempt, none, leaves, gives, numbered}
+use Rattle.tableau_branch.specs.Move.{Ending, goes_on, closes, forks, chooses, passes, decides, Move, cost, branches_of, Played, played}
+use Rattle.logic_rules.specs.Closing.{close}
+use Rattle.logic_rules.specs.Flattening.{flatten}
+use Rattle.logic_rules.specs.Skolem.{skolem}
+use Rattle.logic_rules.specs.Rewriting.{rewrite}
+use Rattle.theory_rules.specs.Back.{back}
+use Rattle.logic_rules.specs.Unfolding.{unfold_call}
+use Rattle.theory_rules.specs.Combining.{combine}
+use Rattle.theory_rules.specs.Trichotomy.{trichotomy}
+use Rattle.logic_rules.specs.Splitting.{split}
+use Rattle.theory_rules.specs.Condition.{condition}
+use Rattle.theory_rules.specs.Past.{past}
+use Rattle.theory_rules.specs.Differ.{differ}
+use Rattle.logic_rules.specs.Instantiating.{instantiate}
 
 -- the first rule of these that can be applied
 abbrev pub first_rule : List (Branch → Attempt Move) → Branch → Attempt Move
@@ -18,7 +29,8 @@ first_rule [] b = none
 first_rule (r ∷ rs) b = elim (r b) [ none ↦ first_rule rs b | leaves ↦ leaves | gives m ↦ gives m ]
 
 abbrev pub rules : List Def → List (Branch → Attempt Move)
-rules defs = close ∷ flatten defs ∷ rewrite defs ∷ unfold_call defs ∷ split defs ∷ []
+rules defs = close ∷ flatten defs ∷ skolem defs ∷ rewrite defs ∷ back defs ∷ unfold_call defs ∷ combine defs ∷ trichotomy defs
+    ∷ split defs ∷ condition defs ∷ past defs ∷ differ defs ∷ instantiate defs ∷ []
 
 unfoldable pub step : List Def → Branch → Attempt Move
 step defs b = first_rule (rules defs) b
@@ -72,12 +84,28 @@ abbrev pub only : List Proof → Proof
 only [] = proof [] (by_close 0 0)
 only (p ∷ ps) = p
 
+-- where there are as many proofs as a node has children
+abbrev pub chosen_proof : ℕ → Tree → List Proof → Proof
+chosen_proof f t (p ∷ q ∷ []) = proof [] (by_condition f t p q)
+chosen_proof f t ps = only []
+
+abbrev pub passed_proof : Tree → List Proof → Proof
+passed_proof t (p ∷ q ∷ r ∷ []) = proof [] (by_past t p q r)
+passed_proof t ps = only []
+
+abbrev pub decided_proof : Tree → List Proof → Proof
+decided_proof d (p ∷ q ∷ r ∷ []) = proof [] (by_trichotomy d p q r)
+decided_proof d ps = only []
+
 -- the proof of a branch on which a move was made, from those of the branches that it made
 abbrev pub proof_of : Ending → List Proof → Proof
 proof_of goes_on ps = only ps
 proof_of (closes f g) ps = proof [] (by_close f g)
 proof_of (forks f) [] = only []
 proof_of (forks f) (p ∷ ps) = proof [] (by_cases f p (proofs_of ps))
+proof_of (chooses f t) ps = chosen_proof f t ps
+proof_of (passes t) ps = passed_proof t ps
+proof_of (decides d) ps = decided_proof d ps
 
 -- the proofs of the branches on the stack before a move, from those of the stack after it
 abbrev pub joined : Played → List Proof → List Proof
@@ -90,7 +118,7 @@ proofs_before (m ∷ ms) ps = joined m (proofs_before ms ps)
 
 -- the first facts as they stand at a proof's start: true and equal ones among them stay
 abbrev pub first_branch : Context → Branch
-first_branch c = record { facts = numbered 0 c.facts; vars = c.vars; next = length c.facts }
+first_branch c = record { facts = numbered 0 c.facts; calls = []; marks = []; vars = c.vars; next = length c.facts }
 
 pub record Answer : Type 0 where
   pub verdict : Verdict

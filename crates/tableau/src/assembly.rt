@@ -1,13 +1,18 @@
 // The proof that the moves of a search make.
-ghost use Rattle.std.specs.Prelude.{◌≡◌, List, [], ◌∷◌, IfOk, OnOk, map, drop, length, slice_get};
-ghost use Rattle.tableau.specs.Search.{begin_each, only, proof_of, joined, proofs_before};
-ghost use Rattle.tableau.specs.Move.{forks};
-ghost use Rattle.tableau.specs.View.{each_steps, ending_of, played_of, partial_of, partials_of};
+ghost use Rattle.std.specs.Prelude.{◌≡◌, [], IfOk, OnOk, map, drop, length, slice_get};
+ghost use Rattle.proof_core.specs.Proof.{proof};
+ghost use Rattle.proof_core.specs.ProofView.{end_of};
+ghost use Rattle.tableau.specs.Counted.{two, three};
+ghost use Rattle.tableau.specs.Search.{begin_each, only, chosen_proof, passed_proof, decided_proof, proof_of, joined, proofs_before};
+ghost use Rattle.tableau_branch.specs.Move.{forks};
+ghost use Rattle.tableau_branch.specs.View.{each_steps, ending_of, played_of};
+ghost use Rattle.tableau.specs.PartialView.{partial_of, partials_of};
 
 use crate::partial::PartialProof;
-use crate::played::{Ending, Played};
+use logic_core::term::Term;
 use proof_core::proof::{End, Proof, Step};
 use std::alloc::{AllocError, Global};
+use tableau_branch::played::{Ending, Played};
 
 /// Takes as many proofs from the stack as there are lists of steps: each begins with its steps.
 fn begin_each(
@@ -29,6 +34,41 @@ fn begin_each(
     Ok(begun)
 }
 
+/// The proof without steps that ends so.
+fn ended(alloc: Global, end: End) -> PartialProof
+    ensures { partial_of result ≡ proof [] (end_of end) }
+{
+    PartialProof {
+        steps: Vec::new(alloc),
+        end,
+    }
+}
+
+/// The two proofs, where there are two.
+fn two(mut proofs: Vec<Proof>) -> Option<(Proof, Proof)>
+    ensures { result ≡ two proofs.items }
+{
+    if proofs.len() != 2 {
+        return None;
+    }
+    let second = proofs.pop()?;
+    let first = proofs.pop()?;
+    Some((first, second))
+}
+
+/// The three proofs, where there are three.
+fn three(mut proofs: Vec<Proof>) -> Option<(Proof, Proof, Proof)>
+    ensures { result ≡ three proofs.items }
+{
+    if proofs.len() != 3 {
+        return None;
+    }
+    let third = proofs.pop()?;
+    let second = proofs.pop()?;
+    let first = proofs.pop()?;
+    Some((first, second, third))
+}
+
 /// The first proof, which is the only one.
 fn only(alloc: Global, mut begun: Vec<PartialProof>) -> PartialProof
     ensures { partial_of result ≡ only (map partial_of begun.items) }
@@ -36,10 +76,7 @@ fn only(alloc: Global, mut begun: Vec<PartialProof>) -> PartialProof
     begun.reverse();
     match begun.pop() {
         Some(partial) => partial,
-        None => PartialProof {
-            steps: Vec::new(alloc),
-            end: End::Close(0, 0),
-        },
+        None => ended(alloc, End::Close(0, 0)),
     }
 }
 
@@ -65,10 +102,64 @@ fn fork(alloc: Global, f: u64, begun: Vec<PartialProof>) -> Result<PartialProof,
         proofs.reverse();
         end = End::Cases(f, Box::new(alloc, first)?, proofs);
     }
-    Ok(PartialProof {
-        steps: Vec::new(alloc),
-        end,
-    })
+    Ok(ended(alloc, end))
+}
+
+/// The proof that ends in a split by this condition in this fact, where there are two proofs.
+fn chosen_proof(
+    alloc: Global,
+    f: u64,
+    condition: Term,
+    begun: Vec<PartialProof>,
+) -> Result<PartialProof, AllocError>
+    ensures { IfOk result (λ p. partial_of p ≡ chosen_proof f condition (map partial_of begun.items)) }
+{
+    match two(finish_each(alloc, begun)?) {
+        Some((yes, no)) => {
+            let yes = Box::new(alloc, yes)?;
+            let no = Box::new(alloc, no)?;
+            Ok(ended(alloc, End::Condition(f, condition, yes, no)))
+        }
+        None => Ok(ended(alloc, End::Close(0, 0))),
+    }
+}
+
+/// The proof that ends in moving this Read past a Write, where there are three proofs.
+fn passed_proof(
+    alloc: Global,
+    access: Term,
+    begun: Vec<PartialProof>,
+) -> Result<PartialProof, AllocError>
+    ensures { IfOk result (λ p. partial_of p ≡ passed_proof access (map partial_of begun.items)) }
+{
+    match three(finish_each(alloc, begun)?) {
+        Some((below, same, above)) => {
+            let below = Box::new(alloc, below)?;
+            let same = Box::new(alloc, same)?;
+            let above = Box::new(alloc, above)?;
+            Ok(ended(alloc, End::Past(access, below, same, above)))
+        }
+        None => Ok(ended(alloc, End::Close(0, 0))),
+    }
+}
+
+/// The proof that ends in trichotomy of this number, where there are three proofs.
+fn decided_proof(
+    alloc: Global,
+    number: Term,
+    begun: Vec<PartialProof>,
+) -> Result<PartialProof, AllocError>
+    ensures { IfOk result (λ p. partial_of p ≡ decided_proof number (map partial_of begun.items)) }
+{
+    match three(finish_each(alloc, begun)?) {
+        Some((below, same, above)) => {
+            let below = Box::new(alloc, below)?;
+            let same = Box::new(alloc, same)?;
+            let above = Box::new(alloc, above)?;
+            Ok(ended(alloc, End::Trichotomy(number, below, same, above)))
+        }
+        None => Ok(ended(alloc, End::Close(0, 0))),
+    }
 }
 
 /// The proof of a branch on which a move was made, from those of the branches that it made.
@@ -81,11 +172,11 @@ fn proof_of(
 {
     match ending {
         Ending::GoesOn => Ok(only(alloc, begun)),
-        Ending::Closes(f, g) => Ok(PartialProof {
-            steps: Vec::new(alloc),
-            end: End::Close(f, g),
-        }),
+        Ending::Closes(f, g) => Ok(ended(alloc, End::Close(f, g))),
         Ending::Forks(f) => fork(alloc, f, begun),
+        Ending::Chooses(f, condition) => chosen_proof(alloc, f, condition, begun),
+        Ending::Passes(access) => passed_proof(alloc, access, begun),
+        Ending::Decides(number) => decided_proof(alloc, number, begun),
     }
 }
 

@@ -1,6 +1,6 @@
 // How a search ended.
 
-use crate::played::Played;
+use tableau_branch::played::Played;
 
 /// What a search says of an obligation.
 #[derive(Clone, Copy, PartialEq, Eq, Debug)]

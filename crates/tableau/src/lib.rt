@@ -3,31 +3,17 @@
 //! is Proved, a proof that is accepted.
 #![tactic(auto)]
 
-// Facts, branches, and what a step makes of them.
-pub mod branch;
-pub mod change;
-pub mod fact;
-pub mod played;
-
-// The rules.
-pub mod closing;
-pub mod flattening;
-pub mod oldest;
-pub mod oriented;
-pub mod outside;
-pub mod rewriting;
-pub mod splitting;
-pub mod unfolding;
-
-// The search, and the proof of its moves.
-pub mod assembly;
+// The table of rules, and the search.
 pub mod ended;
-pub mod partial;
+pub mod rules;
 pub mod run;
 pub mod search;
 pub mod settled;
 pub mod start;
-pub mod step;
+
+// The proof of its moves.
+pub mod assembly;
+pub mod partial;
 
 // Laws of the search.
 pub mod laws;

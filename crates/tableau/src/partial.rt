@@ -15,7 +15,7 @@ pub struct PartialProof {
 impl PartialProof {
     ghost use Rattle.proof_core.specs.View.{steps_of};
     ghost use Rattle.tableau.specs.Search.{begin_with};
-    ghost use Rattle.tableau.specs.View.{partial_of};
+    ghost use Rattle.tableau.specs.PartialView.{partial_of};
 
     /// The proof that begins with these steps.
     pub fn begin_with(self, mut steps: Vec<Step>) -> Result<PartialProof, AllocError>

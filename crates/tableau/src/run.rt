@@ -1,35 +1,34 @@
 // The run of a search on a stack of branches.
 ghost use Rattle.std.specs.Prelude.{◌≡◌, [], ◌∷◌, IfOk};
 ghost use Rattle.tableau.specs.Search.{run};
-ghost use Rattle.tableau.specs.View.{branch_of};
 ghost use Rattle.tableau.specs.RunView.{run_of};
 
-use crate::branch::Branch;
 use crate::ended::{Run, Verdict};
-use crate::step::step;
-use logic_core::def::Signature;
+use crate::rules::step;
+use logic_core::def::Def;
 use logic_core::fault::NormalFault;
 use std::alloc::{AllocError, Global};
+use tableau_branch::branch::Branch;
+use tableau_branch::played::Move;
+
+/// Lets a step go.
+fn discard(_step: Move) {}
 
 /// Searches from one branch: a step at a time on the branch on top of the stack, as long as its
 /// cost is paid by the turns that are left.
-pub fn run(
-    alloc: Global,
-    signature: &Signature,
-    turns: u64,
-    first: Branch,
-) -> Result<Run, AllocError>
-    ensures { IfOk result (λ r. run_of r ≡ run signature.now.defs turns turns (branch_of signature.now.vars first ∷ [])) }
+pub fn run(alloc: Global, defs: &[Def], turns: u64, first: Branch) -> Result<Run, AllocError>
+    ensures { IfOk result (λ r. run_of r ≡ run defs.now turns turns (first ∷ [])) }
 {
     let mut left = turns;
     let mut moves = Vec::new(alloc);
     let mut stack = Vec::new(alloc);
     stack.push(first)?;
     while let Some(branch) = stack.pop() {
-        match step(alloc, signature, branch) {
+        match step(alloc, defs, branch) {
             Ok(Some(step)) => {
                 let cost = step.cost();
                 if left < cost {
+                    discard(step);
                     return Ok(Run {
                         verdict: Verdict::Turns,
                         moves,

@@ -3,6 +3,7 @@ ghost use Rattle.std.specs.Prelude.{◌≡◌, IfOk};
 ghost use Rattle.std.specs.Arc.{arc_value};
 ghost use Rattle.tableau.specs.RunView.{run_of};
 ghost use Rattle.tableau.specs.Search.{found_by};
+ghost use Rattle.tableau.specs.Settled.{settled_by};
 
 use crate::assembly::assemble;
 use crate::ended::{Run, Verdict};
@@ -25,18 +26,19 @@ fn found(alloc: Global, ended: Run) -> Result<Option<Proof>, AllocError>
     }
 }
 
-/// Searches for a proof of the obligation with so many turns.
+/// Searches for a proof of the obligation with so many turns: the verdict and the proof are exactly
+/// those of the search's definition.
 pub fn search_plain(
     alloc: Global,
     obligation: &Arc<Obligation, Global>,
     turns: u64,
 ) -> Result<Settled, AllocError>
-    ensures { IfOk result (λ s. s ≡ record { obligation = arc_value obligation.now; turns = turns }) }
+    ensures { IfOk result (λ s. s ≡ settled_by (record { obligation = arc_value obligation.now; turns = turns })) }
 {
     let asked = Arc::try_clone(obligation)?;
     match first_branch(alloc, obligation) {
         Ok(first) => {
-            let ended = run(alloc, obligation.signature(), turns, first)?;
+            let ended = run(alloc, obligation.signature().defs(), turns, first)?;
             let verdict = ended.verdict;
             let proof = found(alloc, ended)?;
             Ok(Settled::new(asked, turns, verdict, proof))

@@ -1,10 +1,11 @@
 // The search of an obligation.
-ghost use Rattle.std.specs.Prelude.{◌≡◌, IfOk, IfSome, is_some, map};
+ghost use Rattle.std.specs.Prelude.{◌≡◌, IfSome, is_some};
 ghost use Rattle.std.specs.Arc.{arc_value};
 ghost use Rattle.std.specs.Option.{option_copied};
 ghost use Rattle.proof_core.specs.Accepted.{IsAccepted};
 ghost use Rattle.tableau.specs.RunView.{verdict_of};
-ghost use Rattle.tableau.specs.Search.{answer, is_proved};
+ghost use Rattle.tableau.specs.Search.{is_proved};
+ghost use Rattle.tableau.specs.Settled.{IsRight};
 
 use crate::ended::Verdict;
 use obligation_text::obligation::Obligation;
@@ -25,22 +26,21 @@ pub struct Settled {
 
 impl Model for Settled {
     ghost use Rattle.std.specs.Arc.{arc_value};
-    ghost use Rattle.tableau.specs.Settled.{Question, coded_question};
+    ghost use Rattle.tableau.specs.Settled.{Settled as settled, coded_settled};
 
-    ghost Value = { Question };
+    ghost Value = { settled };
 
-    ghost coded = { coded_question };
+    ghost coded = { coded_settled };
 
-    ghost use Rattle.tableau.specs.Settled.{IsSettled};
+    ghost use Rattle.tableau.specs.RunView.{verdict_of};
+    ghost use Rattle.tableau.specs.Settled.{IsRight};
 
-    ghost view = { λ s. record { obligation = arc_value s.obligation; turns = s.turns } };
+    ghost view = { λ s. record { question = record { obligation = arc_value s.obligation; turns = s.turns }; verdict = verdict_of s.verdict; found = s.proof } };
 
-    ghost invariant = { λ s. IsSettled (arc_value s.obligation) s.turns s.verdict s.proof };
+    ghost invariant = { λ s. IsRight (record { question = record { obligation = arc_value s.obligation; turns = s.turns }; verdict = verdict_of s.verdict; found = s.proof }) };
 }
 
 impl Settled {
-    ghost use Rattle.tableau.specs.Settled.{IsSettled};
-
     /// The obligation with this answer of the search.
     pub fn new(
         obligation: Arc<Obligation, Global>,
@@ -48,8 +48,8 @@ impl Settled {
         verdict: Verdict,
         proof: Option<Proof>,
     ) -> Settled
-        requires { IsSettled (arc_value obligation) turns verdict proof }
-        ensures { result ≡ record { obligation = arc_value obligation; turns = turns } }
+        requires { IsRight (record { question = record { obligation = arc_value obligation; turns = turns }; verdict = verdict_of verdict; found = proof }) }
+        ensures { result ≡ record { question = record { obligation = arc_value obligation; turns = turns }; verdict = verdict_of verdict; found = proof } }
     {
         Settled {
             obligation,
@@ -59,23 +59,24 @@ impl Settled {
         }
     }
 
-    /// The obligation that was searched.
+    /// The obligation that was searched. The verdict and the proof are the search's answer to it.
     pub fn obligation(&self) -> &Arc<Obligation, Global>
-        ensures { arc_value result.now ≡ self.now.obligation }
+        ensures value { arc_value result.now ≡ self.now.question.obligation }
+        ensures right { IsRight self.now }
     {
         &self.obligation
     }
 
     /// The turns that the search had.
     pub fn turns(&self) -> u64
-        ensures { result ≡ self.now.turns }
+        ensures { result ≡ self.now.question.turns }
     {
         self.turns
     }
 
     /// The verdict that the search gives.
     pub fn verdict(&self) -> Verdict
-        ensures { verdict_of result ≡ (answer self.now.obligation self.now.turns).verdict }
+        ensures { verdict_of result ≡ self.now.verdict }
     {
         self.verdict
     }
@@ -83,9 +84,9 @@ impl Settled {
     /// The proof that the search finds, which is accepted. None exactly where the verdict isn't
     /// Proved.
     pub fn proof(&self) -> Option<&Proof>
-        ensures value { option_copied result ≡ (answer self.now.obligation self.now.turns).found }
-        ensures accepted { IfSome result (λ p. IsAccepted self.now.obligation p.now) }
-        ensures exactly { is_some result ≡ is_proved (answer self.now.obligation self.now.turns).verdict }
+        ensures value { option_copied result ≡ self.now.found }
+        ensures accepted { IfSome result (λ p. IsAccepted self.now.question.obligation p.now) }
+        ensures exactly { is_some result ≡ is_proved self.now.verdict }
     {
         self.proof.as_ref()
     }

@@ -1,23 +1,24 @@
 // The first branch of a search.
-ghost use Rattle.std.specs.Prelude.{◌≡◌, [], IfOk, length, option_map};
-ghost use Rattle.logic_core.specs.Gives.{Gives, GivesAs};
+ghost use Rattle.std.specs.Prelude.{◌≡◌, [], IfOk, option_map};
+ghost use Rattle.logic_core.specs.Gives.{Gives};
 ghost use Rattle.logic_core.specs.Normal.{normal};
 ghost use Rattle.logic_core.specs.Tree.{negation};
 ghost use Rattle.proof_core.specs.Context.{start};
-ghost use Rattle.tableau.specs.Branch.{numbered};
+ghost use Rattle.tableau_branch.specs.Branch.{numbered};
 ghost use Rattle.tableau.specs.Search.{first_branch};
-ghost use Rattle.tableau.specs.View.{branch_of};
 
-use crate::branch::Branch;
-use crate::change::normal_forms;
-use crate::fact::Fact;
+use logic_core::copy::copy_sorts;
 use logic_core::def::Signature;
 use logic_core::fault::NormalFault;
 use logic_core::negation::negated;
 use logic_core::normal::normal;
+use logic_core::sort::Sort;
 use logic_core::term::Term;
 use obligation_text::obligation::Obligation;
 use std::alloc::{AllocError, Global};
+use tableau_branch::branch::Branch;
+use tableau_branch::fact::Fact;
+use tableau_branch::forms::normal_forms;
 
 /// The normal Not of a formula. Wide exactly where making it leaves 128 bits.
 fn normal_not(alloc: Global, signature: &Signature, goal: &Term) -> Result<Term, NormalFault>
@@ -42,23 +43,28 @@ fn numbered(alloc: Global, mut terms: Vec<Term>) -> Result<Vec<Fact>, AllocError
 }
 
 /// The branch of these first facts.
-fn branch_with(alloc: Global, terms: Vec<Term>) -> Result<Branch, AllocError>
-    ensures facts { IfOk result (λ b. b.facts.items ≡ numbered 0 terms.items) }
-    ensures next { IfOk result (λ b. b.next ≡ length terms.items) }
+fn branch_with(alloc: Global, vars: &[Sort], terms: Vec<Term>) -> Result<Branch, AllocError>
+    ensures { IfOk result (λ b. b ≡ first_branch (record { vars = vars.now; facts = terms.items })) }
 {
     let next = terms.len() as u64;
-    let facts = numbered(alloc, terms)?;
-    Ok(Branch { facts, next })
+    Ok(Branch {
+        facts: numbered(alloc, terms)?,
+        calls: Vec::new(alloc),
+        marks: Vec::new(alloc),
+        vars: copy_sorts(alloc, vars)?,
+        next,
+    })
 }
 
 /// The branch with the normal axioms and the normal Not of the goal. Wide exactly where making them
 /// leaves 128 bits.
 pub fn first_branch(alloc: Global, obligation: &Obligation) -> Result<Branch, NormalFault>
-    ensures { GivesAs (branch_of obligation.now.vars) result (option_map first_branch (start obligation.now)) }
+    ensures { Gives result (option_map first_branch (start obligation.now)) }
 {
     let signature = obligation.signature();
-    let mut forms = normal_forms(alloc, signature, obligation.axioms())?;
+    let axioms = obligation.axioms();
+    let mut forms = normal_forms(alloc, signature.vars(), signature.defs(), axioms)?;
     let refuted = normal_not(alloc, signature, obligation.goal())?;
     forms.push(refuted)?;
-    Ok(branch_with(alloc, forms)?)
+    Ok(branch_with(alloc, signature.vars(), forms)?)
 }

@@ -1,7 +1,5 @@
-use Rattle.std.proofs.Common.{◌≡◌, map}
 use Rattle.std.proofs.lemmas.List.{map-append}
-use Rattle.tableau.specs.View.{played_of, partials_of}
-use Rattle.tableau.proofs.Moves.{proofs_before_last}
+use Rattle.tableau.proofs.Joined.{proofs_before_last}
 use Rattle.tableau.proofs.assembly.assemble.Goals as goal
 
 pub loop-played-preserved : goal.loop-played-preserved

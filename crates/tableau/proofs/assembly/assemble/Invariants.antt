@@ -1,6 +1,7 @@
 use Rattle.std.proofs.Common.{◌≡◌, [], map, vec_len}
 use Rattle.tableau.specs.Search.{proofs_before}
-use Rattle.tableau.specs.View.{played_of, partials_of}
+use Rattle.tableau_branch.specs.View.{played_of}
+use Rattle.tableau.specs.PartialView.{partials_of}
 use Rattle.tableau.proofs.assembly.assemble.Given as goal
 
 abbrev pub invariant-loop-played : goal.invariant-loop-played

@@ -1,6 +1,7 @@
 use Rattle.std.proofs.Common.{◌≡◌, ◌++◌, drop, length, map, reverse, vec_len}
 use Rattle.tableau.specs.Search.{begin_each}
-use Rattle.tableau.specs.View.{each_steps, partial_of, partials_of}
+use Rattle.tableau_branch.specs.View.{each_steps}
+use Rattle.tableau.specs.PartialView.{partial_of, partials_of}
 use Rattle.tableau.proofs.assembly.begin_each.Given as goal
 
 abbrev pub invariant-loop-first : goal.invariant-loop-first

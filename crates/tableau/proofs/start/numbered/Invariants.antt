@@ -1,5 +1,5 @@
 use Rattle.std.proofs.Common.{◌≡◌, ◌+◌, ◌++◌, reverse, vec_len}
-use Rattle.tableau.specs.Branch.{numbered}
+use Rattle.tableau_branch.specs.Branch.{numbered}
 use Rattle.tableau.proofs.start.numbered.Given as goal
 
 abbrev pub invariant-loop-term : goal.invariant-loop-term

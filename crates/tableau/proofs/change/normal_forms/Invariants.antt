@@ -1,8 +1,0 @@
-use Rattle.std.proofs.Common.{◌≡◌, ◌++◌, [], Some, drop}
-use Rattle.logic_core.specs.Normal.{normal}
-use Rattle.logic_core.specs.Wide.{◌>>=◌}
-use Rattle.tableau.specs.Closing.{each}
-use Rattle.tableau.proofs.change.normal_forms.Given as goal
-
-abbrev pub invariant-loop-term : goal.invariant-loop-term
-invariant-loop-term l = each (λ t. normal l.signature.vars l.signature.defs [] t) l.terms ≡ (each (λ t. normal l.signature.vars l.signature.defs [] t) (drop l.term-index l.terms) >>= λ ts. Some (l.forms.items ++ ts))
