@@ -1,0 +1,146 @@
+// The report on procedures, line by line.
+ghost use Rattle.std.specs.Prelude.{◌≡◌, ◌++◌, map, string_bytes, IfOk, OnOk};
+ghost use Rattle.tableau.specs.RunView.{verdict_of};
+ghost use Rattle.tableau.specs.Search.{is_proved};
+ghost use Rattle.std.specs.List.{list_all};
+ghost use Rattle.report_text.specs.Report.{verdict_text, goal_line, goal_lines, last_words, last_line, proc_lines, report as report_of};
+ghost use Rattle.report_text.specs.Lines.{ended, text_of};
+
+use crate::heads::write_head;
+use flow_core::Mark;
+use std::alloc::{AllocError, Global};
+use tableau::ended::Verdict;
+
+// The verdict's word.
+fn word(verdict: Verdict) -> &'static [u8]
+    ensures { result.now ≡ verdict_text (verdict_of verdict) }
+{
+    match verdict {
+        Verdict::Proved => b"proved",
+        Verdict::Open => b"open",
+        Verdict::Turns => b"turns",
+        Verdict::Wide => b"wide",
+    }
+}
+
+// Whether a proof was found.
+fn is_proof(verdict: Verdict) -> bool
+    ensures { result ≡ is_proved (verdict_of verdict) }
+{
+    match verdict {
+        Verdict::Proved => true,
+        Verdict::Open | Verdict::Turns | Verdict::Wide => false,
+    }
+}
+
+// Whether each of a procedure's goals is proved.
+fn all_proved(verdicts: &[Verdict]) -> bool
+    ensures { result ≡ list_all is_proved (map verdict_of verdicts.now) }
+{
+    for verdict in verdicts {
+        if !is_proof(*verdict) {
+            return false;
+        }
+    }
+    true
+}
+
+// A goal's line.
+fn goal(alloc: Global, name: &[u8], mark: &Mark, verdict: Verdict) -> Result<Vec<u8>, AllocError>
+    ensures { IfOk result (λ v. v.items ≡ goal_line name.now mark.now (verdict_of verdict)) }
+{
+    let mut out = Vec::new(alloc);
+    write_head(&mut out, name, mark)?;
+    out.extend_from_slice(b" ")?;
+    out.extend_from_slice(word(verdict))?;
+    Ok(out)
+}
+
+// Whether the procedure is correct, in a report's words.
+fn ending(verdicts: &[Verdict]) -> &'static [u8]
+    ensures { result.now ≡ last_words (map verdict_of verdicts.now) }
+{
+    if all_proved(verdicts) {
+        b" correct"
+    } else {
+        b" not proved"
+    }
+}
+
+// The line that says whether the procedure is correct.
+fn last(alloc: Global, name: &[u8], verdicts: &[Verdict]) -> Result<Vec<u8>, AllocError>
+    ensures { IfOk result (λ v. v.items ≡ last_line name.now (map verdict_of verdicts.now)) }
+{
+    let mut out = Vec::new(alloc);
+    out.extend_from_slice(name)?;
+    out.extend_from_slice(ending(verdicts))?;
+    Ok(out)
+}
+
+// Appends the lines of a procedure's goals.
+fn push_goals(
+    alloc: Global,
+    lines: &mut Vec<Vec<u8>>,
+    name: &[u8],
+    marks: &[Mark],
+    verdicts: &[Verdict],
+) -> Result<(), AllocError>
+    ensures { OnOk result (map (λ l. l.items) lines.new.items ≡ map (λ l. l.items) lines.old.items ++ goal_lines name.now marks.now (map verdict_of verdicts.now)) }
+{
+    for i in 0..marks.len().min(verdicts.len()) {
+        lines.push(goal(alloc, name, &marks[i], verdicts[i])?)?;
+    }
+    Ok(())
+}
+
+// Appends a procedure's lines.
+#[tactic(auto, using(crate::proofs::Ends::one_behind))]
+fn push_proc(
+    alloc: Global,
+    lines: &mut Vec<Vec<u8>>,
+    name: &[u8],
+    marks: &[Mark],
+    verdicts: &[Verdict],
+) -> Result<(), AllocError>
+    ensures { OnOk result (map (λ l. l.items) lines.new.items ≡ map (λ l. l.items) lines.old.items ++ proc_lines name.now marks.now (map verdict_of verdicts.now)) }
+{
+    push_goals(alloc, lines, name, marks, verdicts)?;
+    lines.push(last(alloc, name, verdicts)?)?;
+    Ok(())
+}
+
+/// The lines of a report, in order: for each procedure, by its name, one for each of its goals, by its
+/// mark and verdict, and then `PROC correct`, exactly where all its verdicts are `Proved`, or else
+/// `PROC not proved`. What stands in one of the lists alone has no line.
+pub fn report(
+    alloc: Global,
+    names: &[String],
+    marks: &[Vec<Mark>],
+    verdicts: &[Vec<Verdict>],
+) -> Result<Vec<Vec<u8>>, AllocError>
+    ensures { IfOk result (λ v. map (λ l. l.items) v.items ≡ report_of (map string_bytes names.now) (map (λ ms. ms.items) marks.now) (map (λ vs. map verdict_of vs.items) verdicts.now)) }
+{
+    let mut lines = Vec::new(alloc);
+    for i in 0..names.len().min(marks.len()).min(verdicts.len()) {
+        push_proc(
+            alloc,
+            &mut lines,
+            names[i].as_bytes(),
+            marks[i].as_slice(),
+            verdicts[i].as_slice(),
+        )?;
+    }
+    Ok(lines)
+}
+
+/// The bytes of lines: each is ended by a line feed.
+pub fn text(alloc: Global, lines: &[Vec<u8>]) -> Result<Vec<u8>, AllocError>
+    ensures { IfOk result (λ v. v.items ≡ text_of (map (λ l. l.items) lines.now)) }
+{
+    let mut out = Vec::new(alloc);
+    for line in lines {
+        out.extend_from_slice(line.as_slice())?;
+        out.extend_from_slice(b"\n")?;
+    }
+    Ok(out)
+}
