@@ -1,0 +1,5 @@
+mod AllFound
+mod FoundProofs
+mod NamedProcs
+mod SpelledNames
+mod CorrectProcs

@@ -1,0 +1,40 @@
+// What the search says of goals.
+ghost use Rattle.std.specs.Prelude.{◌≡◌, map, IfOk};
+ghost use Rattle.tableau.specs.RunView.{verdict_of};
+ghost use Rattle.check_report.specs.Scratch.{verdict_on, verdicts};
+
+use bpl_model::Mark;
+use program_opening::goals::SharedGoal;
+use std::alloc::{AllocError, Global};
+use tableau::ended::Verdict;
+use tableau::search::search_plain;
+
+// What the search says of a goal.
+fn verdict_on(alloc: Global, goal: &SharedGoal, turns: u64) -> Result<Verdict, AllocError>
+    ensures { IfOk result (λ v. verdict_of v ≡ verdict_on turns goal.now) }
+{
+    let settled = search_plain(alloc, &goal.obligation, turns)?;
+    Ok(settled.verdict())
+}
+
+/// What the search says of each goal.
+pub fn verdicts(alloc: Global, goals: &[SharedGoal], turns: u64) -> Result<Vec<Verdict>, AllocError>
+    ensures { IfOk result (λ v. map verdict_of v.items ≡ verdicts turns goals.now) }
+{
+    let mut found = Vec::new(alloc);
+    for goal in goals {
+        found.push(verdict_on(alloc, goal, turns)?)?;
+    }
+    Ok(found)
+}
+
+/// The goals' marks.
+pub fn marks(alloc: Global, goals: &[SharedGoal]) -> Result<Vec<Mark>, AllocError>
+    ensures { IfOk result (λ v. v.items ≡ map (λ g. g.mark) goals.now) }
+{
+    let mut found = Vec::new(alloc);
+    for goal in goals {
+        found.push(goal.mark)?;
+    }
+    Ok(found)
+}

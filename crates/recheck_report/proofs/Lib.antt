@@ -1,0 +1,6 @@
+mod OneJudgement
+mod OneAnswers
+mod ExactAnswers
+mod SafeAnswers
+pub mod ShortLines
+pub mod Leading

@@ -1,0 +1,5 @@
+pub mod Judged
+pub mod JudgedView
+pub mod Recheck
+pub mod AnswerView
+pub mod Worth
