@@ -1,18 +1,7 @@
-mod OnlyWord
-mod Programs
-mod ConditionExamples
-mod ExecutionExamples
-pub mod Parser
-mod FormulaSorts
-mod MadeSorted
-mod FirstOccurrences
-mod Renaming
-mod Following
-mod SameGoals
-mod ReportExamples
-mod FormulaMeanings
-mod RenamedMeanings
-mod FailuresRefuted
-mod GoalsSorted
-mod CorrectIsSafe
-mod Answered
+mod LineLengths
+mod Ends
+mod BuiltCommands
+mod Worth
+mod Answering
+mod Commands
+mod OneAnswer

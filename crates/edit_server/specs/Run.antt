@@ -1,12 +1,10 @@
 -- What a run of the program does, by what its source has left and its sink holds before and after, where they tell it.
-use Rattle.std.specs.Prelude.{◌≡◌, ℕ, ◌+◌, ◌<◌, ◌≤◌, List, [], ◌∷◌, length, take, codes, Option}
+use Rattle.std.specs.Prelude.{◌≡◌, ℕ, ◌+◌, ◌<◌, ◌≤◌, List, length, take, codes, Option, Some, None}
 use Rattle.bv_base.specs.Known.{Takes, Adds, IsEnd}
-use Rattle.edit_server.specs.Check.{IsAnswer}
+use Rattle.command_words.specs.declared.command.Command.{Command}
+use Rattle.edit_server.specs.Answer.{IsAnswerOf}
+use Rattle.edit_server.specs.Worth.{IsWorth}
 use Rattle.edit_server.specs.declared.status.Status.{Status}
-
--- the words are the one word `check`
-abbrev pub IsCheck : List (List ℕ) → Type 0
-IsCheck words = words ≡ codes "check" ∷ []
 
 abbrev pub usage_line : List ℕ
 usage_line = codes "fault Usage - 0:0 -\n"
@@ -15,15 +13,20 @@ usage_line = codes "fault Usage - 0:0 -\n"
 abbrev pub total : ℕ
 total = 16777216
 
--- the input was read to its end, and the answer to it was written
-pub record Answered (left left' held held' : Option (List ℕ)) (status : Status) : Type 0 where
+-- the command's answer to a text: exactly which it is, and what it is worth
+pub record IsAnswer (command : Command) (text written : List ℕ) (status : Status) : Type 0 where
+  pub defined : IsAnswerOf command.mode command.turns text written status
+  pub worth : IsWorth command.mode text written status
+
+-- the input was read to its end, and the command's answer to it was written
+pub record Answered (command : Command) (left left' held held' : Option (List ℕ)) (status : Status) : Type 0 where
   pub text : List ℕ
   pub written : List ℕ
   pub taken : Takes left left' text
   pub to_the_end : IsEnd left'
   pub short : length text ≤ total
   pub added : Adds held held' written
-  pub is_answer : IsAnswer text written status
+  pub is_answer : IsAnswer command text written status
 
 -- the total was taken, and a further byte was read
 abbrev pub IsFull : Option (List ℕ) → Option (List ℕ) → Type 0
@@ -33,12 +36,17 @@ IsFull left left' = (taken : List ℕ) × (length taken ≡ total + 1) × Takes 
 abbrev pub IsWithin : Option (List ℕ) → Option (List ℕ) → Type 0
 IsWithin left left' = (taken : List ℕ) × (length taken ≤ total) × Takes left left' taken
 
+-- it is told what is left, and that is no more than the total
+abbrev pub IsShort : Option (List ℕ) → Type 0
+IsShort None = ⊥
+IsShort (Some bytes) = length bytes ≤ total
+
 -- some front of what was to be written was written
 abbrev pub WroteFront : Option (List ℕ) → Option (List ℕ) → List ℕ → Type 0
 WroteFront held held' written = (n : ℕ) × (n < length written) × Adds held held' (take n written)
 
--- the input was read to its end, and a front of the answer to it was written
-pub record Broken (left left' held held' : Option (List ℕ)) : Type 0 where
+-- the input was read to its end, and a front of the command's answer to it was written
+pub record Broken (command : Command) (left left' held held' : Option (List ℕ)) : Type 0 where
   pub text : List ℕ
   pub written : List ℕ
   pub status : Status
@@ -46,4 +54,4 @@ pub record Broken (left left' held held' : Option (List ℕ)) : Type 0 where
   pub to_the_end : IsEnd left'
   pub short : length text ≤ total
   pub front : WroteFront held held' written
-  pub is_answer : IsAnswer text written status
+  pub is_answer : IsAnswer command text written status

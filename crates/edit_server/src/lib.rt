@@ -1,22 +1,25 @@
-//! The server: it reads a program, builds an obligation for each assertion, searches for proofs,
-//! and reports. `run` is the call that the program makes; its clauses are what is promised.
+//! The server: it reads a program, searches for a proof of each of its goals, and reports, or checks
+//! proofs that come with it. `run` is the call that the program makes; its clauses are what is promised.
 #![tactic(auto)]
 
-mod check;
+// How a run ends.
+pub mod status;
+
+// Which command is answered, and what is answered to a text.
+mod answer;
+mod built;
+
+// The call.
 mod command;
-pub mod conditions;
-pub mod first_form;
-mod formula;
-mod naming;
-pub mod reading;
-pub mod report;
+mod writing;
+
+// That an input has one answer.
+pub mod laws;
 #[cfg(test)]
 mod searches;
-pub mod soundness;
-pub mod status;
 #[cfg(test)]
 mod tests;
-mod words;
 
 pub use command::run;
+pub use command_words::{Command, Mode, Usage, read_words};
 pub use status::Status;

@@ -1,47 +1,35 @@
-// Searches of the obligations of small procedures, worked out by hand from the rules.
-use crate::conditions::goals;
-use crate::reading::faults::ReadFault;
-use crate::reading::read;
-use logic_core::term::{Node, Term};
-use proof_core::proof::{End, Proof, Step};
-use std::alloc::Global;
+// Searches of the goals of small procedures, with so many turns, worked out by hand from the rules.
+use crate::{Status, run};
+use bv_base::{MemSink, MemSource};
+use std::alloc::AllocError;
 use std::test::Fail;
-use tableau::ended::Verdict;
-use tableau::search::search_plain;
-use tableau::settled::Settled;
 
-/// What the search says of the last assertion of a procedure with this body, with so many turns.
-fn search(alloc: Global, body: &str, turns: u64) -> Result<Option<Settled>, ReadFault> {
-    let text = format!(in alloc; "procedure P() {{ var x, y: int; {body} }}")?;
-    if text.len() >= u32::MAX as usize {
-        return Ok(None);
-    }
-    let Some(procedure) = read(alloc, text.as_bytes())? else {
-        return Ok(None);
-    };
-    let goals = goals(alloc, &procedure)?;
-    match goals.last() {
-        Some(goal) => Ok(Some(search_plain(alloc, &goal.obligation, turns)?)),
-        None => Ok(None),
-    }
-}
-
-/// Whether the search ends so, with a proof exactly where it ends Proved.
-fn ends(alloc: Global, body: &str, turns: u64, verdict: Verdict) -> Result<bool, ReadFault> {
-    match search(alloc, body, turns)? {
-        Some(settled) => Ok(
-            settled.verdict() == verdict
-                && settled.turns() == turns
-                && settled.proof().is_some() == (verdict == Verdict::Proved),
-        ),
-        None => Ok(false),
-    }
+/// Whether `check` with so many turns writes, of a procedure with this body, what ends so.
+fn ends<R: AllocGlobal>(
+    rt: &R,
+    body: &str,
+    turns: &str,
+    end: &str,
+    status: Status,
+) -> Result<bool, AllocError> {
+    let mut words = Vec::new(rt.alloc());
+    words.push(String::from_str(rt.alloc(), "check")?)?;
+    words.push(String::from_str(rt.alloc(), "--turns")?)?;
+    words.push(String::from_str(rt.alloc(), turns)?)?;
+    let text = format!(in rt.alloc(); "procedure P() {{ var x, y: int; {body} }}")?;
+    let bytes = Vec::from_slice(rt.alloc(), text.as_bytes())?;
+    let mut source = MemSource::new(bytes, 64, Vec::new(rt.alloc()));
+    let mut sink = MemSink::new(rt.alloc(), 64, Vec::new(rt.alloc()));
+    sink.reserve(4096)?;
+    let ended = run(rt, words.as_slice(), &mut source, &mut sink);
+    Ok(ended == status && sink.bytes().ends_with(end.as_bytes()))
 }
 
 /// Unfold, flatten, rewrite by the assignment, close.
 const INCREMENT: &str = "assume x > 0; x := x + 1; assert x > 1;";
 
-/// The same without a pair to close.
+/// Unfold, flatten, rewrite by the assignment, trichotomy of x - 1, a close where it is below zero,
+/// and where it is zero a rewrite, after which that branch is open.
 const TOO_MUCH: &str = "assume x > 0; x := x + 1; assert x > 2;";
 
 /// Unfold, flatten, rewrite by x, rewrite by y, close.
@@ -61,54 +49,38 @@ const TOO_WIDE: &str =
 const LONG: &str =
     "assert x <= 1 && x <= 2 && x <= 3 && x <= 4 && x <= 5 && x <= 6 && x <= 7 && x <= 8 && x <= 9 && x <= 10 && x <= 11 && x <= 12 && x <= 13 && x <= 14 && x <= 15 && x <= 16 && x <= 17;";
 
-/// Bodies, turns and verdicts.
-const SEARCHES: [(&str, u64, Verdict); 17] = [
-    (INCREMENT, 0, Verdict::Turns),
-    (INCREMENT, 3, Verdict::Turns),
-    (INCREMENT, 4, Verdict::Proved),
-    (INCREMENT, 20_000, Verdict::Proved),
-    (TOO_MUCH, 2, Verdict::Turns),
-    (TOO_MUCH, 3, Verdict::Open),
-    (TWO_EQUATIONS, 4, Verdict::Turns),
-    (TWO_EQUATIONS, 5, Verdict::Proved),
-    (TWO_CASES, 4, Verdict::Turns),
-    (TWO_CASES, 5, Verdict::Proved),
-    (OPEN_CASE, 3, Verdict::Turns),
-    (OPEN_CASE, 4, Verdict::Open),
-    (TOO_WIDE, 0, Verdict::Wide),
-    (TOO_WIDE, 20_000, Verdict::Wide),
-    (LONG, 1, Verdict::Turns),
-    (LONG, 3, Verdict::Turns),
-    (LONG, 4, Verdict::Open),
+const PROVED: &str = " assert proved\nP correct\n";
+
+const OPEN: &str = " assert open\nP not proved\n";
+
+const TURNS: &str = " assert turns\nP not proved\n";
+
+const WIDE: &str = " assert wide\nP not proved\n";
+
+/// Bodies, turns, the end of the report and the status.
+const SEARCHES: [(&str, &str, &str, Status); 16] = [
+    (INCREMENT, "3", TURNS, Status::NotAll),
+    (INCREMENT, "4", PROVED, Status::Done),
+    (INCREMENT, "20000", PROVED, Status::Done),
+    (TOO_MUCH, "5", TURNS, Status::NotAll),
+    (TOO_MUCH, "6", OPEN, Status::NotAll),
+    (TWO_EQUATIONS, "4", TURNS, Status::NotAll),
+    (TWO_EQUATIONS, "5", PROVED, Status::Done),
+    (TWO_CASES, "4", TURNS, Status::NotAll),
+    (TWO_CASES, "5", PROVED, Status::Done),
+    (OPEN_CASE, "3", TURNS, Status::NotAll),
+    (OPEN_CASE, "4", OPEN, Status::NotAll),
+    (TOO_WIDE, "1", WIDE, Status::NotAll),
+    (TOO_WIDE, "20000", WIDE, Status::NotAll),
+    (LONG, "1", TURNS, Status::NotAll),
+    (LONG, "3", TURNS, Status::NotAll),
+    (LONG, "4", OPEN, Status::NotAll),
 ];
 
 #[test]
 fn searches_end_as_worked_out(rt: HostRuntime) -> Result<(), Fail> {
-    for (body, turns, verdict) in SEARCHES {
-        assert!(rt; ends(rt.alloc(), body, turns, verdict)?, "{body} {turns}");
+    for (body, turns, end, status) in SEARCHES {
+        assert!(rt; ends(&rt, body, turns, end, status)?, "{body} {turns}");
     }
-    Ok(())
-}
-
-/// Whether the proof is `(u 0 (f0)) (s 1) (e 4 3 v1) (c 2 5)`.
-fn is_proof_of_increment(alloc: Global, proof: &Proof) -> bool {
-    let call = Term::new(Node::Call(0, Vec::new(alloc)));
-    let next = Term::new(Node::Free(1));
-    let steps = match proof.steps.as_slice() {
-        [
-            Step::Unfold(0, term),
-            Step::Split(1),
-            Step::Replace(4, 3, left),
-        ] => { term.equals(&call) && left.equals(&next) }
-        _ => false,
-    };
-    steps && matches!(proof.end, End::Close(2, 5))
-}
-
-#[test]
-fn the_four_steps_are_the_proof(rt: HostRuntime) -> Result<(), Fail> {
-    let settled = search(rt.alloc(), INCREMENT, 4)?.ok_or("no goal")?;
-    let proof = settled.proof().ok_or("no proof")?;
-    assert!(rt; is_proof_of_increment(rt.alloc(), proof));
     Ok(())
 }

@@ -32,179 +32,153 @@ fn runs<R: AllocGlobal>(
     Ok(ended == status && sink.bytes() == output.as_bytes())
 }
 
-/// Whether `check` answers so.
-fn checks<R: AllocGlobal>(
-    rt: &R,
-    input: &str,
-    output: &str,
-    status: Status,
-) -> Result<bool, AllocError> {
-    runs(rt, &["check"], input, output, status)
-}
+/// A program of one goal, which is proved.
+const INCREMENT: &str =
+    "procedure P() {\n  var x: int;\n  assume x > 0;\n  x := x + 1;\n  assert x > 1;\n}\n";
 
-#[test]
-fn a_text_has_its_report(rt: HostRuntime) -> Result<(), Fail> {
-    assert!(rt; checks(&rt, "", "", Status::Done)?);
-    assert!(rt; checks(&rt, " // nothing\n/* at all */", "", Status::Done)?);
-    assert!(rt;
-        checks(
-            &rt,
-            "procedure P() {\n  var x: int;\n  assume x > 0;\n  x := x + 1;\n  assert x > 1;\n}\n",
-            "P 5:3 assert proved\nP correct\n",
-            Status::Done
-        )?
-    );
-    assert!(rt;
-        checks(
-            &rt,
-            "procedure P() {\n  var x: int;\n  assume x > 0;\n  x := x + 1;\n  assert x > 2;\n}\n",
-            "P 5:3 assert open\nP not proved\n",
-            Status::NotAll
-        )?
-    );
-    assert!(rt;
-        checks(
-            &rt,
-            "procedure A() { var x: int; var y: int; assume x == 1 && y == x; assert y == 1 && x <= y; }",
-            "A 1:66 assert proved\nA correct\n",
-            Status::Done
-        )?
-    );
-    Ok(())
-}
-
-#[test]
-fn a_sum_past_128_bits_is_wide(rt: HostRuntime) -> Result<(), Fail> {
-    assert!(rt;
-        checks(
-            &rt,
-            "procedure W() { var x: int; assert x + 85070591730234615865843651857942052864 + 85070591730234615865843651857942052864 > x; }",
-            "W 1:29 assert wide\nW not proved\n",
-            Status::NotAll
-        )?
-    );
-    Ok(())
-}
-
-#[test]
-fn a_text_that_is_not_read_is_refused(rt: HostRuntime) -> Result<(), Fail> {
-    let line = "fault Unbuilt - 0:0 input\n";
-    assert!(rt; checks(&rt, "function f(x: int): int { x }", line, Status::Refused)?);
-    assert!(rt;
-        checks(
-            &rt,
-            "procedure P() { var x: int; while (x < 1) { x := 1; } }",
-            line,
-            Status::Refused
-        )?
-    );
-    assert!(rt;
-        checks(
-            &rt,
-            "procedure P() { } procedure Q() { }",
-            line,
-            Status::Refused
-        )?
-    );
-    assert!(rt; checks(&rt, "procedure P() { /* open", line, Status::Refused)?);
-    Ok(())
-}
-
-/// Texts just inside the first form, with what is written for them.
-const INSIDE: [(&str, &str); 16] = [
-    ("// nothing but comments\n/* at all */", ""),
-    ("procedure P(){}", "P correct\n"),
-    ("procedure asserted() { }", "asserted correct\n"),
-    ("procedure P() { var x, y: int; x := y; }", "P correct\n"),
+/// Programs, what `check` writes of them, and the status.
+const CHECKS: [(&str, &str, Status); 15] = [
+    ("", "", Status::Done),
+    (" // nothing\n/* at all */", "", Status::Done),
+    (INCREMENT, "P 5:3 assert proved\nP correct\n", Status::Done),
     (
-        "procedure P() { var x: int; var X: int; x := X; }",
-        "P correct\n",
-    ),
-    ("procedure P() { /* assert 1 == 2; */ }", "P correct\n"),
-    (
-        "procedure P() { assert 170141183460469231731687303715884105727 > 0; }",
-        "P 1:17 assert proved\nP correct\n",
+        "procedure P() { var x: int; assume x > 0; x := x + 1; assert x > 2; }",
+        "P 1:55 assert open\nP not proved\n",
+        Status::NotAll,
     ),
     (
-        "procedure P() { assert 0007 == 7; }",
-        "P 1:17 assert proved\nP correct\n",
+        "var x: int;\nvar y: int;\nprocedure Swap()\n  modifies x, y;\n  ensures x == old(y) && y == old(x);\n{ x, y := y, x; }\n",
+        "Swap 3:3 ensures proved\nSwap correct\n",
+        Status::Done,
     ),
     (
-        "procedure P() { assert 1 < 2 && 2 < 3; }",
-        "P 1:17 assert proved\nP correct\n",
+        "procedure Inc(n: int) returns (r: int);\n  ensures r == n + 1;\nprocedure Main() returns (x: int);\n  ensures x > 5;\nimplementation Main() returns (x: int) {\n  x := 5;\n  call x := Inc(x);\n  assert x == 6;\n}\n",
+        "Main 4:3 assert proved\nMain 2:3 ensures proved\nMain correct\n",
+        Status::Done,
     ),
     (
-        "procedure P() { assert 1 - 2 == 0 - 1; }",
-        "P 1:17 assert proved\nP correct\n",
+        "procedure R(b: bool) returns (r: int)\n  ensures r == 1;\n{\n  r := 0;\n  if (b) { return; }\n  r := 1;\n}\n",
+        "R 2:3 ensures open\nR not proved\n",
+        Status::NotAll,
     ),
     (
-        "procedure P() { assert 1 + 2 - 3 <= 0; }",
-        "P 1:17 assert proved\nP correct\n",
+        "procedure V()\n  requires false;\n{ assert 1 == 2; }\n",
+        "V 3:3 assert proved\nV correct\n",
+        Status::Done,
     ),
     (
-        "procedure P() { assert 1 == 1; } // procedure Q() { }",
-        "P 1:17 assert proved\nP correct\n",
+        "procedure W(x: int) {\n  assert x + 85070591730234615865843651857942052864 + 85070591730234615865843651857942052864 > x;\n}\n",
+        "W 2:3 assert wide\nW not proved\n",
+        Status::NotAll,
     ),
     (
-        "procedure P() { assume 1 == 2; assert 1 == 2; }",
-        "P 1:32 assert proved\nP correct\n",
+        "procedure E(a: [int]int) { assert a[3 := a[3]] == a; }",
+        "E 1:28 assert proved\nE correct\n",
+        Status::Done,
     ),
     (
-        "procedure P() { assert 2 > 1; assert 1 >= 1; }",
-        "P 1:17 assert proved\nP 1:31 assert proved\nP correct\n",
+        "procedure Need(n: int);\n  requires n > 0;\nprocedure Use() {\n  call Need(1);\n  call Need(0);\n}\n",
+        "Use 2:3 requires(1) proved\nUse 3:3 requires(1) open\nUse not proved\n",
+        Status::NotAll,
     ),
     (
-        "\n\n  procedure P() {\n\tassert 1 != 2; }",
-        "P 2:2 assert proved\nP correct\n",
+        "procedure S() { @ }",
+        "fault Lex - 1:17 -\n",
+        Status::Refused,
     ),
     (
-        "procedure P() { var x: int; x := 1; assert x == 1; x := 2; assert x == 2; }",
-        "P 1:37 assert proved\nP 1:60 assert proved\nP correct\n",
+        "procedure S() { assert",
+        "fault Syntax - 1:23 -\n",
+        Status::Refused,
+    ),
+    ("axiom y;", "fault Unknown @1 1:7 y\n", Status::Refused),
+    (
+        "function g(x: int): int;",
+        "fault Unbuilt g 1:10 uninterpreted\n",
+        Status::Refused,
     ),
 ];
 
-/// Texts just outside the first form.
-const OUTSIDE: [&str; 18] = [
-    "@",
-    "procedure P(",
-    "procedure assert() { }",
-    "procedure P() { var x, : int; }",
-    "procedure P() { var x: int; var x: int; }",
-    "procedure P() { var x: int; x := X; }",
-    "procedure P() { /* assert 1 == 2; }",
-    "procedure P() { assert 170141183460469231731687303715884105728 > 0; }",
-    "procedure P() { assert 7a == 7; }",
-    "procedure P() { assert 1 < 2 < 3; }",
-    "procedure P() { assert 1 - 2 == -1; }",
-    "procedure P() { assert 1 + 2 - <= 0; }",
-    "procedure P() { assert 1 == 1; } procedure Q() { }",
-    "procedure P() { assume ; assert 1 == 2; }",
-    "procedure P() { assert 2 > 1; assert 1 >= 1 }",
-    "procedure P() { assert (1 != 2); }",
-    "procedure P() { x := 1; var x: int; }",
-    "procedure P(x: int) { }",
-];
-
 #[test]
-fn texts_at_the_edge_of_the_form(rt: HostRuntime) -> Result<(), Fail> {
-    for (text, output) in INSIDE {
-        assert!(rt; checks(&rt, text, output, Status::Done)?, "{text}");
-    }
-    let line = "fault Unbuilt - 0:0 input\n";
-    for text in OUTSIDE {
-        assert!(rt; checks(&rt, text, line, Status::Refused)?, "{text}");
+fn a_program_has_its_report_or_its_fault(rt: HostRuntime) -> Result<(), Fail> {
+    for (text, output, status) in CHECKS {
+        assert!(rt; runs(&rt, &["check"], text, output, status)?, "{text}");
     }
     Ok(())
 }
 
+/// Lines behind the program, and what `recheck` writes of them.
+const PROOFS: [(&str, &str, Status); 8] = [
+    (
+        "(u 0 (f0)) (s 1) (e 4 3 v1) (c 2 5)\n",
+        "accepted\n",
+        Status::Done,
+    ),
+    (
+        "(u 0 (f0)) (s 1) (e 4 3 v1) (c 2 5)\nno proof\n",
+        "accepted\n",
+        Status::Done,
+    ),
+    (
+        "(u 0 (f0)) (s 1) (k 3 1 4 1) (k 2 1 5 1) (c 6 6)",
+        "accepted\n",
+        Status::Done,
+    ),
+    (
+        "(u 0 (f0)) (s 1) (e 4 3 v1) (c 2 4)\n",
+        "rejected P 5:3 assert node 4 rule close\n",
+        Status::NotAll,
+    ),
+    (
+        "(u 0 (f0)) (s 1) (k 2 -1 4 1) (c 2 5)\n",
+        "rejected P 5:3 assert node 3 rule combine\n",
+        Status::NotAll,
+    ),
+    ("(x\n", "bad P 5:3 assert 1\n", Status::NotAll),
+    ("\n", "missing P 5:3 assert\n", Status::NotAll),
+    ("", "missing P 5:3 assert\n", Status::NotAll),
+];
+
 #[test]
-fn words_that_are_not_check_are_refused(rt: HostRuntime) -> Result<(), Fail> {
+fn proofs_from_outside_are_checked(rt: HostRuntime) -> Result<(), Fail> {
+    for (lines, output, status) in PROOFS {
+        let text = format!(in rt.alloc(); "{INCREMENT}%%\n{lines}")?;
+        assert!(rt;
+            runs(&rt, &["recheck"], text.as_str(), output, status)?,
+            "{lines}"
+        );
+    }
+    assert!(rt;
+        runs(
+            &rt,
+            &["recheck"],
+            INCREMENT,
+            "missing P 5:3 assert\n",
+            Status::NotAll
+        )?
+    );
+    assert!(rt; runs(&rt, &["recheck"], "%%", "accepted\n", Status::Done)?);
+    assert!(rt;
+        runs(
+            &rt,
+            &["recheck"],
+            "@\n%%\n",
+            "fault Lex - 1:1 -\n",
+            Status::Refused
+        )?
+    );
+    Ok(())
+}
+
+#[test]
+fn words_that_are_no_command_are_refused(rt: HostRuntime) -> Result<(), Fail> {
     let line = "fault Usage - 0:0 -\n";
     assert!(rt; runs(&rt, &["check", "--turns", "0"], "", line, Status::Usage)?);
+    assert!(rt; runs(&rt, &["recheck", "--turns", "5"], "", line, Status::Usage)?);
+    assert!(rt; runs(&rt, &["check", "--workers", "1"], "", line, Status::Usage)?);
+    assert!(rt; runs(&rt, &["serve"], "", line, Status::Usage)?);
     assert!(rt; runs(&rt, &["fly"], "", line, Status::Usage)?);
     assert!(rt; runs(&rt, &[], "", line, Status::Usage)?);
-    assert!(rt; runs(&rt, &["check", "check"], "", line, Status::Usage)?);
-    assert!(rt; runs(&rt, &["check "], "", line, Status::Usage)?);
     Ok(())
 }
 
@@ -278,10 +252,12 @@ fn a_write_that_fails_leaves_the_bytes_before(rt: HostRuntime) -> Result<(), Fai
     assert!(rt; ended == Status::Done);
     Ok(())
 }
-
 /// Whether `check` of a procedure with this body ends with NotAll.
 fn is_not_proved<R: AllocGlobal>(rt: &R, body: &str) -> Result<bool, AllocError> {
-    let mut text = String::from_str(rt.alloc(), "procedure P() { var x, y: int; ")?;
+    let mut text = String::from_str(
+        rt.alloc(),
+        "procedure P() { var x, y: int; var m: [int]int; var b: bool; ",
+    )?;
     text.push_str(body)?;
     text.push_str(" }")?;
     let words = words_of(rt.alloc(), &["check"])?;
@@ -297,24 +273,24 @@ fn is_not_proved<R: AllocGlobal>(rt: &R, body: &str) -> Result<bool, AllocError>
 const FAILING: [&str; 20] = [
     "assert x > 0;", // x = 0
     "assert x == y;", // x = 0, y = 1
-    "assert x != y;", // x = 0, y = 0
-    "assume x >= 0; assert x > 0;", // x = 0
     "assume x > 0; x := x + 1; assert x > 2;", // x = 1
-    "x := y; assert x != y;", // x = 0, y = 0
-    "x := x + 1; assert x == y;", // x = 0, y = 0
-    "y := x; x := x + 1; assert x == y;", // x = 0, y = 0
-    "assume x < y; assert y - x > 1;", // x = 0, y = 1
     "assume x <= y; assert x < y;", // x = 0, y = 0
-    "assume x + y == 2; assert x == 1;", // x = 0, y = 2
-    "assert x + x != 4;", // x = 2, y = 0
-    "assert 1 > 2;", // x = 0, y = 0
-    "assume x == 1 && y == 2; assert x == y;", // x = 1, y = 2
-    "x := 1; y := 2; assert x == 1 && y == 1;", // x = 0, y = 0
-    "assume x == x; assert x == y + 1;", // x = 0, y = 0
-    "assert x >= x; assert x > x;", // x = 0, y = 0
+    "assert x + x != 4;", // x = 2
+    "assert x * x != 9;", // x = 3
     "x := y + 1; y := x + 1; assert y == x;", // x = 0, y = 0
-    "assume x != 0; assert x > 0;", // x = -1, y = 0
     "assert x <= 170141183460469231731687303715884105727;", // x = 2^127
+    "havoc x; assert x == y;", // y = 0, and 1 for x
+    "if (x < y) { x := y; } assert x == y;", // x = 1, y = 0
+    "if (*) { x := 1; } else { x := 2; } assert x == 1;", // the second branch
+    "x := 0; while (x < 5) { x := x + 1; } assert x < 5;", // after five rounds
+    "x := 0; while (x < 5) invariant x < 5; { x := x + 1; } assert true;", // in the fifth round
+    "while (true) invariant x == y; { break; } assert x != y;", // x = 0, y = 0
+    "A: while (x > 0) { x := x - 1; if (x == 3) { break A; } } assert x <= 0;", // x = 4
+    "goto A, B; A: x := 1; B: assert x == 1;", // x = 0, by B
+    "m[x] := y; assert m[y] == y;", // x = 0, y = 1, m[1] = 0
+    "assert (forall k: int :: {m[k]} m[k] >= 0);", // m[0] = -1
+    "assume (exists k: int :: {m[k]} m[k] == x); assert m[x] == x;", // x = 0, m[1] = 0, m[0] = 1
+    "b := x < y; assert b || y < x;", // x = 0, y = 0
 ];
 
 #[test]

@@ -1,0 +1,41 @@
+-- What an answer is worth, said by executions alone: procedures that it calls correct, or all of them where it says `accepted`, have no execution from an entry state that fails.
+use Rattle.std.specs.Prelude.{◌≡◌, ◌≢◌, ℕ, List, None, Contains}
+use Rattle.bpl_ast.specs.Statement.{Decl}
+use Rattle.bpl_grammar.specs.Programs.{SpellsProgram}
+use Rattle.bpl_declaration_faults.specs.DeclFaults.{fault_of}
+use Rattle.module_laws.specs.Elaborate.{module_of}
+use Rattle.bpl_model.specs.Module.{Proc, Module}
+use Rattle.bpl_model.specs.Safe.{Safe}
+use Rattle.command_words.specs.declared.command.Mode.{Mode}
+use Rattle.command_words.specs.declared.command.Mode.TheVariants.{Check, Serve, Recheck, Gen, Smoke}
+use Rattle.report_text.specs.Lines.{ended}
+use Rattle.check_report.specs.Sound.{CallsCorrectTheSafe}
+use Rattle.proof_lines.specs.Parts.{program_in}
+use Rattle.recheck_report.specs.Recheck.{accepted_line}
+use Rattle.edit_server.specs.declared.status.Status.{Status}
+use Rattle.edit_server.specs.declared.status.Status.TheVariants.{Refused}
+
+-- the text spells a program without faults by names and sorts, and this is its module
+pub record IsProgram (text : List ℕ) (m : Module) : Type 0 where
+  pub decls : List Decl
+  pub spelled : SpellsProgram text decls
+  pub faultless : fault_of decls ≡ None
+  pub is : m ≡ module_of decls
+
+abbrev pub AllAreSafe : Module → Type 0
+AllAreSafe m = (p : Proc) → Contains m.procs p → Safe m p
+
+-- where the text isn't refused, it is a program, and for each line `P correct` of what is written the procedure P is safe
+abbrev pub IsCorrectSafe : List ℕ → List ℕ → Status → Type 0
+IsCorrectSafe text written status = status ≢ Refused → (m : Module) × IsProgram text m × CallsCorrectTheSafe m written
+
+-- where `accepted` is written, the text before the proofs is a program, and each of its procedures is safe
+abbrev pub IsAcceptedSafe : List ℕ → List ℕ → Type 0
+IsAcceptedSafe text written = written ≡ ended accepted_line → (m : Module) × IsProgram (program_in text) m × AllAreSafe m
+
+abbrev pub IsWorth : Mode → List ℕ → List ℕ → Status → Type 0
+IsWorth Check text written status = IsCorrectSafe text written status
+IsWorth Recheck text written status = IsAcceptedSafe text written
+IsWorth Serve text written status = ⊥
+IsWorth Gen text written status = ⊥
+IsWorth Smoke text written status = ⊥

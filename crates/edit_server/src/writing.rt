@@ -1,0 +1,20 @@
+// What is written where nothing is read.
+ghost use Rattle.std.specs.Prelude.{◌≡◌, ◌⊎◌};
+ghost use Rattle.bv_base.specs.Known.{Adds, HasRisen};
+ghost use Rattle.edit_server.specs.Run.{WroteFront, usage_line};
+
+use crate::status::Status;
+use bv_base::{Sink, write_all};
+
+/// The line for words that are no command.
+pub fn refuse_words<K: Sink>(sink: &mut K) -> Status
+    ensures answer { (result ≡ Status.Usage) ⊎ (result ≡ Status.WriteFault) }
+    ensures usage { result ≡ Status.Usage → Adds (K.held sink.old) (K.held sink.new) usage_line }
+    ensures front { result ≡ Status.WriteFault → WroteFront (K.held sink.old) (K.held sink.new) usage_line }
+    ensures fault { result ≡ Status.WriteFault → HasRisen (K.faults sink.old) (K.faults sink.new) }
+{
+    match write_all(sink, b"fault Usage - 0:0 -\n") {
+        Ok(()) => Status::Usage,
+        Err(_) => Status::WriteFault,
+    }
+}

@@ -1,0 +1,5 @@
+procedure S() {}
+procedure T() {
+  var x: int;
+  x := true;
+}

@@ -1,0 +1,3 @@
+procedure S() {
+  assert 1 <;
+}
