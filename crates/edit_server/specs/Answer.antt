@@ -1,16 +1,18 @@
 -- What is answered to a whole input, and the status: exactly the report from scratch, what is said of the proofs, or the fault's line.
-use Rattle.std.specs.Prelude.{◌≡◌, ℕ, Bool, cond, List}
-use Rattle.bpl_model.specs.Module.{Module}
+use Rattle.std.specs.Prelude.{◌≡◌, ℕ, Bool, cond, List, Contains}
+use Rattle.std.specs.List.{AllByRecursion}
+use Rattle.logic_core.specs.Valid.{Valid}
+use Rattle.bpl_model.specs.Module.{Proc, Module}
 use Rattle.command_words.specs.declared.command.Mode.{Mode}
 use Rattle.command_words.specs.declared.command.Mode.TheVariants.{Check, Serve, Recheck, Gen, Smoke}
 use Rattle.fault_text.specs.Written.{Written, fault_line}
 use Rattle.report_text.specs.Lines.{ended, text_of}
 use Rattle.proof_lines.specs.Parts.{program_in, lines_in}
+use Rattle.vc_build.specs.Goals.{goals}
 use Rattle.program_opening.specs.ProcGoals.{goals_by_proc}
 use Rattle.program_opening.specs.Opening.{Opening, program, refused, Opens}
 use Rattle.check_report.specs.Scratch.{scratch, all_proved}
 use Rattle.recheck_report.specs.Recheck.{heads, accepted_line, Rechecks}
-use Rattle.recheck_report.specs.Worth.{AreValid}
 use Rattle.edit_server.specs.declared.status.Status.{Status}
 use Rattle.edit_server.specs.declared.status.Status.TheVariants.{Done, NotAll, Refused}
 
@@ -40,13 +42,17 @@ pub record IsCheck (turns : ℕ) (text written : List ℕ) (status : Status) : T
 
 -- ---- recheck: what is said of the lines as proofs of the goals; where they are all accepted, each goal is valid
 
+-- each goal of each procedure is valid
+abbrev pub AllAreValid : Module → Type 0
+AllAreValid m = (p : Proc) → Contains m.procs p → AllByRecursion (λ g. Valid g.obligation) (goals m p)
+
 pub record IsReview (m : Module) (ls : List (List ℕ)) (written : List ℕ) (status : Status) : Type 0 where
   pub line : List ℕ
   pub all : Bool
   pub rechecks : Rechecks (heads (goals_by_proc m)) ls line all
   pub said : written ≡ ended line
   pub ends : status ≡ done_if all
-  pub valid : line ≡ accepted_line → AreValid (goals_by_proc m)
+  pub valid : line ≡ accepted_line → AllAreValid m
 
 abbrev pub IsReviewOn : Opening → List (List ℕ) → List ℕ → Status → Type 0
 IsReviewOn (program m) ls written status = IsReview m ls written status
