@@ -1,0 +1,1 @@
+procedure P(a: b, b: int) { }

@@ -1,0 +1,3 @@
+procedure P(a: int) {
+  a := 1;
+}

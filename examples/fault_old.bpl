@@ -1,0 +1,2 @@
+const c: int;
+axiom old(c) == c;

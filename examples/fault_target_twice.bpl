@@ -1,0 +1,4 @@
+procedure P() {
+  var l: int;
+  l, l := 1, 2;
+}

@@ -1,0 +1,1 @@
+axiom (forall i: int :: {i} i == i);

@@ -1,0 +1,3 @@
+procedure P() returns (r: int)
+  requires r == 1;
+{ }
