@@ -1,5 +1,6 @@
 // The texts of obligations, a line for their variables, each definition, each axiom and the goal.
 ghost use Rattle.std.specs.Prelude.{◌≡◌, ◌++◌, codes, IfOk, OnOk};
+ghost use Rattle.obligation_text.specs.Numbers.{number_text};
 ghost use Rattle.obligation_text.specs.Text.{line, spaced_sorts, sort_text, sorts_text, term_text, logical_text, def_text, defs_text, axioms_text, obligation_text, key, spaced};
 
 use crate::obligation::Obligation;
@@ -120,6 +121,15 @@ pub fn text(alloc: Global, o: &Obligation) -> Result<Vec<u8>, AllocError>
     Ok(out)
 }
 
+// The line of the turns, with which keys begin.
+#[tactic(auto, using(logic_core::proofs::Mentioned::behind))]
+fn put_turns(out: &mut Vec<u8>, turns: u64) -> Result<(), AllocError>
+    ensures { OnOk result (out.new.items ≡ out.old.items ++ line (number_text turns)) }
+{
+    put_number(out, turns)?;
+    put(out, b"\n")
+}
+
 /// The key of an obligation and turns, by which answers are kept: the turns, and the text. Equal
 /// keys are keys of equal obligations with as many turns.
 #[tactic(auto, using(logic_core::proofs::Mentioned::behind))]
@@ -127,8 +137,18 @@ pub fn key(alloc: Global, o: &Obligation, turns: u64) -> Result<Vec<u8>, AllocEr
     ensures { IfOk result (λ v. v.items ≡ key o.now turns) }
 {
     let mut out = Vec::new(alloc);
-    put_number(&mut out, turns)?;
-    put(&mut out, b"\n")?;
+    put_turns(&mut out, turns)?;
     put_obligation(&mut out, o)?;
+    Ok(out)
+}
+
+/// The key of the obligation with this text, and turns.
+#[tactic(auto, using(logic_core::proofs::Mentioned::behind))]
+pub fn key_of_text(alloc: Global, text: &[u8], turns: u64) -> Result<Vec<u8>, AllocError>
+    ensures { IfOk result (λ v. v.items ≡ line (number_text turns) ++ text.now) }
+{
+    let mut out = Vec::new(alloc);
+    put_turns(&mut out, turns)?;
+    put(&mut out, text)?;
     Ok(out)
 }
