@@ -3,12 +3,16 @@
 //!
 //! `outside` has the traits of sources and sinks; `memory`, `sure` and `standard` the ones in
 //! memory, the ones that never fail and the ones over std; `reading` and `writing` read a whole
-//! source and write a whole piece; `place` has lines and columns; `steps` counts; `answers` has
+//! source and write a whole piece; `lines` takes one line after another from a source, over a
+//! `line_buffer`; `place` has lines and columns; `steps` counts; `answers` has
 //! what is asked and answered.
 #![tactic(auto)]
 
 pub mod answers;
 mod calls;
+pub mod line;
+pub mod line_buffer;
+pub mod lines;
 pub mod memory;
 pub mod outside;
 pub mod place;
@@ -22,6 +26,9 @@ mod tests;
 pub mod writing;
 
 pub use answers::{Answered, Question};
+pub use line::Line;
+pub use line_buffer::LineBuffer;
+pub use lines::next_line;
 pub use memory::{MemSink, MemSource};
 pub use outside::{Failed, Sink, Source};
 pub use place::{Place, Span, place_at};

@@ -1,7 +1,10 @@
-// Whole reads and writes with ample memory, over memory and over std, and steps in a ledger.
+// Whole reads, lines and writes with ample memory, over memory and over std, and steps in a ledger.
 ghost use Rattle.std.specs.Prelude.{◌≡◌, ◌<◌};
 
-use crate::{LineFault, MemSink, MemSource, StdSink, StdSource, Steps, read_all, write_all};
+use crate::{
+    Line, LineBuffer, LineFault, MemSink, MemSource, StdSink, StdSource, Steps, next_line,
+    read_all, write_all,
+};
 use std::marker::Brand;
 use std::sync::ledger::{Blank, Ledger};
 use std::test::Fail;
@@ -17,6 +20,34 @@ fn all_is_read_or_a_fault_is_told(rt: HostRuntime) -> Result<(), Fail> {
     );
     let mut long = StdSource::new(b"abc".as_slice());
     assert_eq!(rt; read_all(rt.alloc(), &mut long, 2), Err(LineFault::Full));
+    Ok(())
+}
+
+fn is_whole(line: &Line, text: &[u8]) -> bool {
+    match line {
+        Line::Whole(bytes) => bytes.as_slice() == text,
+        Line::Long | Line::End => false,
+    }
+}
+
+#[test]
+fn lines_come_one_by_one_up_to_a_fault(rt: HostRuntime) -> Result<(), Fail> {
+    let mut src = MemSource::new(
+        b"ab\n\nlonger\nxyz".to_vec(rt.alloc())?,
+        2,
+        vec![in rt.alloc(); 8u64]?,
+    );
+    let mut buffer = LineBuffer::new(20);
+    assert!(rt; is_whole(&next_line(rt.alloc(), &mut src, &mut buffer, 3)?, b"ab"));
+    assert!(rt; is_whole(&next_line(rt.alloc(), &mut src, &mut buffer, 3)?, b""));
+    assert!(rt; matches!(next_line(rt.alloc(), &mut src, &mut buffer, 3)?, Line::Long));
+    assert!(rt; is_whole(&next_line(rt.alloc(), &mut src, &mut buffer, 3)?, b"xyz"));
+    assert!(rt;
+        matches!(
+            next_line(rt.alloc(), &mut src, &mut buffer, 3),
+            Err(LineFault::Read)
+        )
+    );
     Ok(())
 }
 
