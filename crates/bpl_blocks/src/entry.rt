@@ -6,7 +6,7 @@ ghost use Rattle.bpl_model.specs.Contract.{preconditions, end_checks};
 ghost use Rattle.bpl_blocks.specs.Blocks.{assume_all, at_entry};
 
 use crate::reach::push_reached;
-use bpl_model::{GoalKind, Local, Mark, Module, Proc, Spec, SpecForm};
+use bpl_model::{GoalKind, Links, Local, Mark, Proc, Spec, SpecForm};
 use flow_core::Command;
 use logic_core::Formula;
 use std::alloc::{AllocError, Global};
@@ -15,13 +15,13 @@ use std::alloc::{AllocError, Global};
 /// locals, and each `requires`, free or not, are assumed.
 pub fn push_entry(
     alloc: Global,
-    module: &Module,
+    links: &Links<'_>,
     proc: &Proc,
     commands: &mut Vec<Command>,
 ) -> Result<(), AllocError>
-    ensures { OnOk result (commands.new.items ≡ commands.old.items ++ assume_all (at_entry «module».now proc.now)) }
+    ensures { OnOk result (commands.new.items ≡ commands.old.items ++ assume_all (at_entry links.now proc.now)) }
 {
-    push_reached(alloc, module, proc, commands)?;
+    push_reached(alloc, links, proc, commands)?;
     push_clauses(alloc, proc.ins.as_slice(), commands)?;
     push_clauses(alloc, proc.outs.as_slice(), commands)?;
     push_clauses_but_own(alloc, proc.locals.as_slice(), commands)?;

@@ -17,7 +17,7 @@ use crate::entry::{push_end_checks, push_entry};
 use crate::scope::Scopes;
 use crate::size::list_size;
 use bpl_model::number::sum;
-use bpl_model::{Local, Module, Parts, Proc, Spec, Stmt};
+use bpl_model::{Links, Local, Parts, Proc, Spec, Stmt};
 use flow_core::{Block, Command, Graph};
 use logic_core::Sequence;
 use std::alloc::{AllocError, Global};
@@ -27,42 +27,42 @@ use std::alloc::{AllocError, Global};
 /// without a body has no blocks. Each failing execution has a failing run with the same mark and from
 /// the same state; the graph is plain, and each head's targets hold what its loop may set. The time is
 /// linear in the size of the body times the depth of its nesting, but for sorting variables, after one
-/// walk over the module.
+/// walk over the module's variables and over what the procedure's names reach.
 ///
 /// An error is want of memory.
-pub fn to_blocks(alloc: Global, module: &Module, p: &Proc) -> Result<Graph, AllocError>
-    requires { HasCallsReplaced «module».now p.now }
-    ensures exact { IfOk result (λ g. g ≡ to_blocks «module».now p.now) }
-    ensures kept { IfOk result (λ g. KeepsFailures «module».now p.now g) }
+pub fn to_blocks(alloc: Global, links: &Links<'_>, p: &Proc) -> Result<Graph, AllocError>
+    requires { HasCallsReplaced links.now p.now }
+    ensures exact { IfOk result (λ g. g ≡ to_blocks links.now p.now) }
+    ensures kept { IfOk result (λ g. KeepsFailures links.now p.now g) }
 {
-    let parts = module.parts();
-    let blocks = blocks_of(alloc, module, p)?;
+    let parts = links.parts();
+    let blocks = blocks_of(alloc, links, p)?;
     let own = first_own(parts, p)?;
     let olds = olds_of(alloc, parts)?;
     Ok(Graph::new(Sequence::of(blocks), own, Sequence::of(olds)))
 }
 
-fn blocks_of(alloc: Global, module: &Module, p: &Proc) -> Result<Vec<Block>, AllocError>
-    ensures { IfOk result (λ v. v.items ≡ blocks_of «module».now p.now p.now.body) }
+fn blocks_of(alloc: Global, links: &Links<'_>, p: &Proc) -> Result<Vec<Block>, AllocError>
+    ensures { IfOk result (λ v. v.items ≡ blocks_of links.now p.now p.now.body) }
 {
     match &p.body {
         None => Ok(Vec::new(alloc)),
-        Some(body) => body_blocks(alloc, module, p, body),
+        Some(body) => body_blocks(alloc, links, p, body),
     }
 }
 
 fn body_blocks(
     alloc: Global,
-    module: &Module,
+    links: &Links<'_>,
     p: &Proc,
     body: &[Stmt],
 ) -> Result<Vec<Block>, AllocError>
-    ensures { IfOk result (λ v. v.items ≡ body_blocks «module».now p.now (stmts_of body.now)) }
+    ensures { IfOk result (λ v. v.items ≡ body_blocks links.now p.now (stmts_of body.now)) }
 {
-    let parts = module.parts();
+    let parts = links.parts();
     let last = sum(list_size(body)?, 1)?;
     let setting = setting_of(alloc, parts, p, last)?;
-    let commands = entry_commands(alloc, module, p)?;
+    let commands = entry_commands(alloc, links, p)?;
     let drawn = drawn_body(alloc, &setting, body, commands)?;
     end_body(alloc, last, p.specs.as_slice(), drawn)
 }
@@ -77,11 +77,11 @@ fn setting_of(alloc: Global, parts: &Parts, p: &Proc, last: u64) -> Result<Setti
     })
 }
 
-fn entry_commands(alloc: Global, module: &Module, p: &Proc) -> Result<Vec<Command>, AllocError>
-    ensures { IfOk result (λ v. v.items ≡ assume_all (at_entry «module».now p.now)) }
+fn entry_commands(alloc: Global, links: &Links<'_>, p: &Proc) -> Result<Vec<Command>, AllocError>
+    ensures { IfOk result (λ v. v.items ≡ assume_all (at_entry links.now p.now)) }
 {
     let mut commands = Vec::new(alloc);
-    push_entry(alloc, module, p, &mut commands)?;
+    push_entry(alloc, links, p, &mut commands)?;
     Ok(commands)
 }
 

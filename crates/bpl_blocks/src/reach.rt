@@ -6,28 +6,26 @@ ghost use Rattle.bpl_blocks.specs.Blocks.{assume_all};
 
 use crate::entry::push_clause_if;
 use bpl_model::decl::Global as GlobalVariable;
-use bpl_model::declarations::{names_at, positions};
+use bpl_model::declarations::names_at;
 use bpl_model::name_set::NameSet;
 use bpl_model::reach::reached_by;
-use bpl_model::{Module, Proc};
+use bpl_model::{Links, Proc};
 use flow_core::Command;
 use std::alloc::{AllocError, Global};
 
 /// The clauses of the globals that the procedure's names reach are assumed.
 pub fn push_reached(
     alloc: Global,
-    module: &Module,
+    links: &Links<'_>,
     proc: &Proc,
     commands: &mut Vec<Command>,
 ) -> Result<(), AllocError>
-    ensures { OnOk result (commands.new.items ≡ commands.old.items ++ assume_all (reached_clauses «module».now proc.now)) }
+    ensures { OnOk result (commands.new.items ≡ commands.old.items ++ assume_all (reached_clauses links.now proc.now)) }
 {
-    let parts = module.parts();
-    let declared = positions(alloc, parts.texts.len())?;
-    let declared = names_at(alloc, &parts.texts, &declared)?;
-    let reached = reached_by(alloc, module, proc)?;
+    let parts = links.parts();
+    let reached = reached_by(alloc, links, proc)?;
     let reached = names_at(alloc, &parts.texts, &reached)?;
-    push_among(alloc, &declared, &reached, &parts.globals, commands)
+    push_among(alloc, links.names(), &reached, &parts.globals, commands)
 }
 
 // Those of the globals, in order; one whose name no declaration has stands in that of the global

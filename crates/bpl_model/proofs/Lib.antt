@@ -3,10 +3,12 @@ mod Numbers
 mod TypedIsTyped
 pub mod Members
 mod Marks
+mod MarksOf
 mod MarkedRounds
 pub mod NamesPut
 pub mod NamedAt
 mod Rows
+mod Places
 mod RisingNumbers
 mod ReachedByMarks
 pub mod Spelled

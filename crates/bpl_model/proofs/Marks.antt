@@ -5,10 +5,10 @@ use Rattle.std.proofs.Common.{arith, sym, ap, ◌∙◌, subst, get_or, drop, le
 use Rattle.std.proofs.lemmas.Bool.{eqb-true, eqb-false, eq-eqb, or_cases, or_left, or_right, cases_lt}
 use Rattle.std.proofs.lemmas.List.{get_or_default, get_or_past, at_drop_more, append-nil}
 use mathlib.Core.Logic.{inl, inr}
-use Rattle.bpl_model.specs.Module.{Name, DeclText}
+use Rattle.bpl_model.specs.Module.{DeclText}
 use Rattle.bpl_model.specs.Marking.{Marking, is_marked, mark, mark_all, settled, follow, follow_on}
-use Rattle.bpl_model.specs.Walk.{text_at, row, on, leads_if, leads_of}
-use Rattle.bpl_model.proofs.Members.{numbers_more, In, agree, none_in, in_either, in_left, in_right}
+use Rattle.bpl_model.specs.Walk.{text_at, row, on}
+use Rattle.bpl_model.proofs.Members.{In, agree, none_in, in_either, in_left, in_right}
 
 pub within_marks : (ms : List Bool) (e : ℕ) → is_marked ms e ≡ true → e < length ms
 within_marks [] e h = let c : false ≡ true = h in absurd cc
@@ -26,7 +26,7 @@ pub marks_length : (s : Marking) (ds : List ℕ) → length (mark_all s ds).mark
 marks_length s [] = refl
 marks_length s (d ∷ ds) = marks_length (mark s d) ds ∙ mark_length s d
 
-set_at : (ms : List Bool) (d e : ℕ) → e < length ms → is_marked (slice_set ms d true) e ≡ (is_marked ms e || (d == e))
+pub set_at : (ms : List Bool) (d e : ℕ) → e < length ms → is_marked (slice_set ms d true) e ≡ (is_marked ms e || (d == e))
 set_at ms d e l = by (d == e) refl
   where
     or_true : (b : Bool) → true ≡ (b || true)
@@ -154,28 +154,11 @@ pub mark_append : (s : Marking) (xs ys : List ℕ) → mark_all s (xs ++ ys) ≡
 mark_append s [] ys = refl
 mark_append s (x ∷ xs) ys = mark_append (mark s x) xs ys
 
-filter_append : (t : ℕ → Bool) (xs : List ℕ) (x : ℕ) → filter t (xs ++ x ∷ []) ≡ filter t xs ++ cond (t x) (x ∷ []) []
-filter_append t [] x = refl
-filter_append t (y ∷ ys) x = by (t y) (filter_append t ys x)
-  where
-    by : (b : Bool) → filter t (ys ++ x ∷ []) ≡ filter t ys ++ cond (t x) (x ∷ []) [] → cond b (y ∷ filter t (ys ++ x ∷ [])) (filter t (ys ++ x ∷ [])) ≡ cond b (y ∷ filter t ys) (filter t ys) ++ cond (t x) (x ∷ []) []
-    by true h = λ i. y ∷ h i
-    by false h = h
-
--- the next position
-pub marked_more : (ms : List Bool) (i : ℕ) → filter (is_marked ms) (range_with_len 0 (i + 1)) ≡ filter (is_marked ms) (range_with_len 0 i) ++ cond (is_marked ms i) (i ∷ []) []
-marked_more ms i = ap (filter (is_marked ms)) (numbers_more i) ∙ filter_append (is_marked ms) (range_with_len 0 i) i
-
--- what the next of the declarations leads to, if it has the name
-pub leads_step : (ts : List DeclText) (ds : List ℕ) (i : ℕ) (n : Name) (s : Marking) → i < length ds
-    → mark_all s (leads_of ts (drop i ds) n) ≡ mark_all (mark_all s (leads_if ts n (get_or ds i 0))) (leads_of ts (drop (i + 1) ds) n)
-leads_step ts ds i n s lt =
-    at_drop_more (λ es. mark_all s (leads_of ts es n)) ds i 0 lt ∙ by (bytes_eq n (text_at ts (get_or ds i 0)).name)
-  where
-    by : (b : Bool) → mark_all s (flat_map (λ d. (text_at ts d).leads) (cond b (get_or ds i 0 ∷ filter (λ d. bytes_eq n (text_at ts d).name) (drop (i + 1) ds)) (filter (λ d. bytes_eq n (text_at ts d).name) (drop (i + 1) ds))))
-        ≡ mark_all (mark_all s (cond b (text_at ts (get_or ds i 0)).leads [])) (leads_of ts (drop (i + 1) ds) n)
-    by true = mark_append s (text_at ts (get_or ds i 0)).leads (leads_of ts (drop (i + 1) ds) n)
-    by false = refl
+-- what the next of the declarations leads to
+pub leads_step : (ts : List DeclText) (ds : List ℕ) (i : ℕ) (s : Marking) → i < length ds
+    → mark_all s (flat_map (λ d. (text_at ts d).leads) (drop i ds)) ≡ mark_all (mark_all s (text_at ts (get_or ds i 0)).leads) (flat_map (λ d. (text_at ts d).leads) (drop (i + 1) ds))
+leads_step ts ds i s lt =
+    at_drop_more (λ es. mark_all s (flat_map (λ d. (text_at ts d).leads) es)) ds i 0 lt ∙ mark_append s (text_at ts (get_or ds i 0)).leads (flat_map (λ d. (text_at ts d).leads) (drop (i + 1) ds))
 
 -- what the next declaration leads to
 pub follow_step : (ts : List DeclText) (T : List (List ℕ)) (rs : List ℕ) (i : ℕ) (s : Marking) → i < length rs
@@ -190,3 +173,10 @@ follow_on_step F k j s e = let f : k ≡ suc j = omega (e, arith) in ap (λ n. f
 
 pub follow_on_end : (F : ℕ → List ℕ) (k : ℕ) (s : Marking) → k ≡ 0 → follow_on F k s ≡ s
 follow_on_end F k s e = ap (λ n. follow_on F n s) e
+
+-- where nothing is new, nothing more gets a mark
+pub follow_on_still : (F : ℕ → List ℕ) (k : ℕ) (s : Marking) → s.fresh ≡ [] → (follow_on F k s).marks ≡ s.marks
+follow_on_still F zero s e = refl
+follow_on_still F (suc k) s e =
+    let still : mark_all (settled s) (flat_map F s.fresh) ≡ settled s = ap (λ xs. mark_all (settled s) (flat_map F xs)) e in
+    ap (λ u. (follow_on F k u).marks) still ∙ follow_on_still F k (settled s) refl

@@ -1,14 +1,18 @@
 -- What is among names that were put in one after another.
-use Rattle.std.specs.Prelude.{◌≡◌, refl, Bool, true, false, cond, ◌||◌, if◌then◌else◌, List, [], ◌∷◌, ◌++◌, map, bytes_eq}
+use Rattle.std.specs.Prelude.{◌≡◌, refl, ℕ, suc, ◌+◌, ◌≤◌, Bool, true, false, cond, nat_lt, ◌||◌, if◌then◌else◌, List, [], ◌∷◌, ◌++◌, map, length, bytes_eq, Some, None, position}
 use Rattle.std.specs.Borrow.{Bor}
-use Rattle.std.specs.List.{list_any}
-use Rattle.std.proofs.Common.{sym, ap, ◌∙◌}
+use Rattle.std.specs.List.{list_any, position_or_len}
+use Rattle.std.specs.Option.{unwrap_or}
+use Rattle.std.proofs.Common.{arith, sym, ap, ◌∙◌}
+use Rattle.std.proofs.lemmas.Bool.{ltb-false}
+use Rattle.std.proofs.lemmas.List.{length-map}
+use Rattle.std.proofs.lemmas.List.Recursion.{is_position_or_len}
 use Rattle.std.proofs.lemmas.List.Folds.{list_any-append}
 use Rattle.std.proofs.lemmas.List.{map_push}
 use Rattle.std.proofs.lemmas.Slice.Eq.{bytes_eq-Decides}
 use Rattle.indexmap.specs.IndexSet.{insert_key}
 use Rattle.bpl_model.specs.Module.{Name}
-use Rattle.bpl_model.specs.Names.{names_seen, with_name, with_names}
+use Rattle.bpl_model.specs.Names.{names_seen, with_name, with_names, place}
 
 or_false : (b : Bool) → (b || false) ≡ b
 or_false true = refl
@@ -44,3 +48,28 @@ names_among ns (x ∷ xs) k =
     names_among (with_name ns x) xs k
     ∙ ap (λ b. b || list_any (bytes_eq k) xs) (name_among ns x k)
     ∙ or_assoc (list_any (bytes_eq k) ns) (bytes_eq k x) (list_any (bytes_eq k) xs)
+
+pub seen_length : (ks : List (Bor Name)) → length (names_seen ks) ≡ length ks
+seen_length ks = length-map ks (λ (k : Bor Name). k.now)
+
+place_within : (ns : List Name) (n : Name) → place ns n ≤ length ns
+place_within [] n = omega arith
+place_within (m ∷ ms) n = by (bytes_eq n m) (place_within ms n)
+  where
+    by : (b : Bool) → place ms n ≤ length ms → cond b 0 (1 + place ms n) ≤ length (m ∷ ms)
+    by true h = omega arith
+    by false h = omega (h, arith)
+
+-- where a key stands, behind all of them where it doesn't
+pub place_seen : (n : Name) (ks : List (Bor Name)) → unwrap_or (position (λ k. bytes_eq n k.now) ks) (length ks) ≡ place (names_seen ks) n
+place_seen n ks =
+    let same : place (names_seen ks) n ≡ position_or_len (λ (k : Bor Name). bytes_eq n k.now) ks = is_position_or_len (λ (js : List (Bor Name)). place (names_seen js) n) (λ k. bytes_eq n k.now) refl (λ j js. refl) ks in
+    let inside : position_or_len (λ (k : Bor Name). bytes_eq n k.now) ks ≤ length ks = omega (arith, place_within (names_seen ks) n, seen_length ks, same) in
+    either (position_or_len (λ (k : Bor Name). bytes_eq n k.now) ks) (length ks) inside ∙ sym same
+  where
+    either : (x l : ℕ) → x ≤ l → unwrap_or (cond (nat_lt x l) (Some x) None) l ≡ x
+    either x l h = by (nat_lt x l) refl
+      where
+        by : (b : Bool) → nat_lt x l ≡ b → unwrap_or (cond b (Some x) None) l ≡ x
+        by true e = refl
+        by false e = let g = ltb-false x l e in omega (g, h, arith)

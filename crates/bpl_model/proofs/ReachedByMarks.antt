@@ -14,7 +14,8 @@ use Rattle.bpl_model.specs.Typed.{IsText}
 use Rattle.bpl_model.specs.Reach.{among, decl_at, positions, is_const_or_function, is_axiom, axiom_name, mentioned, leads_to, reach_on, own_positions, reached_by, is_named}
 use Rattle.bpl_model.specs.Names.{with_names}
 use Rattle.bpl_model.specs.Marking.{Marking, is_marked, unmarked, mark_all, settled, follow, follow_on}
-use Rattle.bpl_model.specs.Walk.{text_at, is_at, mention_rows, is_free, on, leads_of, own_leads, walk}
+use Rattle.bpl_model.specs.Walk.{text_at, is_at, is_free, on, leads_of, own_leads, walk}
+use Rattle.bpl_model.specs.Links.{symbols as symbols_of, axioms as axioms_of, mentions, free as free_of}
 use Rattle.bpl_model.proofs.Members.{In, none_in, in_either, in_flat, among_filter, range_in, in_range}
 use Rattle.bpl_model.proofs.Marks.{marks_length, mark_append}
 use Rattle.bpl_model.proofs.NamesPut.{names_among}
@@ -37,19 +38,6 @@ each_in P (x ∷ xs) r a h = elim (or_cases (x == r) (list_any (λ y. y == r) xs
   | inr i ↦ each_in P xs r a.1 i
 ]
 
--- the walk as it is made
-pub walk_made : (ts : List DeclText) (S A : List Name) (n : Name) (ds : List ℕ) (T : List (List ℕ)) (first free : List ℕ) (s0 s1 s2 s3 s4 : Marking)
-    → ds ≡ range_with_len 0 (length ts) → T ≡ mention_rows ts S A ds → free ≡ filter (is_free ts S A) ds
-    → s0 ≡ mark_all (unmarked (length ts)) (own_leads ts ds n) → first ≡ s0.fresh → s1 ≡ settled s0 → s2 ≡ mark_all s1 (flat_map (on ts T) first) → s3 ≡ mark_all s2 free
-    → s4.marks ≡ (follow_on (on ts T) (length ts) s3).marks
-    → s4.marks ≡ (let es = range_with_len 0 (length ts) in walk ts (mention_rows ts S A es) (own_leads ts es n) (filter (is_free ts S A) es)).marks
-walk_made ts S A n ds T first free s0 s1 s2 s3 s4 d t f e0 e e1 e2 e3 e4 =
-    let third : s3 ≡ mark_all (follow (on ts T) s0) free = e3 ∙ ap (λ s. mark_all s free) (e2 ∙ (λ i. mark_all (e1 i) (flat_map (on ts T) (e i)))) in
-    e4
-    ∙ (λ i. (follow_on (on ts T) (length ts) (third i)).marks)
-    ∙ (λ i. (follow_on (on ts (t i)) (length ts) (mark_all (follow (on ts (t i)) (e0 i)) (f i))).marks)
-    ∙ (λ i. (walk ts (mention_rows ts S A (d i)) (own_leads ts (d i) n) (filter (is_free ts S A) (d i))).marks)
-
 module _ (m : Module) (p : Proc) (typed : AllByRecursion (IsText m) m.texts) where
   abbrev ts : List DeclText
   ts = m.texts
@@ -58,19 +46,19 @@ module _ (m : Module) (p : Proc) (typed : AllByRecursion (IsText m) m.texts) whe
   count = length m.texts
 
   abbrev symbols : List Name
-  symbols = with_names (with_names [] (map (λ c. c.name) m.consts)) (map (λ f. f.name) m.functions)
+  symbols = symbols_of m
 
   abbrev axioms : List Name
-  axioms = with_names [] (map axiom_name (range_with_len 1 (length m.axioms)))
+  axioms = axioms_of m
 
   abbrev leads : ℕ → List ℕ
   leads r = (decl_at m r).contract_leads
 
   abbrev rows : List (List ℕ)
-  rows = mention_rows ts symbols axioms (positions m)
+  rows = mentions m
 
   abbrev free : List ℕ
-  free = filter (is_free ts symbols axioms) (positions m)
+  free = free_of m
 
   abbrev own : List ℕ
   own = own_leads ts (positions m) p.name
@@ -139,9 +127,6 @@ module _ (m : Module) (p : Proc) (typed : AllByRecursion (IsText m) m.texts) whe
       ∙ sym (same_rounds (suc count) own)
       ∙ sym ((λ i. reach_on m (more i) (start i)))
 
-  -- the same of sets of names that are these, and of marks that are those of the walk
-  pub reached_from : (S A : List Name) (ms : List Bool) → S ≡ symbols → A ≡ axioms
-      → ms ≡ (walk ts (mention_rows ts S A (positions m)) own (filter (is_free ts S A) (positions m))).marks → filter (is_marked ms) (range_with_len 0 (length ms)) ≡ reached_by m p
-  reached_from S A ms s a e =
-      let same : ms ≡ (walk ts rows own free).marks = e ∙ (λ i. (walk ts (mention_rows ts (s i) (a i) (positions m)) own (filter (is_free ts (s i) (a i)) (positions m))).marks) in
-      ap (λ ns. filter (is_marked ns) (range_with_len 0 (length ns))) same ∙ marked_is_reached
+  -- the same of marks that are those of the walk
+  pub reached_from : (ms : List Bool) → ms ≡ (walk ts rows own free).marks → filter (is_marked ms) (range_with_len 0 (length ms)) ≡ reached_by m p
+  reached_from ms e = ap (λ ns. filter (is_marked ns) (range_with_len 0 (length ns))) e ∙ marked_is_reached

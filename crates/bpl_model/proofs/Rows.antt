@@ -4,8 +4,9 @@ use Rattle.std.specs.declared.alloc.Global.{Global}
 use Rattle.std.specs.List.{list_any}
 use Rattle.std.proofs.Common.{arith, sym, ap, ◌∙◌, subst, get_or, length-set, get_or-set_same, get_or-set_other}
 use Rattle.std.proofs.lemmas.Bool.{eqb-true, eqb-false}
-use Rattle.std.proofs.lemmas.List.{length-map, map-set, get_or-map}
+use Rattle.std.proofs.lemmas.List.{length-replicate, map-set, get_or-map}
 use Rattle.std.proofs.lemmas.List.Folds.{list_any-append}
+use lib.ListN.{replicate}
 use Rattle.bpl_model.specs.Module.{Name, DeclText}
 use Rattle.bpl_model.specs.Walk.{text_at, is_at, rows_of, row, with_entry, with_mentions, with_axioms}
 
@@ -30,6 +31,11 @@ entry_at T l d r x lt = by (l == r) refl
     by false e =
         let s : r ≡ l → ⊥ = λ q. eqb-false l r e (sym q) in
         ap (λ ys. among ys x) (get_or-set_other T l r (row T l ++ d ∷ []) [] s) ∙ or_false (among (row T r) x)
+
+pub empty_row : (n r : ℕ) → row (replicate n []) r ≡ []
+empty_row zero r = refl
+empty_row (suc n) zero = refl
+empty_row (suc n) (suc r) = empty_row n r
 
 -- an entry that is pushed to a row
 pub entry_put : (vs ws : List (Vec ℕ Global)) (r d : ℕ) (v w : Vec ℕ Global) → ws ≡ slice_set vs r w → r < length vs → v ≡ get_or vs r v → w.items ≡ v.items ++ d ∷ [] → rows_of ws ≡ with_entry (rows_of vs) r d
@@ -114,13 +120,8 @@ module _ (ts : List DeclText) (symbols : List Name) where
                 nothing false = refl
             other false k = refl
 
-    empty_row : (us : List DeclText) (r : ℕ) → row (map (λ t. []) us) r ≡ []
-    empty_row [] r = refl
-    empty_row (u ∷ us) zero = refl
-    empty_row (u ∷ us) (suc r) = empty_row us r
-
-    pub row_is : (ds : List ℕ) (r x : ℕ) → r < length ts → among ds x ≡ true → among (row (with_axioms ts symbols axioms (map (λ t. []) ts) ds) r) x ≡ names x r
+    pub row_is : (ds : List ℕ) (r x : ℕ) → r < length ts → among ds x ≡ true → among (row (with_axioms ts symbols axioms (replicate (length ts) []) ds) r) x ≡ names x r
     row_is ds r x lt h =
-        axioms_at (map (λ t. []) ts) ds r x (subst (λ n. r < n) (sym (length-map ts (λ (t : DeclText). []))) lt)
-        ∙ ap (λ ys. among ys x || (among ds x && names x r)) (empty_row ts r)
+        axioms_at (replicate (length ts) []) ds r x (subst (λ n. r < n) (sym (length-replicate (length ts) [])) lt)
+        ∙ ap (λ ys. among ys x || (among ds x && names x r)) (empty_row (length ts) r)
         ∙ ap (λ b. b && names x r) h

@@ -11,6 +11,7 @@ pub mod Names
 pub mod Rising
 pub mod Marking
 pub mod Walk
+pub mod Links
 pub mod NoGoto
 pub mod Typed
 pub mod TypedTest

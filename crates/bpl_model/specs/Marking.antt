@@ -1,11 +1,15 @@
 -- Positions that get marks, and those among the marks that are new.
-use Rattle.std.specs.Prelude.{ℕ, zero, suc, Bool, true, false, cond, List, [], ◌∷◌, ◌++◌, slice_index_or, slice_set}
-use Rattle.std.specs.List.{flat_map}
+use Rattle.std.specs.Prelude.{ℕ, zero, suc, ◌==◌, Bool, true, false, cond, List, [], ◌∷◌, ◌++◌, map, slice_index_or, slice_set}
+use Rattle.std.specs.List.{list_any, flat_map, range_with_len}
 use lib.ListN.{replicate}
 
 pub record Marking : Type 0 where
   pub marks : List Bool
   pub fresh : List ℕ
+
+-- the marks of so many positions, of which these have one
+abbrev pub marks_of : ℕ → List ℕ → List Bool
+marks_of count ks = map (λ d. list_any (λ k. d == k) ks) (range_with_len 0 count)
 
 abbrev pub is_marked : List Bool → ℕ → Bool
 is_marked ms d = slice_index_or ms d false

@@ -1,7 +1,8 @@
 -- What names reach, by marks: each declaration that is reached leads on once.
-use Rattle.std.specs.Prelude.{ℕ, zero, suc, nat_eq, Bool, ◌&&◌, cond, List, [], ◌∷◌, ◌++◌, map, length, filter, slice_index_or, slice_set, codes, bytes_eq, Vec}
+use Rattle.std.specs.Prelude.{ℕ, nat_eq, Bool, ◌&&◌, cond, List, [], ◌∷◌, ◌++◌, map, length, filter, slice_index_or, slice_set, codes, bytes_eq, Vec}
 use Rattle.std.specs.declared.alloc.Global.{Global}
 use Rattle.std.specs.List.{list_any, flat_map, range_with_len}
+use lib.ListN.{replicate}
 use Rattle.bpl_model.specs.Module.{Name, DeclText}
 use Rattle.bpl_model.specs.Marking.{Marking, unmarked, mark_all, settled, follow, follow_on}
 
@@ -45,7 +46,7 @@ module _ (ts : List DeclText) (symbols : List Name) where
 
     -- the axioms that name each
     abbrev pub mention_rows : List ℕ → List (List ℕ)
-    mention_rows ds = with_axioms (map (λ t. []) ts) ds
+    mention_rows ds = with_axioms (replicate (length ts) []) ds
 
     -- an axiom that names no constant and no function
     abbrev pub is_free : ℕ → Bool
@@ -54,10 +55,6 @@ module _ (ts : List DeclText) (symbols : List Name) where
 -- what a reached declaration leads to
 abbrev pub on : List DeclText → List (List ℕ) → ℕ → List ℕ
 on ts T r = (text_at ts r).contract_leads ++ row T r
-
--- what the declaration leads to, if it has this name
-abbrev pub leads_if : List DeclText → Name → ℕ → List ℕ
-leads_if ts n d = cond (bytes_eq n (text_at ts d).name) (text_at ts d).leads []
 
 -- what the declarations of this name lead to
 abbrev pub leads_of : List DeclText → List ℕ → Name → List ℕ

@@ -1,10 +1,10 @@
 // Declarations by their names and positions.
 ghost use Rattle.std.specs.Prelude.{◌≡◌, ◌++◌, [], IfOk, OnOk, codes, map};
-ghost use Rattle.std.specs.List.{range_with_len};
+ghost use Rattle.std.specs.List.{flat_map, range_with_len};
 ghost use Rattle.bpl_model.specs.Reach.{axiom_name};
 ghost use Rattle.bpl_model.specs.Names.{with_names};
 ghost use Rattle.bpl_model.specs.Marking.{mark_all};
-ghost use Rattle.bpl_model.specs.Walk.{is_at, leads_if, leads_of, text_at};
+ghost use Rattle.bpl_model.specs.Walk.{is_at, text_at};
 
 use crate::decl::{Const, Function};
 use crate::marking::Marking;
@@ -141,28 +141,16 @@ pub fn own_name(alloc: alloc::Global, name: &[u8]) -> Result<Vec<u8>, alloc::All
     Ok(implementation)
 }
 
-/// Marks what the declarations of this name lead to.
+/// Marks what the declarations at these positions lead to.
 pub fn mark_leads(
     texts: &[DeclText],
     positions: &[u64],
-    name: &[u8],
     marking: &mut Marking,
 ) -> Result<(), alloc::AllocError>
-    ensures { OnOk result (marking.new ≡ mark_all marking.old (leads_of texts.now positions.now name.now)) }
+    ensures { OnOk result (marking.new ≡ mark_all marking.old (flat_map (λ d. (text_at texts.now d).leads) positions.now)) }
 {
     for d in positions {
-        marking.mark_all(leads_if(texts, name, *d))?;
+        marking.mark_all(leads_at(texts, *d))?;
     }
     Ok(())
-}
-
-// What the declaration leads to, if it has this name.
-fn leads_if<'a>(texts: &'a [DeclText], name: &[u8], d: u64) -> &'a [u64]
-    ensures { result.now ≡ leads_if texts.now name.now d }
-{
-    if name == name_at(texts, d) {
-        leads_at(texts, d)
-    } else {
-        &[]
-    }
 }

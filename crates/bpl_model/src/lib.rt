@@ -24,6 +24,7 @@ pub mod number;
 
 // What a procedure's names reach, from sets of names up.
 pub mod declarations;
+pub mod links;
 mod marking;
 mod mentions;
 pub mod name_set;
@@ -38,6 +39,7 @@ pub mod copy_stmts;
 pub use bv_base::place::Place;
 pub use decl::{Const, Function, Global, Local};
 pub use flow_core::{GoalKind, Invariant, Mark};
+pub use links::Links;
 pub use module::{DeclText, Module, Parts};
 pub use name::Name;
 pub use proc::Proc;

@@ -3,47 +3,53 @@ ghost use Rattle.std.specs.Prelude.{◌≡◌, [], OnOk, IfOk, false, filter, le
 ghost use Rattle.std.specs.List.{range_with_len};
 ghost use Rattle.bpl_model.specs.Marking.{is_marked, mark, mark_all, settled, unmarked};
 
+use crate::number::rising;
+use indexmap::IndexSet;
 use std::alloc::{AllocError, Global};
 use std::marker::Model;
 use std::mem;
 
-/// Whether each of so many positions has a mark, and which marks are new.
+/// Whether each of so many positions has a mark, and which marks are new. The memory is that of the
+/// marks alone.
 #[derive(Drop)]
 pub struct Marking {
-    marks: Vec<bool>,
+    count: u64,
+    marked: IndexSet<u64>,
     fresh: Vec<u64>,
 }
 
 impl Model for Marking {
-    ghost use Rattle.bpl_model.specs.Marking.{Marking as marking};
+    ghost use Rattle.bpl_model.specs.Marking.{Marking as marking, marks_of};
     ghost use Rattle.std.specs.Coded.{codes};
 
     ghost Value = { marking };
 
     ghost coded = { Prim.hlevel codes };
 
-    ghost view = { λ a. record { marks = a.marks.items; fresh = a.fresh.items } };
+    ghost view = { λ a. record { marks = marks_of a.count a.marked.keys; fresh = a.fresh.items } };
 }
 
 impl Marking {
     /// No marks at so many positions.
-    pub fn new(alloc: Global, count: usize) -> Result<Marking, AllocError>
-        ensures { IfOk result (λ m. m ≡ unmarked count) }
+    #[tactic(auto, using(crate::proofs::MarksOf::none_are))]
+    pub fn new(alloc: Global, count: usize) -> Marking
+        ensures { result ≡ unmarked count }
     {
-        Ok(Marking {
-            marks: vec![in alloc; false; count]?,
+        Marking {
+            count: count as u64,
+            marked: IndexSet::new(alloc),
             fresh: Vec::new(alloc),
-        })
+        }
     }
 
     /// Marks a position, if it is there and has no mark.
     pub fn mark(&mut self, position: u64) -> Result<(), AllocError>
         ensures { OnOk result (self.new ≡ mark self.old position) }
     {
-        let at = position as usize;
-        if at < self.marks.len() && !self.marks[at] {
-            self.marks[at] = true;
-            self.fresh.push(position)?;
+        if position < self.count {
+            if self.marked.insert(position)? {
+                self.fresh.push(position)?;
+            }
         }
         Ok(())
     }
@@ -70,18 +76,6 @@ impl Marking {
     pub fn positions(&self, alloc: Global) -> Result<Vec<u64>, AllocError>
         ensures { IfOk result (λ v. v.items ≡ filter (is_marked self.now.marks) (range_with_len 0 (length self.now.marks))) }
     {
-        marked(alloc, self.marks.as_slice())
+        rising(alloc, self.marked.as_slice(), 0, self.count)
     }
-}
-
-fn marked(alloc: Global, marks: &[bool]) -> Result<Vec<u64>, AllocError>
-    ensures { IfOk result (λ v. v.items ≡ filter (is_marked marks.now) (range_with_len 0 (length marks.now))) }
-{
-    let mut positions = Vec::new(alloc);
-    for i in 0..marks.len() {
-        if marks[i] {
-            positions.push(i as u64)?;
-        }
-    }
-    Ok(positions)
 }

@@ -1,5 +1,6 @@
 // The axioms that name a constant or a function, by its position.
-ghost use Rattle.std.specs.Prelude.{◌≡◌, IfOk, OnOk, [], map, filter};
+ghost use Rattle.std.specs.Prelude.{◌≡◌, IfOk, OnOk, [], filter};
+ghost use lib.ListN.{replicate};
 ghost use Rattle.bpl_model.specs.Walk.{is_free, mention_rows, names_none, rows_of, with_axiom, with_entry, with_mention, with_mentions};
 
 use crate::declarations::{is_at, leads_at};
@@ -18,18 +19,19 @@ pub fn mention_rows(
 ) -> Result<Vec<Vec<u64>>, alloc::AllocError>
     ensures { IfOk result (λ v. rows_of v.items ≡ mention_rows texts.now symbols.now axioms.now positions.now) }
 {
-    let mut rows = empty_rows(alloc, texts)?;
+    let mut rows = empty_rows(alloc, texts.len())?;
     for d in positions {
         put_axiom(texts, symbols, axioms, *d, &mut rows)?;
     }
     Ok(rows)
 }
 
-fn empty_rows(alloc: alloc::Global, texts: &[DeclText]) -> Result<Vec<Vec<u64>>, alloc::AllocError>
-    ensures { IfOk result (λ v. rows_of v.items ≡ map (λ t. []) texts.now) }
+/// So many rows in which nothing stands.
+pub fn empty_rows(alloc: alloc::Global, count: usize) -> Result<Vec<Vec<u64>>, alloc::AllocError>
+    ensures { IfOk result (λ v. rows_of v.items ≡ replicate count []) }
 {
     let mut rows = Vec::new(alloc);
-    for _text in texts {
+    for _row in 0..count {
         rows.push(Vec::new(alloc))?;
     }
     Ok(rows)
@@ -83,8 +85,9 @@ fn put_mention(
     }
 }
 
+/// Puts an entry behind a row, if it is there.
 #[tactic(auto, using(crate::proofs::Rows::entry_put))]
-fn put_entry(rows: &mut Vec<Vec<u64>>, r: u64, d: u64) -> Result<(), alloc::AllocError>
+pub fn put_entry(rows: &mut Vec<Vec<u64>>, r: u64, d: u64) -> Result<(), alloc::AllocError>
     ensures { OnOk result (rows_of rows.new.items ≡ with_entry (rows_of rows.old.items) r d) }
 {
     let at = r as usize;

@@ -1,7 +1,7 @@
 // Sets of names.
-ghost use Rattle.std.specs.Prelude.{◌≡◌, [], OnOk, bytes_eq};
+ghost use Rattle.std.specs.Prelude.{◌≡◌, [], OnOk, bytes_eq, length};
 ghost use Rattle.std.specs.List.{list_any};
-ghost use Rattle.bpl_model.specs.Names.{with_name};
+ghost use Rattle.bpl_model.specs.Names.{place, with_name};
 
 use indexmap::IndexSet;
 use std::alloc::{AllocError, Global};
@@ -47,5 +47,21 @@ impl<'a> NameSet<'a> {
         ensures { result ≡ list_any (bytes_eq name.now) self.now }
     {
         self.keys.contains(name)
+    }
+
+    /// How many names there are.
+    #[tactic(auto, using(crate::proofs::NamesPut::seen_length))]
+    pub fn len(&self) -> usize
+        ensures { result ≡ length self.now }
+    {
+        self.keys.len()
+    }
+
+    /// Where the name stands; where it doesn't, behind all of them.
+    #[tactic(auto, using(crate::proofs::NamesPut::place_seen))]
+    pub fn place(&self, name: &[u8]) -> usize
+        ensures { result ≡ place self.now name.now }
+    {
+        self.keys.get_index_of(name).unwrap_or(self.keys.len())
     }
 }

@@ -2,9 +2,10 @@
 ghost use Rattle.std.specs.Prelude.{◌≡◌, OnOk, length};
 ghost use Rattle.std.specs.List.{flat_map};
 ghost use Rattle.bpl_model.specs.Marking.{follow_on, mark_all};
-ghost use Rattle.bpl_model.specs.Walk.{on, row, rows_of};
+ghost use Rattle.bpl_model.specs.Walk.{on, rows_of};
 
 use crate::declarations::contract_leads_at;
+use crate::links::row_at;
 use crate::marking::Marking;
 use crate::module::DeclText;
 use std::alloc;
@@ -26,16 +27,8 @@ pub fn follow(
     Ok(())
 }
 
-fn row_at(rows: &[Vec<u64>], r: u64) -> &[u64]
-    ensures { result.now ≡ row (rows_of rows.now) r }
-{
-    match rows.get(r as usize) {
-        Some(row) => row.as_slice(),
-        None => &[],
-    }
-}
-
-/// Marks what new marks lead to, in as many rounds as there are declarations: each leads on once.
+/// Marks what new marks lead to, round after round, until there are none: each declaration leads on
+/// once.
 pub fn follow_on(
     alloc: alloc::Global,
     texts: &[DeclText],
@@ -46,6 +39,9 @@ pub fn follow_on(
 {
     for _round in 0..texts.len() {
         let from = marking.take_fresh(alloc);
+        if from.is_empty() {
+            return Ok(());
+        }
         follow(texts, rows, from.as_slice(), marking)?;
     }
     Ok(())

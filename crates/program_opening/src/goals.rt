@@ -9,7 +9,7 @@ ghost use Rattle.vc_build.specs.Large.{large, program_goals as goals_of_program,
 ghost use Rattle.program_opening.specs.ProcGoals.{goals_by_proc, goal_counts};
 
 use bpl_goto::remove_gotos;
-use bpl_model::{Mark, Module, Name, Proc};
+use bpl_model::{Links, Mark, Module, Name, Proc};
 use obligation_text::Obligation;
 use std::alloc::{AllocError, Global};
 use std::collections::VecDeque;
@@ -65,33 +65,33 @@ struct AllGoals {
 fn add_counted(
     alloc: Global,
     tally: &mut Tally,
-    plain: &Module,
+    links: &Links<'_>,
     proc: &Proc,
 ) -> Result<usize, BuildFault>
-    requires there { Contains «plain».now.procs proc.now }
+    requires there { Contains links.now.procs proc.now }
     requires no_goto { BodyHasNoGoto proc.now.body }
-    ensures added { OnOk result (tally.new ≡ tally.old ++ goals_by_passes «plain».now proc.now) }
-    ensures count { IfOk result (λ n. n ≡ length (goals_by_passes «plain».now proc.now)) }
-    ensures fault { IfErr result (IsFaultOf (tally.old ++ goals_by_passes «plain».now proc.now)) }
+    ensures added { OnOk result (tally.new ≡ tally.old ++ goals_by_passes links.now proc.now) }
+    ensures count { IfOk result (λ n. n ≡ length (goals_by_passes links.now proc.now)) }
+    ensures fault { IfErr result (IsFaultOf (tally.old ++ goals_by_passes links.now proc.now)) }
 {
     let before = tally.len();
-    add_goals(alloc, tally, plain, proc)?;
+    add_goals(alloc, tally, links, proc)?;
     Ok(tally.len() - before)
 }
 
 // The goals of all procedures of a module without gotos.
-fn counted(alloc: Global, plain: &Module) -> Result<AllGoals, BuildFault>
-    requires { AllByRecursion (λ p. BodyHasNoGoto p.body) «plain».now.procs }
-    ensures goals { IfOk result (λ c. c.goals.items ≡ flat_map (goals_by_passes «plain».now) «plain».now.procs) }
-    ensures counts { IfOk result (λ c. c.counts.items ≡ map (λ p. length (goals_by_passes «plain».now p)) «plain».now.procs) }
+fn counted(alloc: Global, links: &Links<'_>) -> Result<AllGoals, BuildFault>
+    requires { AllByRecursion (λ p. BodyHasNoGoto p.body) links.now.procs }
+    ensures goals { IfOk result (λ c. c.goals.items ≡ flat_map (goals_by_passes links.now) links.now.procs) }
+    ensures counts { IfOk result (λ c. c.counts.items ≡ map (λ p. length (goals_by_passes links.now p)) links.now.procs) }
     ensures within { IfOk result (λ c. large c.goals.items ≡ None) }
-    ensures fault { IfErr result (IsFaultOf (flat_map (goals_by_passes «plain».now) «plain».now.procs)) }
+    ensures fault { IfErr result (IsFaultOf (flat_map (goals_by_passes links.now) links.now.procs)) }
 {
-    let procs = &plain.parts().procs;
+    let procs = &links.parts().procs;
     let mut tally = Tally::new(alloc);
     let mut counts = Vec::new(alloc);
     for i in 0..procs.len() {
-        counts.push(add_counted(alloc, &mut tally, plain, &procs[i])?)?;
+        counts.push(add_counted(alloc, &mut tally, links, &procs[i])?)?;
     }
     Ok(AllGoals {
         counts,
@@ -178,6 +178,7 @@ pub fn program_goals(alloc: Global, module: &Module) -> Result<Vec<ProcGoals>, B
     ensures fault { IfErr result (IsFaultOf (goals_of_program «module».now)) }
 {
     let plain = remove_gotos(alloc, module)?;
-    let AllGoals { counts, goals } = counted(alloc, &plain)?;
+    let links = Links::of(alloc, &plain)?;
+    let AllGoals { counts, goals } = counted(alloc, &links)?;
     Ok(by_proc(alloc, module, &counts, goals)?)
 }

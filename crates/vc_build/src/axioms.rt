@@ -6,7 +6,7 @@ ghost use Rattle.vc_build.specs.NamedAxioms.{axioms_named};
 use bpl_model::declarations::{axiom_name, names_at};
 use bpl_model::name_set::NameSet;
 use bpl_model::reach::reached_by;
-use bpl_model::{Module, Proc};
+use bpl_model::{Links, Proc};
 use logic_core::Formula;
 use std::alloc::{AllocError, Global};
 
@@ -47,13 +47,13 @@ fn axioms_named(
 #[tactic(auto, using(crate::proofs::NamedAxioms::named_are_reached))]
 pub fn reached_axioms(
     alloc: Global,
-    module: &Module,
+    links: &Links<'_>,
     proc: &Proc,
 ) -> Result<Vec<Formula>, AllocError>
-    ensures { IfOk result (λ v. v.items ≡ reached_axioms «module».now proc.now) }
+    ensures { IfOk result (λ v. v.items ≡ reached_axioms links.now proc.now) }
 {
-    let reached = reached_by(alloc, module, proc)?;
-    let parts = module.parts();
+    let reached = reached_by(alloc, links, proc)?;
+    let parts = links.parts();
     let names = names_at(alloc, &parts.texts, &reached)?;
     axioms_named(alloc, &names, &parts.axioms)
 }

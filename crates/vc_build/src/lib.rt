@@ -10,7 +10,7 @@ pub mod goal;
 pub mod tally;
 
 // The goals of a procedure, from the obligation of an assertion up.
-mod axioms;
+pub mod axioms;
 mod graph;
 mod obligation;
 pub mod procedure;

@@ -16,22 +16,22 @@ use crate::graph::add_graph;
 use crate::laws::{failures_have_goals_by_passes, sequents_are_sorted};
 use crate::tally::Tally;
 use bpl_blocks::to_blocks;
-use bpl_model::{Module, Parts, Proc, Variables};
+use bpl_model::{Links, Module, Parts, Proc, Variables};
 use call_cut::cut_calls;
 use logic_core::Sequence;
 use loop_cut::cut;
 use passive_form::{Passive, passify};
 use std::alloc::{AllocError, Global};
 
-// The passive graph of the procedure: its calls replaced by their contracts, its loops cut.
-fn passive_graph(alloc: Global, module: &Module, proc: &Proc) -> Result<Passive, AllocError>
-    requires there { Contains «module».now.procs proc.now }
+/// The passive graph of the procedure: its calls replaced by their contracts, its loops cut.
+pub fn passive_graph(alloc: Global, links: &Links<'_>, proc: &Proc) -> Result<Passive, AllocError>
+    requires there { Contains links.now.procs proc.now }
     requires no_goto { BodyHasNoGoto proc.now.body }
-    ensures { IfOk result (λ g. g ≡ passive_graph «module».now proc.now) }
+    ensures { IfOk result (λ g. g ≡ passive_graph links.now proc.now) }
 {
-    let proc = cut_calls(alloc, module, proc)?;
-    let graph = cut(alloc, &to_blocks(alloc, module, &proc)?)?;
-    let variables = Variables::of(alloc, module.parts(), &proc)?;
+    let proc = cut_calls(alloc, links.module(), proc)?;
+    let graph = cut(alloc, &to_blocks(alloc, links, &proc)?)?;
+    let variables = Variables::of(alloc, links.parts(), &proc)?;
     passify(alloc, &graph, variables.sorts.as_slice())
 }
 
@@ -39,18 +39,18 @@ fn passive_graph(alloc: Global, module: &Module, proc: &Proc) -> Result<Passive,
 fn add_body(
     alloc: Global,
     tally: &mut Tally,
-    module: &Module,
+    links: &Links<'_>,
     proc: &Proc,
 ) -> Result<(), BuildFault>
-    requires there { Contains «module».now.procs proc.now }
+    requires there { Contains links.now.procs proc.now }
     requires no_goto { BodyHasNoGoto proc.now.body }
-    ensures added { OnOk result (tally.new ≡ tally.old ++ goals_of_graph (passive_graph «module».now proc.now) (defs_of «module».now) (reached_axioms «module».now proc.now)) }
-    ensures fault { IfErr result (IsFaultOf (tally.old ++ goals_of_graph (passive_graph «module».now proc.now) (defs_of «module».now) (reached_axioms «module».now proc.now))) }
+    ensures added { OnOk result (tally.new ≡ tally.old ++ goals_of_graph (passive_graph links.now proc.now) (defs_of links.now) (reached_axioms links.now proc.now)) }
+    ensures fault { IfErr result (IsFaultOf (tally.old ++ goals_of_graph (passive_graph links.now proc.now) (defs_of links.now) (reached_axioms links.now proc.now))) }
 {
     sequents_are_sorted();
-    let passive = passive_graph(alloc, module, proc)?;
-    let defs = module.parts().defs(alloc)?;
-    let axioms = reached_axioms(alloc, module, proc)?;
+    let passive = passive_graph(alloc, links, proc)?;
+    let defs = links.parts().defs(alloc)?;
+    let axioms = reached_axioms(alloc, links, proc)?;
     add_graph(alloc, tally, &passive, &defs, &axioms)
 }
 
@@ -58,21 +58,33 @@ fn add_body(
 pub fn add_goals(
     alloc: Global,
     tally: &mut Tally,
-    module: &Module,
+    links: &Links<'_>,
     proc: &Proc,
 ) -> Result<(), BuildFault>
-    requires there { Contains «module».now.procs proc.now }
+    requires there { Contains links.now.procs proc.now }
     requires no_goto { BodyHasNoGoto proc.now.body }
-    ensures added { OnOk result (tally.new ≡ tally.old ++ goals_by_passes «module».now proc.now) }
-    ensures fault { IfErr result (IsFaultOf (tally.old ++ goals_by_passes «module».now proc.now)) }
+    ensures added { OnOk result (tally.new ≡ tally.old ++ goals_by_passes links.now proc.now) }
+    ensures fault { IfErr result (IsFaultOf (tally.old ++ goals_by_passes links.now proc.now)) }
 {
     match &proc.body {
         None => Ok(()),
-        Some(_) => add_body(alloc, tally, module, proc),
+        Some(_) => add_body(alloc, tally, links, proc),
     }
 }
 
 // The goals of the procedure, within the limits.
+fn goals_over(alloc: Global, links: &Links<'_>, proc: &Proc) -> Result<Sequence<Goal>, BuildFault>
+    requires there { Contains links.now.procs proc.now }
+    requires no_goto { BodyHasNoGoto proc.now.body }
+    ensures goals { IfOk result (λ gs. gs ≡ goals_by_passes links.now proc.now) }
+    ensures within { IfOk result (λ gs. large gs ≡ None) }
+    ensures fault { IfErr result (IsFaultOf (goals_by_passes links.now proc.now)) }
+{
+    let mut tally = Tally::new(alloc);
+    add_goals(alloc, &mut tally, links, proc)?;
+    Ok(tally.into_goals())
+}
+
 fn goals_of(alloc: Global, module: &Module, proc: &Proc) -> Result<Sequence<Goal>, BuildFault>
     requires there { Contains «module».now.procs proc.now }
     requires no_goto { BodyHasNoGoto proc.now.body }
@@ -80,9 +92,8 @@ fn goals_of(alloc: Global, module: &Module, proc: &Proc) -> Result<Sequence<Goal
     ensures within { IfOk result (λ gs. large gs ≡ None) }
     ensures fault { IfErr result (IsFaultOf (goals_by_passes «module».now proc.now)) }
 {
-    let mut tally = Tally::new(alloc);
-    add_goals(alloc, &mut tally, module, proc)?;
-    Ok(tally.into_goals())
+    let links = Links::of(alloc, module)?;
+    goals_over(alloc, &links, proc)
 }
 
 // The procedure of this number, if there is one.

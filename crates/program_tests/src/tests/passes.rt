@@ -10,7 +10,7 @@ use block_wp::equations;
 use bpl_blocks::to_blocks;
 use bpl_goto::remove_gotos;
 use bpl_model::reach::reached_by;
-use bpl_model::{Module, Proc, Variables};
+use bpl_model::{Links, Module, Proc, Variables};
 use call_cut::cut_calls;
 use logic_core::{Def, Signature};
 use loop_cut::cut;
@@ -43,7 +43,8 @@ fn passive_form_of(alloc: Global, module: &Module, proc: &Proc) -> Result<Passiv
     requires no_goto { BodyHasNoGoto proc.now.body }
 {
     let replaced = cut_calls(alloc, module, proc)?;
-    let graph = cut(alloc, &to_blocks(alloc, module, &replaced)?)?;
+    let links = Links::of(alloc, module)?;
+    let graph = cut(alloc, &to_blocks(alloc, &links, &replaced)?)?;
     let variables = Variables::of(alloc, module.parts(), &replaced)?;
     passify(alloc, &graph, variables.sorts.as_slice())
 }
@@ -109,8 +110,9 @@ fn names_reach_declarations(rt: HostRuntime) -> Result<(), Fail> {
     let Some(proc) = module.parts().procs.get(1) else {
         panic!(rt; "a procedure is missing");
     };
+    let links = Links::of(alloc, &module)?;
     assert_eq!(rt;
-        reached_by(alloc, &module, proc)?.as_slice(),
+        reached_by(alloc, &links, proc)?.as_slice(),
         [0, 1, 2, 3, 4].as_slice()
     );
     Ok(())

@@ -10,7 +10,7 @@ use Rattle.bpl_blocks.proofs.entry.push_entry.Goals as goal
 
 pub returns : goal.returns
 returns c =
-    let m = c.args.module.now in
+    let m = c.args.links.now in
     let p = c.args.proc.now in
     let cs = c.args.commands.now.items in
     let ins : c.as_slice.result.now ≡ p.ins = grind (arith, common_steps) in

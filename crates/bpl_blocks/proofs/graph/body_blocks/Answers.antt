@@ -14,7 +14,7 @@ use Rattle.bpl_blocks.proofs.graph.body_blocks.Goals as goal
 
 pub returns : goal.returns
 returns c =
-    let m = c.args.module.now in
+    let m = c.args.links.now in
     let p = c.args.p.now in
     let ss = stmts_of c.args.body.now in
     let S = c.in_ok-setting.setting in

@@ -10,7 +10,7 @@ use Rattle.bpl_blocks.proofs.graph.to_blocks.Goals as goal
 
 keeps : (c : goal.After-of-2) → KeepsEntryValues c.of.result c.of-2.result
 keeps c =
-    let m = c.args.module.now in
+    let m = c.args.links.now in
     let typed = subst IsTypedModule c.parts-parts.ensures.same c.parts-parts.ensures.typed in
     let blocks = c.of.ensures ∙ c.in_ok-blocks.ensures in
     let olds = c.of-2.ensures ∙ (c.in_ok-olds.ensures ∙ ap olds_of c.parts-parts.ensures.same) in
@@ -27,7 +27,7 @@ new-requires-clause-never_target c = (keeps c).never_target
 
 pub returns-clause-kept : goal.returns-clause-kept
 returns-clause-kept c =
-    let m = c.args.module.now in
+    let m = c.args.links.now in
     let p = c.args.p.now in
     let same = c.parts-parts.ensures.same in
     let graph : c.new.result ≡ to_blocks m p =

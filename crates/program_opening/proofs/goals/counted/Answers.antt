@@ -9,14 +9,14 @@ use Rattle.program_opening.proofs.goals.counted.Goals as goal
 
 pub returns-in_err-add_counted-clause-fault : goal.returns-in_err-add_counted-clause-fault
 returns-in_err-add_counted-clause-fault c =
-    let m = c.args.plain.now in
+    let m = c.args.links.now in
     let i = c.loop-i.i in
     let p = c.index.result.now in
     let all = flat_map (goals_by_passes m) m.procs in
     let fault = c.in_err-add_counted.field-0.0 in
-    let same : c.behind-plain.inside.procs.items ≡ m.procs = ap (λ (x : Module). x.procs) (c.behind-plain.view_is ∙ c.parts.ensures.same) in
+    let same : c.behind-links.inside.procs.items ≡ m.procs = ap (λ (x : Module). x.procs) (c.behind-links.view_is ∙ c.parts.ensures.same) in
     let below : i < length m.procs = let end = c.len-i-end.ensures in omega (arith, c.loop-i-test.true, end, ap length same) in
-    let next : drop i m.procs ≡ p ∷ drop (suc i) m.procs = here m.procs c.behind-plain.inside.procs.items i p p same below c.index.ensures in
+    let next : drop i m.procs ≡ p ∷ drop (suc i) m.procs = here m.procs c.behind-links.inside.procs.items i p p same below c.index.ensures in
     at_exit (IsFaultOf all) c.from_residual.result fault c.from_residual.ensures.1
     (fault_before c.loop-i.tally (goals_by_passes m p) (flat_map (goals_by_passes m) (drop (suc i) m.procs)) all fault
     (ap (λ gs. c.loop-i.tally ++ gs) (sym (ap (flat_map (goals_by_passes m)) next)) ∙ c.loop-i.invariant.goals) c.in_err-add_counted.ensures.fault)

@@ -9,7 +9,7 @@ use Rattle.vc_build.proofs.axioms.reached_axioms.Goals as goal
 
 pub returns : goal.returns
 returns c =
-    let m = c.args.module.now in
+    let m = c.args.links.now in
     let reached = reached_by m c.args.proc.now in
     let texts : c.deref.result.now ≡ m.texts = cc in
     let axioms : c.deref-3.result.now ≡ m.axioms = cc in

@@ -13,11 +13,11 @@ add_graph-requires c k at =
     let defs = c.deref.ensures.value ∙ c.in_ok-defs.ensures ∙ ap defs_of c.parts.ensures.same in
     let axioms = c.deref-2.ensures.value ∙ c.in_ok-axioms.ensures in
     subst IsWellSorted (λ i. sequent_at (sym c.in_ok-passive.ensures i) (sym defs i) (sym axioms i) k at)
-    (c.sequents_are_sorted.ensures c.args.module.now c.args.proc.now (subst IsTypedModule c.parts.ensures.same c.parts.ensures.typed) c.requires.there c.requires.no_goto k at)
+    (c.sequents_are_sorted.ensures c.args.links.now c.args.proc.now (subst IsTypedModule c.parts.ensures.same c.parts.ensures.typed) c.requires.there c.requires.no_goto k at)
 
 pub returns : goal.returns
 returns c =
-    let m = c.args.module.now in
+    let m = c.args.links.now in
     let defs = c.deref.ensures.value ∙ c.in_ok-defs.ensures ∙ ap defs_of c.parts.ensures.same in
     let axioms = c.deref-2.ensures.value ∙ c.in_ok-axioms.ensures in
     let same : goals_of_graph c.in_ok-passive.passive c.deref.result.now c.deref-2.result.now ≡ goals_of_graph (passive_graph m c.args.proc.now) (defs_of m) (reached_axioms m c.args.proc.now)
