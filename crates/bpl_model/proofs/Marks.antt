@@ -1,14 +1,14 @@
 -- What has a mark, and what is new, after positions got marks.
-use Rattle.std.specs.Prelude.{◌≡◌, refl, ◌⊎◌, ℕ, zero, suc, ◌+◌, ◌<◌, ◌≤◌, ◌==◌, Bool, true, false, cond, ◌||◌, List, [], ◌∷◌, ◌++◌, length, filter, slice_index_or, slice_set, bytes_eq}
-use Rattle.std.specs.List.{list_any, flat_map, range_with_len}
+use Rattle.std.specs.Prelude.{◌≡◌, refl, ◌⊎◌, ℕ, zero, suc, ◌+◌, ◌<◌, ◌==◌, Bool, true, false, cond, ◌||◌, List, [], ◌∷◌, ◌++◌, length, slice_index_or, slice_set}
+use Rattle.std.specs.List.{list_any, flat_map}
 use Rattle.std.proofs.Common.{arith, sym, ap, ◌∙◌, subst, get_or, drop, length-set, get_or-set_same, get_or-set_other}
-use Rattle.std.proofs.lemmas.Bool.{eqb-true, eqb-false, eq-eqb, or_cases, or_left, or_right, cases_lt}
-use Rattle.std.proofs.lemmas.List.{get_or_default, get_or_past, at_drop_more, append-nil}
+use Rattle.std.proofs.lemmas.Bool.{eqb-true, eqb-false, or_cases, or_left, or_right, cases_lt}
+use Rattle.std.proofs.lemmas.List.{get_or_default, get_or_past, at_drop_more}
 use mathlib.Core.Logic.{inl, inr}
 use Rattle.bpl_model.specs.Module.{DeclText}
-use Rattle.bpl_model.specs.Marking.{Marking, is_marked, mark, mark_all, settled, follow, follow_on}
+use Rattle.bpl_model.specs.Marking.{Marking, is_marked, mark, mark_all, settled, follow_on}
 use Rattle.bpl_model.specs.Walk.{text_at, row, on}
-use Rattle.bpl_model.proofs.Members.{In, agree, none_in, in_either, in_left, in_right}
+use Rattle.bpl_model.proofs.Members.{In, in_either, in_left, in_right}
 
 pub within_marks : (ms : List Bool) (e : ℕ) → is_marked ms e ≡ true → e < length ms
 within_marks [] e h = let c : false ≡ true = h in absurd cc

@@ -1,8 +1,8 @@
 -- On numbers that are among others.
-use Rattle.std.specs.Prelude.{◌≡◌, refl, ◌⊎◌, ℕ, zero, suc, ◌+◌, ◌<◌, ◌≤◌, ◌==◌, Bool, true, false, cond, ◌||◌, ◌&&◌, List, [], ◌∷◌, ◌++◌, filter, length}
+use Rattle.std.specs.Prelude.{◌≡◌, refl, ◌⊎◌, ℕ, zero, suc, ◌+◌, ◌<◌, ◌≤◌, ◌==◌, Bool, true, false, cond, ◌||◌, ◌&&◌, List, [], ◌∷◌, ◌++◌, filter}
 use Rattle.std.specs.List.{list_any, range_with_len, flat_map}
 use Rattle.std.proofs.Common.{arith, sym, ap, ◌∙◌, subst}
-use Rattle.std.proofs.lemmas.Bool.{eqb-true, eq-eqb, or_cases, or_left, or_right, and_parts, and_from}
+use Rattle.std.proofs.lemmas.Bool.{eqb-true, eq-eqb, or_cases, or_left, or_right}
 use Rattle.std.proofs.lemmas.List.Folds.{list_any-append}
 use mathlib.Core.Logic.{inl, inr}
 

@@ -1,5 +1,5 @@
 -- What is among names that were put in one after another.
-use Rattle.std.specs.Prelude.{◌≡◌, refl, ℕ, suc, ◌+◌, ◌≤◌, Bool, true, false, cond, nat_lt, ◌||◌, if◌then◌else◌, List, [], ◌∷◌, ◌++◌, map, length, bytes_eq, Some, None, position}
+use Rattle.std.specs.Prelude.{◌≡◌, refl, ℕ, ◌+◌, ◌≤◌, Bool, true, false, cond, nat_lt, ◌||◌, if◌then◌else◌, List, [], ◌∷◌, ◌++◌, length, bytes_eq, Some, None, position}
 use Rattle.std.specs.Borrow.{Bor}
 use Rattle.std.specs.List.{list_any, position_or_len}
 use Rattle.std.specs.Option.{unwrap_or}

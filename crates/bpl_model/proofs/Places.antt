@@ -1,6 +1,6 @@
 -- The row of a name has the positions of the declarations that have it.
-use Rattle.std.specs.Prelude.{◌≡◌, refl, ℕ, zero, suc, ◌+◌, ◌<◌, ◌≤◌, ◌==◌, Bool, true, false, cond, ◌||◌, List, [], ◌∷◌, ◌++◌, map, length, filter, bytes_eq}
-use Rattle.std.specs.List.{list_any, range_with_len}
+use Rattle.std.specs.Prelude.{◌≡◌, refl, ℕ, suc, ◌+◌, ◌<◌, ◌≤◌, ◌==◌, Bool, true, false, cond, ◌||◌, List, [], ◌∷◌, ◌++◌, length, filter, bytes_eq}
+use Rattle.std.specs.List.{list_any}
 use Rattle.std.proofs.Common.{arith, sym, ap, ◌∙◌, subst, get_or, length-set, get_or-set_same, get_or-set_other, append_assoc}
 use Rattle.std.proofs.lemmas.Bool.{eqb-true, eqb-false, eq-eqb, or_parts, cases_lt}
 use Rattle.std.proofs.lemmas.List.{length-replicate, append-nil, get_or_past}
@@ -8,7 +8,7 @@ use Rattle.std.proofs.lemmas.Slice.Eq.{bytes_eq-Decides}
 use mathlib.Core.Logic.{inl, inr}
 use lib.ListN.{replicate}
 use Rattle.bpl_model.specs.Module.{Name, DeclText, Module}
-use Rattle.bpl_model.specs.Names.{with_names, place}
+use Rattle.bpl_model.specs.Names.{place}
 use Rattle.bpl_model.specs.Reach.{is_named, positions}
 use Rattle.bpl_model.specs.Walk.{text_at, row, with_entry}
 use Rattle.bpl_model.specs.Links.{with_places, named_rows, declared}

@@ -1,10 +1,10 @@
 -- What names reach, by marks: each declaration that is reached leads on once.
 use Rattle.std.specs.Prelude.{ℕ, nat_eq, Bool, ◌&&◌, cond, List, [], ◌∷◌, ◌++◌, map, length, filter, slice_index_or, slice_set, codes, bytes_eq, Vec}
 use Rattle.std.specs.declared.alloc.Global.{Global}
-use Rattle.std.specs.List.{list_any, flat_map, range_with_len}
+use Rattle.std.specs.List.{list_any, flat_map}
 use lib.ListN.{replicate}
 use Rattle.bpl_model.specs.Module.{Name, DeclText}
-use Rattle.bpl_model.specs.Marking.{Marking, unmarked, mark_all, settled, follow, follow_on}
+use Rattle.bpl_model.specs.Marking.{Marking, unmarked, mark_all, follow, follow_on}
 
 abbrev pub text_at : List DeclText → ℕ → DeclText
 text_at ts d = slice_index_or ts d (record { name = []; text = []; contract = []; leads = []; contract_leads = [] })

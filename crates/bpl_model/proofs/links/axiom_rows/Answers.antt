@@ -1,4 +1,4 @@
-use Rattle.std.proofs.Common.{◌≡◌, ◌∙◌, [], ap, map, filter, length, arith}
+use Rattle.std.proofs.Common.{◌≡◌, ◌∙◌, ap, map, filter, length, arith}
 use Rattle.std.specs.List.{range_with_len}
 use Rattle.std.proofs.lemmas.Grind.{common_steps}
 use Rattle.bpl_model.specs.Names.{with_names}

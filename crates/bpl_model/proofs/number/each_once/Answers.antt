@@ -1,4 +1,4 @@
-use Rattle.std.proofs.Common.{◌≡◌, ◌++◌, [], ◌∷◌, ℕ, Vec, get_or, sym, ap, ◌∙◌, arith}
+use Rattle.std.proofs.Common.{◌++◌, [], ◌∷◌, get_or, sym, ap, ◌∙◌, arith}
 use Rattle.bpl_model.proofs.RisingNumbers.{inside_none, step_new, step_again, step_out}
 use Rattle.bpl_model.proofs.number.each_once.Goals as goal
 use Rattle.bpl_model.proofs.number.each_once.Goals.{then-low-x+then-x-low+then-is_first+in_ok-push, else-low-x, else-low-x-via-then-low-x+then-x-low+else-is_first, else-low-x-via-then-low-x+else-x-low, else-low-x-via-else-low-x}

@@ -1,7 +1,7 @@
 use Rattle.std.proofs.Common.{◌≡◌, ◌∙◌, ◌+◌, drop, ap, sym, get_or}
 use Rattle.std.specs.List.{flat_map}
 use Rattle.bpl_model.specs.Marking.{mark_all}
-use Rattle.bpl_model.specs.Walk.{on, row, rows_of, text_at}
+use Rattle.bpl_model.specs.Walk.{on, rows_of, text_at}
 use Rattle.bpl_model.proofs.Marks.{follow_step}
 use Rattle.bpl_model.proofs.walk.follow.Goals as goal
 

@@ -1,11 +1,11 @@
-use Rattle.std.proofs.Common.{◌≡◌, ◌∙◌, [], ap, sym, map, length, arith}
+use Rattle.std.proofs.Common.{◌≡◌, ◌∙◌, [], ap, map, length, arith}
 use Rattle.std.specs.List.{range_with_len}
 use Rattle.std.proofs.lemmas.Grind.{common_steps}
 use Rattle.bpl_model.specs.Module.{DeclText}
 use Rattle.std.specs.Prelude.{List}
 use Rattle.bpl_model.specs.Names.{with_names}
 use Rattle.bpl_model.specs.Reach.{positions}
-use Rattle.bpl_model.specs.Walk.{rows_of, text_at}
+use Rattle.bpl_model.specs.Walk.{text_at}
 use Rattle.bpl_model.specs.Links.{declared, free, mentions, named_rows}
 use Rattle.bpl_model.proofs.links.Links.of.Goals as goal
 

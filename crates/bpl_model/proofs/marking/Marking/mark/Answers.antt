@@ -1,4 +1,4 @@
-use Rattle.std.proofs.Common.{◌≡◌, ◌∙◌, ◌<◌, ◌≤◌, ap, sym, arith}
+use Rattle.std.proofs.Common.{◌∙◌, ◌<◌, ◌≤◌, ap, sym, arith}
 use Rattle.bpl_model.specs.Marking.{mark}
 use Rattle.bpl_model.proofs.MarksOf.{mark_put, mark_kept, mark_past}
 use Rattle.bpl_model.proofs.marking.Marking.mark.Goals as goal

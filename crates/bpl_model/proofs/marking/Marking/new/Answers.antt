@@ -1,4 +1,4 @@
-use Rattle.std.proofs.Common.{◌≡◌, ◌∙◌, ap}
+use Rattle.std.proofs.Common.{◌∙◌, ap}
 use Rattle.bpl_model.specs.Marking.{marks_of}
 use Rattle.bpl_model.proofs.MarksOf.{none_are}
 use Rattle.bpl_model.proofs.marking.Marking.new.Goals as goal
