@@ -1,0 +1,7 @@
+mod Counts
+pub mod Numbered
+mod Lists
+mod Steps
+pub mod Found
+pub mod StaysTyped
+pub mod GoesForward

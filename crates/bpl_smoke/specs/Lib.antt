@@ -1,0 +1,4 @@
+pub mod Points
+pub mod Put
+pub mod Reach
+pub mod Kept
