@@ -7,14 +7,14 @@ use bpl_model::Mark;
 use program_opening::goals::SharedGoal;
 use std::alloc::{AllocError, Global};
 use tableau::ended::Verdict;
-use tableau::search::search_plain;
+use tableau::search::answer;
 
 // What the search says of a goal.
 fn verdict_on(alloc: Global, goal: &SharedGoal, turns: u64) -> Result<Verdict, AllocError>
     ensures { IfOk result (λ v. verdict_of v ≡ verdict_on turns goal.now) }
 {
-    let settled = search_plain(alloc, &goal.obligation, turns)?;
-    Ok(settled.verdict())
+    let found = answer(alloc, &goal.obligation, turns)?;
+    Ok(found.verdict)
 }
 
 /// What the search says of each goal.

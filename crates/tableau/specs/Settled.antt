@@ -1,24 +1,19 @@
 -- A settled question: an obligation and turns, with the search's answer.
 use Rattle.std.specs.Prelude.{◌≡◌, ℕ, zero, suc, Option, IfSome, refl}
 use Rattle.std.specs.Coded.{Coded, code_by, coded×, coded_option, coded_ℕ}
-use Rattle.logic_core.specs.Def.{Obligation}
-use Rattle.obligation_text.specs.ObligationCodes.{coded_obligation}
+use Rattle.obligation_text.specs.Asked.{Asked, coded_asked}
 use Rattle.proof_core.specs.Proof.{Proof}
 use Rattle.proof_core.specs.Codes.{coded_proof}
 use Rattle.proof_core.specs.Accepted.{IsAccepted}
 use Rattle.tableau.specs.Search.{Verdict, proved, «open», turns as no_turns, wide, answer}
 
-pub record Question : Type 0 where
-  pub obligation : Obligation
-  pub turns : ℕ
-
 pub record Settled : Type 0 where
-  pub question : Question
+  pub question : Asked
   pub verdict : Verdict
   pub found : Option Proof
 
 -- what the search answers to a question
-abbrev pub settled_by : Question → Settled
+abbrev pub settled_by : Asked → Settled
 settled_by q = let a = answer q.obligation q.turns in record { question = q; verdict = a.verdict; found = a.found }
 
 -- the verdict and the proof are the search's answer to the question, and the proof is accepted
@@ -47,8 +42,5 @@ with_number wide = refl
 abbrev coded_verdict : Coded Verdict
 coded_verdict = code_by ℕ coded_ℕ number_of verdict_with with_number
 
-abbrev coded_question : Coded Question
-coded_question = code_by (Obligation × ℕ) (coded× coded_obligation coded_ℕ) (λ q. (q.obligation, q.turns)) (λ p. record { obligation = p.0; turns = p.1 }) (λ _. refl)
-
 abbrev pub coded_settled : Coded Settled
-coded_settled = code_by (Question × (Verdict × Option Proof)) (coded× coded_question (coded× coded_verdict (coded_option coded_proof))) (λ s. (s.question, (s.verdict, s.found))) (λ p. record { question = p.0; verdict = (p.1).0; found = (p.1).1 }) (λ _. refl)
+coded_settled = code_by (Asked × (Verdict × Option Proof)) (coded× coded_asked (coded× coded_verdict (coded_option coded_proof))) (λ s. (s.question, (s.verdict, s.found))) (λ p. record { question = p.0; verdict = (p.1).0; found = (p.1).1 }) (λ _. refl)

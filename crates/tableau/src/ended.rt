@@ -1,5 +1,6 @@
 // How a search ended.
 
+use proof_core::proof::Proof;
 use tableau_branch::played::Played;
 
 /// What a search says of an obligation.
@@ -20,4 +21,11 @@ pub enum Verdict {
 pub struct Run {
     pub verdict: Verdict,
     pub moves: Vec<Played>,
+}
+
+/// What a search answers: its verdict, and the proof where that is Proved.
+#[derive(Drop)]
+pub struct Answer {
+    pub verdict: Verdict,
+    pub proof: Option<Proof>,
 }
