@@ -1,0 +1,9 @@
+pub mod Bare
+pub mod SameObligations
+pub mod Remade
+pub mod Positions
+pub mod MarksInOrder
+pub mod Digested
+pub mod WithinLimits
+pub mod Programs
+pub mod KeptGoals

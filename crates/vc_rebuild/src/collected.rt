@@ -1,0 +1,96 @@
+// Procedures, as long as their goals exceed no limit.
+ghost use Rattle.std.specs.Prelude.{◌≡◌, ◌∷◌, [], ◌++◌, true, None, OnOk, sum};
+ghost use Rattle.logic_core.specs.Size.{capped};
+ghost use Rattle.vc_build.specs.Large.{large, sizes_of};
+ghost use Rattle.vc_rebuild.specs.Kept.{all_goals};
+ghost use Rattle.vc_rebuild.specs.Within.{are_within};
+
+use crate::kept::BuiltProc;
+use crate::shared::SharedGoal;
+use std::alloc::{AllocError, Global};
+use std::marker::Model;
+
+const COUNT_LIMIT: u64 = 65_536;
+
+const BYTE_LIMIT: u64 = 67_108_864;
+
+// The bytes of the texts of the goals' obligations, or 2^64 - 1 where these are more.
+#[tactic(auto, using(crate::proofs::WithinLimits::size_first))]
+fn bytes_of(goals: &[SharedGoal]) -> u64
+    ensures { result ≡ capped (sum (sizes_of goals.now)) }
+{
+    let mut bytes: u64 = 0;
+    for goal in goals {
+        bytes = bytes.saturating_add(goal.text().len() as u64);
+    }
+    bytes
+}
+
+/// Procedures whose goals together exceed no limit.
+#[derive(Drop)]
+pub struct Collected {
+    procs: Vec<BuiltProc>,
+    // how many goals they have
+    count: u64,
+    // of the texts of the goals' obligations
+    bytes: u64,
+}
+
+impl Model for Collected {
+    ghost use Rattle.std.specs.Prelude.{◌≡◌, ◌≤◌, List, length, sum};
+    ghost use Rattle.std.specs.Coded.{coded_list};
+    ghost use Rattle.vc_build.specs.Large.{count_limit, byte_limit, sizes_of};
+    ghost use Rattle.vc_rebuild.specs.declared.kept.BuiltProc.{BuiltProc as kept_proc};
+    ghost use Rattle.vc_rebuild.specs.contracts.kept.BuiltProc as proc_row;
+    ghost use Rattle.vc_rebuild.specs.Kept.{all_goals};
+
+    ghost Value = { List kept_proc };
+
+    ghost coded = { coded_list proc_row.the_row.coded };
+
+    ghost view = { λ a. a.procs.items };
+
+    ghost invariant = { λ a. (a.count ≡ length (all_goals a.procs.items)) × (a.bytes ≡ sum (sizes_of (all_goals a.procs.items))) × (a.count ≤ count_limit) × (a.bytes ≤ byte_limit) };
+}
+
+impl Collected {
+    /// No procedures.
+    pub fn new(alloc: Global) -> Collected
+        ensures { result ≡ [] }
+    {
+        Collected {
+            procs: Vec::new(alloc),
+            count: 0,
+            bytes: 0,
+        }
+    }
+
+    /// Whether no limit is exceeded with these goals behind.
+    #[tactic(auto, using(crate::proofs::WithinLimits::room_for))]
+    pub fn has_room(&self, goals: &[SharedGoal]) -> bool
+        ensures { result ≡ are_within (all_goals self.now ++ goals.now) }
+    {
+        goals.len() as u64 <= COUNT_LIMIT - self.count && bytes_of(goals) <= BYTE_LIMIT - self.bytes
+    }
+
+    /// One procedure more, for whose goals there is room.
+    pub fn push(&mut self, proc: BuiltProc) -> Result<(), AllocError>
+        requires { are_within (all_goals self.old ++ proc.goals) ≡ true }
+        ensures { OnOk result (self.new ≡ self.old ++ proc ∷ []) }
+    {
+        let count = self.count.saturating_add(proc.goals.len() as u64);
+        let bytes = self.bytes.saturating_add(bytes_of(proc.goals.as_slice()));
+        self.procs.push(proc)?;
+        self.count = count;
+        self.bytes = bytes;
+        Ok(())
+    }
+
+    /// The procedures, whose goals exceed no limit.
+    pub fn into_procs(self) -> Vec<BuiltProc>
+        ensures same { result.items ≡ self }
+        ensures within { large (all_goals result.items) ≡ None }
+    {
+        self.procs
+    }
+}
