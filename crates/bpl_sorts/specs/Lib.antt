@@ -1,0 +1,12 @@
+pub mod Types
+pub mod Apart
+pub mod TypeNames
+pub mod Typed
+pub mod Exchange
+pub mod ExchangeLaws
+pub mod UserTypes
+pub mod Erased
+pub mod Readings
+pub mod ReadingLaws
+pub mod Views
+pub mod CarrierFaults

@@ -1,0 +1,54 @@
+// The first place at which carriers are taken for something else.
+ghost use Rattle.std.specs.Prelude.{◌≡◌, None, IfOk, IfErr};
+ghost use Rattle.bpl_declaration_faults.specs.DeclFaults.{fault_of};
+ghost use Rattle.bpl_sorts.specs.Erased.{erased};
+ghost use Rattle.bpl_sorts.specs.CarrierFaults.{carrier_fault, IsCarrierFault};
+
+use crate::erased::tell_apart;
+use bpl_ast::Program;
+use bpl_first_fault::first_fault;
+use bv_base::place::Place;
+use std::alloc::{AllocError, Global};
+use thiserror::Error;
+
+/// Why the carriers of a program's user types are not told from other values.
+#[derive(Clone, Copy, PartialEq, Eq, Debug, Drop, Error)]
+pub enum CarrierFault {
+    /// At this place of this declaration stands something of another type than its place needs, or
+    /// a user type as a map's domain.
+    #[error("a user type is taken for another type")]
+    Carrier { decl: usize, at: Place },
+    /// Memory ran out.
+    #[error("out of memory")]
+    Memory,
+}
+
+impl From<AllocError> for CarrierFault {
+    ghost use Rattle.bpl_sorts.specs.declared.carriers.CarrierFault.TheVariants.{Memory};
+
+    ghost from_gives = { λ _ e. e ≡ Memory };
+
+    fn from(_: AllocError) -> CarrierFault {
+        CarrierFault::Memory
+    }
+}
+
+/// Whether the program takes carriers for carriers of their own user type alone. Where the erased
+/// program has no fault, user types are different from `int` and from each other; the fault is the
+/// first by declaration and place at which an operand, argument, right side, index or condition has
+/// another type than its place needs, an implementation has parameters of other types, or a map's
+/// domain is a user type. `Memory` comes where memory runs out, and may come in place of any answer.
+pub fn check_carriers(alloc: Global, program: &Program) -> Result<(), CarrierFault>
+    requires { fault_of (erased program.now) ≡ None }
+    ensures faultless { IfOk result (λ _. carrier_fault program.now ≡ None) }
+    ensures fault { IfErr result (IsCarrierFault program.now) }
+{
+    let apart = tell_apart(alloc, program)?;
+    match first_fault(alloc, &apart.decls)? {
+        Some(fault) => Err(CarrierFault::Carrier {
+            decl: fault.decl,
+            at: fault.at,
+        }),
+        None => Ok(()),
+    }
+}
