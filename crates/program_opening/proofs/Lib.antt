@@ -3,3 +3,4 @@ pub mod OwnNames
 pub mod Sound
 pub mod Openings
 pub mod Counted
+pub mod Spelled

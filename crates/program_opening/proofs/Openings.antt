@@ -19,13 +19,16 @@ use Rattle.fault_text.specs.Written.{Written}
 use Rattle.program_faults.specs.WrittenFault.{decl_fault}
 use Rattle.program_faults.specs.FaultView.{IsWrittenOf, SourcesAreShort}
 use Rattle.program_faults.proofs.InText.{sources_short}
-use Rattle.program_opening.specs.Opening.{program, refused, opening, size_fault, unless_large, unless_fault}
+use Rattle.program_opening.specs.Opening.{program, refused, Typing, typed, ill_typed, typing_by, typing, opening, size_fault, unless_large, within_limits}
 use Rattle.program_opening.specs.OpenedView.{IsOpened, IsOpenedText}
 use Rattle.program_opening.specs.declared.opening.Opened.{Opened}
 use Rattle.program_opening.specs.declared.opening.Opened.TheVariants as opened
 
-pub faulty_is : (ds : List Decl) (p : ℕ × Fault) (w : Written) → fault_of ds ≡ Some p → w ≡ decl_fault ds p → opening ds ≡ refused w
-faulty_is ds p w e is = ap (unless_fault ds) e ∙ ap refused (sym is)
+pub faulty_is : (ds : List Decl) (p : ℕ × Fault) (w : Written) → fault_of ds ≡ Some p → w ≡ decl_fault ds p → typing ds ≡ ill_typed w
+faulty_is ds p w e is = ap (typing_by ds) e ∙ ap ill_typed (sym is)
+
+pub faultless_is : (ds : List Decl) (m : Module) → fault_of ds ≡ None → m ≡ module_of ds → typing ds ≡ typed m
+faultless_is ds m e is = ap (typing_by ds) e ∙ ap typed (sym is)
 
 pub large_is : (m : Module) (what : Measure) (number : ℕ) (w : Written) → program_large m ≡ Some (what, number) → w ≡ size_fault what number → unless_large m (program_large m) ≡ refused w
 large_is m what number w found is = ap (unless_large m) found ∙ ap refused (sym is)
@@ -57,9 +60,17 @@ of_large : (m n : Module) (o : Option (Measure × ℕ)) → program m ≡ unless
 of_large m n None h = cc
 of_large m n (Some p) h = absurd (cc)
 
-of_fault : (ds : List Decl) (m : Module) (o : Option (ℕ × Fault)) → fault_of ds ≡ o → program m ≡ unless_fault ds o → (fault_of ds ≡ None) × (m ≡ module_of ds)
-of_fault ds m None e h = (e, of_large m (module_of ds) (program_large (module_of ds)) h)
+of_typing : (m : Module) (t : Typing) → program m ≡ within_limits t → t ≡ typed m
+of_typing m (typed n) h = ap typed (sym (of_large m n (program_large n) h))
+of_typing m (ill_typed w) h = absurd (cc)
+
+-- their module is that by names and sorts
+pub typed_of : (ds : List Decl) (m : Module) → program m ≡ opening ds → typing ds ≡ typed m
+typed_of ds m h = of_typing m (typing ds) h
+
+of_fault : (ds : List Decl) (m : Module) (o : Option (ℕ × Fault)) → fault_of ds ≡ o → typing_by ds o ≡ typed m → (fault_of ds ≡ None) × (m ≡ module_of ds)
+of_fault ds m None e h = (e, cc)
 of_fault ds m (Some p) e h = absurd (cc)
 
 pub program_of : (ds : List Decl) (m : Module) → program m ≡ opening ds → (fault_of ds ≡ None) × (m ≡ module_of ds)
-program_of ds m h = of_fault ds m (fault_of ds) refl h
+program_of ds m h = of_fault ds m (fault_of ds) refl (typed_of ds m h)

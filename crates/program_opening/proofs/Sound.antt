@@ -5,19 +5,19 @@ use Rattle.bpl_ast.specs.Statement.{Decl}
 use Rattle.bpl_model.specs.Module.{Module}
 use Rattle.module_laws.specs.ModuleLaws.{FaultlessIsTyped, FaultlessGoesForward}
 use Rattle.vc_build.specs.Sound.{ValidGoalsAreSafe}
-use Rattle.program_opening.specs.Opening.{program, opening}
-use Rattle.program_opening.specs.Laws.{IsSound, ModulesAreSound, ProgramsAreSound}
+use Rattle.program_opening.specs.Opening.{program}
+use Rattle.program_opening.specs.Laws.{IsSound, DeclaredModulesAreSound, ModulesAreSound, ProgramsAreSound}
 use Rattle.program_opening.proofs.Openings.{program_of}
 use Rattle.program_opening.proofs.OwnNames.{own_names}
 
-of_decls : FaultlessIsTyped → FaultlessGoesForward → (ds : List Decl) (m : Module) → program m ≡ opening ds → IsSound m
-of_decls typed forward ds m h =
-    let found = program_of ds m h in
+pub declared_modules_are_sound : FaultlessIsTyped → FaultlessGoesForward → DeclaredModulesAreSound
+declared_modules_are_sound typed forward ds m h =
+    let found = program_of ds m (sym h) in
     subst IsSound (sym found.1) (record { typed = typed ds found.0; forward = forward ds found.0; own_names = own_names ds found.0 })
 
-pub modules_are_sound : FaultlessIsTyped → FaultlessGoesForward → ModulesAreSound
-modules_are_sound typed forward text m (inl s) = of_decls typed forward s.decls m s.is
-modules_are_sound typed forward text m (inr f) = absurd (let never = f.is in cc)
+pub modules_are_sound : DeclaredModulesAreSound → ModulesAreSound
+modules_are_sound sound text m (inl s) = sound s.decls m (sym s.is)
+modules_are_sound sound text m (inr f) = absurd (let never = f.is in cc)
 
 pub programs_are_sound : ModulesAreSound → ValidGoalsAreSafe → ProgramsAreSound
 programs_are_sound sound safe text m p opens there valid =

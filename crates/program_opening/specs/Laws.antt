@@ -2,12 +2,13 @@
 use Rattle.std.specs.Prelude.{◌≡◌, ℕ, List, slice_get, Some, Contains}
 use Rattle.std.specs.List.{AllByRecursion}
 use Rattle.logic_core.specs.Valid.{Valid}
+use Rattle.bpl_ast.specs.Statement.{Decl}
 use Rattle.bpl_model.specs.Module.{Proc, Module}
 use Rattle.bpl_model.specs.Typed.{IsTypedModule}
 use Rattle.bpl_model.specs.Safe.{Safe}
 use Rattle.bpl_goto.specs.Forward.{AllGoForward}
 use Rattle.vc_build.specs.Goals.{goals}
-use Rattle.program_opening.specs.Opening.{Opening, program, Opens}
+use Rattle.program_opening.specs.Opening.{Opening, program, opening, Opens}
 
 -- a text is one thing
 abbrev pub OpensOnce : Type 0
@@ -26,6 +27,10 @@ pub record IsSound (m : Module) : Type 0 where
   pub typed : IsTypedModule m
   pub forward : AllGoForward m
   pub own_names : HaveOwnNames m.procs
+
+-- of declarations, and of a text
+abbrev pub DeclaredModulesAreSound : Type 0
+DeclaredModulesAreSound = (ds : List Decl) (m : Module) → opening ds ≡ program m → IsSound m
 
 abbrev pub ModulesAreSound : Type 0
 ModulesAreSound = (text : List ℕ) (m : Module) → Opens text (program m) → IsSound m

@@ -1,4 +1,5 @@
 pub mod ProcGoals
 pub mod Opening
 pub mod OpenedView
+pub mod Spelled
 pub mod Laws

@@ -19,6 +19,19 @@ pub data Opening : Type 0 where
   program : Module → Opening
   refused : Written → Opening
 
+-- ---- declarations by names and sorts: their module, or their first fault as it is written
+
+pub data Typing : Type 0 where
+  typed : Module → Typing
+  ill_typed : Written → Typing
+
+abbrev pub typing_by : List Decl → Option (ℕ × Fault) → Typing
+typing_by ds (Some p) = ill_typed (decl_fault ds p)
+typing_by ds None = typed (module_of ds)
+
+abbrev pub typing : List Decl → Typing
+typing ds = typing_by ds (fault_of ds)
+
 -- ---- a program that is too large
 
 abbrev pub measure_word : Measure → List ℕ
@@ -32,13 +45,13 @@ abbrev pub unless_large : Module → Option (Measure × ℕ) → Opening
 unless_large m None = program m
 unless_large m (Some p) = refused (size_fault p.0 p.1)
 
-abbrev pub unless_fault : List Decl → Option (ℕ × Fault) → Opening
-unless_fault ds (Some p) = refused (decl_fault ds p)
-unless_fault ds None = unless_large (module_of ds) (program_large (module_of ds))
+abbrev pub within_limits : Typing → Opening
+within_limits (typed m) = unless_large m (program_large m)
+within_limits (ill_typed w) = refused w
 
--- the first fault by names and sorts, and then the limits on goals
+-- names and sorts come first, and then the limits on goals
 abbrev pub opening : List Decl → Opening
-opening ds = unless_fault ds (fault_of ds)
+opening ds = within_limits (typing ds)
 
 -- ---- what a text is
 

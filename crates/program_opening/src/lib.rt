@@ -6,12 +6,14 @@
 // The goals of a program, procedure by procedure.
 pub mod goals;
 
-// What a text is.
+// What declarations are by names and sorts, and what a text is.
 pub mod opening;
-mod size;
+pub mod size;
+pub mod typing;
 
 // That a text is one thing, and what a program's module keeps.
 pub mod laws;
 
 pub use goals::{ProcGoals, program_goals};
 pub use opening::{Opened, open};
+pub use typing::{Typed, type_check};

@@ -8,12 +8,12 @@ ghost use Rattle.program_opening.specs.OpenedView.{IsOpened, IsOpenedText};
 
 use crate::goals::{ProcGoals, program_goals};
 use crate::size::written_of_size;
+use crate::typing::{Typed, type_check};
 use bpl_ast::Program;
 use bpl_model::Module;
 use bpl_parse::{Fault, parse};
-use bpl_resolve::{ResolveFault, resolve};
 use fault_text::Written;
-use program_faults::{written_of_program, written_of_text};
+use program_faults::written_of_text;
 use std::alloc::{AllocError, Global};
 use vc_build::BuildFault;
 
@@ -47,17 +47,13 @@ fn open_module(alloc: Global, module: Module) -> Result<Opened, AllocError>
 }
 
 // What a program is.
-#[tactic(auto, using(crate::proofs::Openings::faulty_is, module_laws::proofs::GoesForward::goes_forward, program_faults::proofs::Position::fault_there))]
 fn open_program(alloc: Global, program: &Program) -> Result<Opened, AllocError>
     requires { SourcesAreShort program.now }
     ensures { IfOk result (λ o. IsOpened (opening program.now) o) }
 {
-    match resolve(alloc, program) {
-        Ok(module) => open_module(alloc, module),
-        Err(ResolveFault::Fault(fault)) => {
-            Ok(Opened::Refused(written_of_program(alloc, &program.decls, fault)?))
-        }
-        Err(ResolveFault::Memory) => Err(AllocError),
+    match type_check(alloc, program)? {
+        Typed::Module(module) => open_module(alloc, module),
+        Typed::Refused(fault) => Ok(Opened::Refused(fault)),
     }
 }
 
