@@ -1,5 +1,5 @@
 -- The procedures of a program that a text spells have names without line feed and colon.
-use Rattle.std.proofs.Common.{◌≡◌, ◌∙◌, refl, ap, subst, arith, ℕ, nat_eq, Bool, true, false, cond, ◌&&◌, ◌||◌, IsTrue, Some, None, Result, Ok, Err, List, [], ◌∷◌, ◌++◌, flat_map, if◌then◌else◌}
+use Rattle.std.proofs.Common.{◌≡◌, ◌∙◌, refl, sym, ap, subst, arith, ℕ, zero, suc, ◌<◌, get_or, length, nat_eq, Bool, true, false, cond, ◌&&◌, ◌||◌, IsTrue, Some, None, Result, Ok, Err, List, [], ◌∷◌, ◌++◌, flat_map, if◌then◌else◌}
 use Rattle.std.specs.List.{AllByRecursion, list_all}
 use Rattle.std.proofs.lemmas.List.Elements.{recursion_from_All}
 use Rattle.bv_base.specs.declared.place.Place.{Place}
@@ -12,12 +12,13 @@ use Rattle.bpl_lex.proofs.Shapes.{is_name_byte}
 use Rattle.bpl_ast.specs.Statement.{DeclBody, Decl}
 use Rattle.bpl_grammar.specs.Lexeme.{Lexeme, same_kind, lexemes}
 use Rattle.bpl_grammar.specs.Types.{IsId}
-use Rattle.bpl_grammar.specs.Programs.{DeclBody', of_const, of_unique_const, of_function, of_axiom, of_var, of_type, of_synonym, of_procedure, of_procedure_with_body, of_implementation, Decls, SpelledIn, SpellsProgram}
+use Rattle.bpl_grammar.specs.Programs.{DeclBody', of_const, of_unique_const, of_function, of_axiom, of_var, of_type, of_synonym, of_procedure, of_procedure_with_body, of_implementation, Decls, SpelledIn}
 use Rattle.bpl_grammar.specs.Programs as programs
 use Rattle.bpl_grammar.proofs.Suffixes.{Suffix, here, later, takes_suffix}
 use Rattle.bpl_scopes.specs.Scopes.{Table, table_of, Counts, no_counts, counts_after}
 use Rattle.bpl_model.specs.Module.{Proc}
 use Rattle.module_laws.specs.Elaborate.{procs_in, module_of}
+use Rattle.program_opening.specs.Spelled.{IsSpelled, AreSpelled}
 use Rattle.goal_laws.proofs.Joined.{all_join}
 use Rattle.report_text.specs.Lines.{line_feed, count, IsWithout}
 use Rattle.report_text.specs.Correct.{colon, IsName}
@@ -76,10 +77,6 @@ lexemes_of_kind : (bytes : List ℕ) (from : ℕ) (ts : List Token) → AllByRec
 lexemes_of_kind bytes from [] h = tt
 lexemes_of_kind bytes from (t ∷ ts) h = (h.0, lexemes_of_kind bytes from ts h.1)
 
-behind : (bytes : List ℕ) (ts us : List Token) → AllByRecursion (IsOfKind bytes) (ts ++ us) → AllByRecursion (IsOfKind bytes) us
-behind bytes [] us h = h
-behind bytes (t ∷ ts) us h = behind bytes ts us h.1
-
 left_of_kind : {ls us : List Lexeme} → Suffix ls us → AreOfKind ls → AreOfKind us
 left_of_kind here k = k
 left_of_kind (later s) k = left_of_kind s k.1
@@ -93,6 +90,16 @@ id_kind word h = absurd (cc)
 
 named_so : (u : Lexeme) (us : List Lexeme) → IsId u → AreOfKind (u ∷ us) → IsName u.spelling
 named_so u us h k = id_is_name u.spelling (subst (λ (j : Kind). kind_of u.spelling ≡ Some j) (id_kind u.kind h) k.0)
+
+-- ---- parts of lists of which all hold
+
+all_front : {A : Type 0} (P : A → Type 0) (xs ys : List A) → AllByRecursion P (xs ++ ys) → AllByRecursion P xs
+all_front P [] ys h = tt
+all_front P (x ∷ xs) ys h = (h.0, all_front P xs ys h.1)
+
+all_back : {A : Type 0} (P : A → Type 0) (xs ys : List A) → AllByRecursion P (xs ++ ys) → AllByRecursion P ys
+all_back P [] ys h = h
+all_back P (x ∷ xs) ys h = all_back P xs ys h.1
 
 -- ---- the procedures of declarations
 
@@ -116,11 +123,31 @@ module _ (ds : List Decl) (table : Table) (counts : Counts) where
   decls_named bytes programs.Decls.none h = tt
   decls_named bytes (programs.Decls.more t ts us b {ds = es} d e) h =
       all_join (λ (p : Proc). IsName p.name) (procs_in ds table counts b) (flat_map (λ (d : Decl). procs_in ds table counts d.body) es)
-      (decl_named (λ u. u.place) d (lexemes_of_kind bytes t.start (t ∷ (ts ++ us)) h)) (decls_named bytes e (behind bytes (t ∷ ts) us h))
+      (decl_named (λ u. u.place) d (lexemes_of_kind bytes t.start (t ∷ (ts ++ us)) h)) (decls_named bytes e (all_back (IsOfKind bytes) (t ∷ ts) us h))
 
-found_names : (bytes : List ℕ) (ds : List Decl) (o : Result (List Token) ℕ) → tokens bytes ≡ o → SpelledIn bytes o ds → AreNamed (module_of ds).procs
-found_names bytes ds (Err at) e s = absurd s
-found_names bytes ds (Ok ts) e s = decls_named ds (table_of ds) (counts_after no_counts ds) bytes s.spelled (recursion_from_All (IsOfKind bytes) ts (each_of_kind bytes 0 ts (spelled bytes ts e)))
+-- the procedures of a declaration that stands in a text
+one_named : (ds : List Decl) (table : Table) (counts : Counts) (es : List Decl) (k : ℕ) (e d : Decl)
+    → AreNamed (flat_map (λ (x : Decl). procs_in ds table counts x.body) es) → k < length es → get_or es k d ≡ e → AreNamed (procs_in ds table counts e.body)
+one_named ds table counts [] k e d h below at = absurd (omega (arith, below))
+one_named ds table counts (x ∷ es) zero e d h below at = subst (λ (y : Decl). AreNamed (procs_in ds table counts y.body)) at (all_front (λ (p : Proc). IsName p.name) (procs_in ds table counts x.body) _ h)
+one_named ds table counts (x ∷ es) (suc k) e d h below at = one_named ds table counts es k e d (all_back (λ (p : Proc). IsName p.name) (procs_in ds table counts x.body) _ h) (omega (arith, below)) at
 
-pub spelled_names : (bytes : List ℕ) (ds : List Decl) → SpellsProgram bytes ds → AllByRecursion (λ (p : Proc). IsName p.name) (module_of ds).procs
-spelled_names bytes ds s = found_names bytes ds (tokens bytes) refl s
+in_text : (ds : List Decl) (table : Table) (counts : Counts) (bytes : List ℕ) (es : List Decl) (o : Result (List Token) ℕ) → tokens bytes ≡ o → SpelledIn bytes o es
+    → AreNamed (flat_map (λ (x : Decl). procs_in ds table counts x.body) es)
+in_text ds table counts bytes es (Err at) e s = absurd s
+in_text ds table counts bytes es (Ok ts) e s = decls_named ds table counts bytes s.spelled (recursion_from_All (IsOfKind bytes) ts (each_of_kind bytes 0 ts (spelled bytes ts e)))
+
+spelled_one : (ds : List Decl) (table : Table) (counts : Counts) (d : Decl) → IsSpelled d → AreNamed (procs_in ds table counts d.body)
+spelled_one ds table counts d s =
+    let whole = in_text ds table counts s.text s.decls (tokens s.text) refl s.spelled in
+    let its : AreNamed (procs_in ds table counts s.one.body) = one_named ds table counts s.decls s.there.0 s.one s.one whole s.there.1 s.there.2 in
+    subst (λ (b : DeclBody). AreNamed (procs_in ds table counts b)) (sym s.body) its
+
+all_spelled : (ds : List Decl) (table : Table) (counts : Counts) (es : List Decl) → AreSpelled es → AreNamed (flat_map (λ (x : Decl). procs_in ds table counts x.body) es)
+all_spelled ds table counts [] h = tt
+all_spelled ds table counts (e ∷ es) h =
+    all_join (λ (p : Proc). IsName p.name) (procs_in ds table counts e.body) (flat_map (λ (x : Decl). procs_in ds table counts x.body) es)
+    (spelled_one ds table counts e h.0) (all_spelled ds table counts es h.1)
+
+pub spelled_names : (ds : List Decl) → AreSpelled ds → AllByRecursion (λ (p : Proc). IsName p.name) (module_of ds).procs
+spelled_names ds h = all_spelled ds (table_of ds) (counts_after no_counts ds) ds h

@@ -1,22 +1,30 @@
 //! What a report is worth, over the definitions alone.
-ghost use Rattle.check_report.specs.Sound.{CorrectIsSafe};
+ghost use Rattle.check_report.specs.Sound.{DeclaredCorrectIsSafe, CorrectIsSafe};
 
 use goal_laws::laws::{goals_are_sorted, proved_goals_are_valid};
-use program_opening::laws::{modules_are_sound, programs_are_sound};
+use program_opening::laws::declared_modules_are_sound;
 use report_text::laws::correct_is_proved;
 use tableau::laws::{finds_accepted, finds_where_proved};
+use vc_build::laws::valid_goals_are_safe;
 
-/// Where the line stands in a report's bytes, whole, that a procedure of the program is correct, no
+/// Where the line stands in a report's bytes, whole, that a procedure of these declarations is correct, no
 /// execution of that procedure from an entry state fails. Nothing is presumed of the turns, the search or
-/// the obligations.
-pub fn correct_is_safe()
-    ensures { CorrectIsSafe }
+/// the obligations, and of the declarations that texts have them.
+pub fn declared_correct_is_safe()
+    ensures { DeclaredCorrectIsSafe }
 {
     correct_is_proved();
     finds_accepted();
     finds_where_proved();
     goals_are_sorted();
     proved_goals_are_valid();
-    modules_are_sound();
-    programs_are_sound();
+    declared_modules_are_sound();
+    valid_goals_are_safe();
+}
+
+/// So it is of the program that a text is.
+pub fn correct_is_safe()
+    ensures { CorrectIsSafe }
+{
+    declared_correct_is_safe();
 }
