@@ -1,0 +1,9 @@
+-- What the law of edits says.
+use Rattle.std.specs.Prelude.{◌≡◌, List}
+use Rattle.bpl_ast.specs.Statement.{Decl}
+use Rattle.request_text.specs.Request.{Request}
+use Rattle.program_edits.specs.Edited.{Edited, IsEdited}
+
+-- A request makes one thing of declarations.
+abbrev pub OneEdit : Type 0
+OneEdit = (old : List Decl) (r : Request) (e f : Edited) → IsEdited old r e → IsEdited old r f → e ≡ f
