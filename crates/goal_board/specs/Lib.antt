@@ -1,0 +1,5 @@
+pub mod Calls
+pub mod Rests
+pub mod Rounds
+pub mod SoFar
+pub mod Found
