@@ -38,7 +38,7 @@ each_in P (x ∷ xs) r a h = elim (or_cases (x == r) (list_any (λ y. y == r) xs
   | inr i ↦ each_in P xs r a.1 i
 ]
 
-module _ (m : Module) (p : Proc) (typed : AllByRecursion (IsText m) m.texts) where
+module _ (m : Module) (typed : AllByRecursion (IsText m) m.texts) where
   abbrev ts : List DeclText
   ts = m.texts
 
@@ -59,9 +59,6 @@ module _ (m : Module) (p : Proc) (typed : AllByRecursion (IsText m) m.texts) whe
 
   abbrev free : List ℕ
   free = free_of m
-
-  abbrev own : List ℕ
-  own = own_leads ts (positions m) p.name
 
   is_symbol : (d : ℕ) → is_at ts symbols d ≡ is_const_or_function m d
   is_symbol d =
@@ -100,33 +97,48 @@ module _ (m : Module) (p : Proc) (typed : AllByRecursion (IsText m) m.texts) whe
       fst_true true b e = refl
       fst_true false b e = e
 
-  own_inside : (r : ℕ) → In own r → r < count
-  own_inside r h = elim (in_either (leads_of ts (positions m) p.name) (leads_of ts (positions m) (codes "implementation " ++ p.name)) r h) [
-    | inl i ↦ leads_inside p.name r i
-    | inr i ↦ leads_inside (codes "implementation " ++ p.name) r i
-  ]
-
   same_rounds : (n : ℕ) (R : List ℕ) → reach_on m n R ≡ rounds.reach_on count leads (mentioned m) (is_axiom m) n R
   same_rounds zero R = refl
   same_rounds (suc n) R = same_rounds n (filter (leads_to m R) (positions m))
 
-  pub marked_is_reached : filter (is_marked (walk ts rows own free).marks) (range_with_len 0 (length (walk ts rows own free).marks)) ≡ reached_by m p
-  marked_is_reached =
+  -- from any declarations
+  pub marked_from : (start : List ℕ) → ((r : ℕ) → In start r → r < count) → filter (is_marked (walk ts rows start free).marks) (range_with_len 0 (length (walk ts rows start free).marks)) ≡ reach_on m (count + 1) start
+  marked_from start inside =
       let none : Marking = unmarked count in
-      let first : Marking = mark_all none own in
+      let first : Marking = mark_all none start in
       let second : Marking = mark_all (follow (on ts rows) first) free in
-      let long : length (walk ts rows own free).marks ≡ count =
-      follow_on_length (on ts rows) count second ∙ (marks_length (follow (on ts rows) first) free ∙ (marks_length (settled first) (flat_map (on ts rows) first.fresh) ∙ (marks_length none own ∙ length-replicate count false))) in
+      let long : length (walk ts rows start free).marks ≡ count =
+      follow_on_length (on ts rows) count second ∙ (marks_length (follow (on ts rows) first) free ∙ (marks_length (settled first) (flat_map (on ts rows) first.fresh) ∙ (marks_length none start ∙ length-replicate count false))) in
       let joined : mark_all (settled first) (flat_map (on ts rows) first.fresh ++ free) ≡ second = mark_append (settled first) (flat_map (on ts rows) first.fresh) free in
-      let is = rounds.walk_is count leads (mentioned m) (is_axiom m) (on ts rows) on_is none own free count (length-replicate count false) refl (none_marked count) own_inside free_is in
-      let start : flat_map (λ d. (decl_at m d).leads) (own_positions m p) ≡ own = flat_map-append (λ d. (decl_at m d).leads) (filter (is_named m p.name) (positions m)) (filter (is_named m (codes "implementation " ++ p.name)) (positions m)) in
+      let is = rounds.walk_is count leads (mentioned m) (is_axiom m) (on ts rows) on_is none start free count (length-replicate count false) refl (none_marked count) inside free_is in
       let more : count + 1 ≡ suc count = omega arith in
-      ap (λ n. filter (is_marked (walk ts rows own free).marks) (range_with_len 0 n)) long
+      ap (λ n. filter (is_marked (walk ts rows start free).marks) (range_with_len 0 n)) long
       ∙ sym (ap (λ s. filter (is_marked (follow_on (on ts rows) count s).marks) (positions m)) joined)
       ∙ sym is
-      ∙ sym (same_rounds (suc count) own)
-      ∙ sym ((λ i. reach_on m (more i) (start i)))
+      ∙ sym (same_rounds (suc count) start)
+      ∙ sym (ap (λ n. reach_on m n start) more)
 
-  -- the same of marks that are those of the walk
-  pub reached_from : (ms : List Bool) → ms ≡ (walk ts rows own free).marks → filter (is_marked ms) (range_with_len 0 (length ms)) ≡ reached_by m p
-  reached_from ms e = ap (λ ns. filter (is_marked ns) (range_with_len 0 (length ns))) e ∙ marked_is_reached
+  -- the same from any declarations that are there
+  pub reached_from_all : (start : List ℕ) → AllByRecursion (λ d. d < count) start → (ms : List Bool) → ms ≡ (walk ts rows start free).marks
+      → filter (is_marked ms) (range_with_len 0 (length ms)) ≡ reach_on m (count + 1) start
+  reached_from_all start there ms e = ap (λ ns. filter (is_marked ns) (range_with_len 0 (length ns))) e ∙ marked_from start (λ r h. each_in (λ d. d < count) start r there h)
+
+  -- from those of a procedure
+  module _ (p : Proc) where
+    abbrev own : List ℕ
+    own = own_leads ts (positions m) p.name
+
+    own_inside : (r : ℕ) → In own r → r < count
+    own_inside r h = elim (in_either (leads_of ts (positions m) p.name) (leads_of ts (positions m) (codes "implementation " ++ p.name)) r h) [
+      | inl i ↦ leads_inside p.name r i
+      | inr i ↦ leads_inside (codes "implementation " ++ p.name) r i
+    ]
+
+    pub marked_is_reached : filter (is_marked (walk ts rows own free).marks) (range_with_len 0 (length (walk ts rows own free).marks)) ≡ reached_by m p
+    marked_is_reached =
+        let start : flat_map (λ d. (decl_at m d).leads) (own_positions m p) ≡ own = flat_map-append (λ d. (decl_at m d).leads) (filter (is_named m p.name) (positions m)) (filter (is_named m (codes "implementation " ++ p.name)) (positions m)) in
+        marked_from own own_inside ∙ sym (ap (reach_on m (count + 1)) start)
+
+    -- the same of marks that are those of the walk
+    pub reached_from : (ms : List Bool) → ms ≡ (walk ts rows own free).marks → filter (is_marked ms) (range_with_len 0 (length ms)) ≡ reached_by m p
+    reached_from ms e = ap (λ ns. filter (is_marked ns) (range_with_len 0 (length ns))) e ∙ marked_is_reached

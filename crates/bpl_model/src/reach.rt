@@ -1,6 +1,7 @@
 // What the names of a procedure reach, by the positions of declarations.
-ghost use Rattle.std.specs.Prelude.{◌≡◌, IfOk, OnOk, length};
-ghost use Rattle.bpl_model.specs.Reach.{positions, reached_by};
+ghost use Rattle.std.specs.Prelude.{◌≡◌, ◌+◌, ◌<◌, IfOk, OnOk, length};
+ghost use Rattle.std.specs.List.{AllByRecursion};
+ghost use Rattle.bpl_model.specs.Reach.{positions, reach_on, reached_by};
 ghost use Rattle.bpl_model.specs.Links.{free, mentions};
 ghost use Rattle.bpl_model.specs.Marking.{follow, follow_on, mark_all, unmarked};
 ghost use Rattle.bpl_model.specs.Walk.{on, own_leads, rows_of};
@@ -26,6 +27,23 @@ pub fn reached_by(
 {
     let texts = links.parts().texts.as_slice();
     let mut marking = own_marks(alloc, links, proc.name.as_bytes())?;
+    walk_on(alloc, texts, links.mentions(), links.free(), &mut marking)?;
+    marking.positions(alloc)
+}
+
+/// The positions of all declarations that these lead to, in rising order; the first step is to lead on,
+/// and to take in the axioms that are always reached. The time is as that of `reached_by`.
+pub fn reached_from(
+    alloc: alloc::Global,
+    links: &Links<'_>,
+    leads: &[u64],
+) -> Result<Vec<u64>, alloc::AllocError>
+    requires { AllByRecursion (λ d. d < length links.now.texts) leads.now }
+    ensures { IfOk result (λ v. v.items ≡ reach_on links.now (length links.now.texts + 1) leads.now) }
+{
+    let texts = links.parts().texts.as_slice();
+    let mut marking = Marking::new(alloc, texts.len());
+    marking.mark_all(leads)?;
     walk_on(alloc, texts, links.mentions(), links.free(), &mut marking)?;
     marking.positions(alloc)
 }

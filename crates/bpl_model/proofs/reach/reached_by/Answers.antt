@@ -18,4 +18,4 @@ returns c =
     let own : c.in_ok-marking.marking ≡ mark_all (unmarked (length m.texts)) (own_leads m.texts (positions m) p.name) = c.in_ok-marking.ensures ∙ ap (λ n. mark_all (unmarked (length m.texts)) (own_leads m.texts (positions m) n)) name in
     let marks : c.walk_on.new.marking.marks ≡ (walk m.texts (mentions m) (own_leads m.texts (positions m) p.name) (free m)).marks =
     c.in_ok-walk_on.ensures ∙ (λ i. (follow_on (on (texts i) (c.mentions.ensures i)) (length (texts i)) (mark_all (follow (on (texts i) (c.mentions.ensures i)) (own i)) (c.free.ensures i))).marks) in
-    subst (λ xs. IfOk c.positions.result (λ v. v.items ≡ xs)) (reached_from m p (subst IsTypedModule c.parts.ensures.same c.parts.ensures.typed).texts c.walk_on.new.marking.marks marks) c.positions.ensures
+    subst (λ xs. IfOk c.positions.result (λ v. v.items ≡ xs)) (reached_from m (subst IsTypedModule c.parts.ensures.same c.parts.ensures.typed).texts p c.walk_on.new.marking.marks marks) c.positions.ensures
