@@ -7,6 +7,9 @@ mod expr_uses;
 mod stmt_uses;
 pub mod uses;
 
+// Line by line.
+pub mod line_uses;
+
 // The declarations for which names stand.
 pub mod leads;
 

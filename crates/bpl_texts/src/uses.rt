@@ -31,8 +31,9 @@ fn push_groups<'a>(texts: &mut Positions<'a>, groups: &'a [Group]) -> Result<(),
     Ok(())
 }
 
+/// Puts the names of the parameters behind others.
 #[tactic(auto, using(crate::proofs::Names::both_texts))]
-fn push_signature<'a>(texts: &mut Positions<'a>, signature: &'a Signature) -> Result<(), AllocError>
+pub fn push_signature<'a>(texts: &mut Positions<'a>, signature: &'a Signature) -> Result<(), AllocError>
     ensures { OnOk result (texts.new ≡ texts.old ++ texts_of (signature_names signature.now)) }
 {
     push_groups(texts, &signature.ins)?;
@@ -48,8 +49,8 @@ fn push_locals<'a>(texts: &mut Positions<'a>, locals: &'a [Vec<Group>]) -> Resul
     Ok(())
 }
 
-// The names of a body's variables, and then of the parameters.
-fn body_names<'a>(
+/// The names of a body's variables, and then of the parameters.
+pub fn body_names<'a>(
     alloc: Global,
     signature: &'a Signature,
     body: &'a Body,
@@ -62,8 +63,8 @@ fn body_names<'a>(
     Ok(names)
 }
 
-// No variables but these.
-fn variables_of<'s, 'a>(alloc: Global, params: &'s Positions<'a>) -> Variables<'s, 'a>
+/// No variables but these.
+pub fn variables_of<'s, 'a>(alloc: Global, params: &'s Positions<'a>) -> Variables<'s, 'a>
     ensures { variables_seen result ≡ params.now }
 {
     Variables {
@@ -95,7 +96,8 @@ impl<'a> Uses<'a> {
         }
     }
 
-    fn note_spec(
+    /// Finds the names in a clause of a contract.
+    pub(crate) fn note_spec(
         &mut self,
         alloc: Global,
         variables: &Variables<'_, 'a>,
@@ -124,7 +126,8 @@ impl<'a> Uses<'a> {
         Ok(())
     }
 
-    fn note_signature(&mut self, alloc: Global, signature: &'a Signature) -> Result<(), AllocError>
+    /// Finds the names in the types of parameters and in their clauses.
+    pub(crate) fn note_signature(&mut self, alloc: Global, signature: &'a Signature) -> Result<(), AllocError>
         ensures { OnOk result (texts_seen self.new.names.items ≡ texts_seen self.old.names.items ++ signature_uses signature.now) }
     {
         let mut params = Positions::new(alloc);
