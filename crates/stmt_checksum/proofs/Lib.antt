@@ -1,0 +1,5 @@
+mod NoBranch
+mod SameLines
+mod Led
+mod ChainEnds
+mod SumEnds

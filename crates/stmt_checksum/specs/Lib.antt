@@ -1,0 +1,6 @@
+pub mod Parts
+pub mod PartsView
+pub mod ContractDigests
+pub mod Chain
+pub mod SumLines
+pub mod Laws
