@@ -1,0 +1,5 @@
+mod Points
+mod Unreached
+mod Shown
+mod Named
+mod NoGotos

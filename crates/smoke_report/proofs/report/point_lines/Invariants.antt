@@ -1,0 +1,11 @@
+use Rattle.std.proofs.Common.{◌≡◌, ◌++◌, drop, map}
+use Rattle.std.specs.Prelude.{filter}
+use Rattle.smoke_report.specs.Smoke.{is_unreachable, point_line, large_among}
+use Rattle.smoke_report.proofs.report.point_lines.Given as goal
+
+-- the lines so far, and then those of the points that are left, are all; up to here no limit is exceeded
+abbrev pub invariant-loop-point : goal.invariant-loop-point
+invariant-loop-point l = record {
+  lines : map (λ v. v.items) l.lines.items ++ map point_line (filter (is_unreachable l.turns l.module) (drop l.point-index l.points)) ≡ map point_line (filter (is_unreachable l.turns l.module) l.points);
+  large : large_among l.module (drop l.point-index l.points) ≡ large_among l.module l.points;
+}

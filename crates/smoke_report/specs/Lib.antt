@@ -1,0 +1,3 @@
+pub mod ProgramPoints
+pub mod Smoke
+pub mod Sound

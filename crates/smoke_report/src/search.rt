@@ -1,0 +1,123 @@
+// What the search says of a point.
+ghost use Rattle.std.specs.Prelude.{◌≡◌, None, IfErr, IfOk};
+ghost use Rattle.std.specs.List.{list_all};
+ghost use Rattle.tableau.specs.RunView.{verdict_of};
+ghost use Rattle.tableau.specs.Search.{is_proved};
+ghost use Rattle.bpl_goto.specs.Forward.{AllGoForward};
+ghost use Rattle.vc_build.specs.Large.{large};
+ghost use Rattle.vc_build.specs.Exceeds.{IsFaultOf};
+ghost use Rattle.smoke_report.specs.Smoke.{is_point, is_mark_of, is_shown, is_shown_or_another, point_goals, is_unreachable};
+
+use crate::program_point::ProgramPoint;
+use bpl_goto::remove_gotos;
+use bpl_model::{GoalKind, Mark, Module};
+use bpl_smoke::laws::with_point_goes_forward;
+use bpl_smoke::with_point;
+use logic_core::Sequence;
+use std::alloc::{AllocError, Global};
+use tableau::ended::Verdict;
+use tableau::search::answer;
+use vc_build::{BuildFault, Goal, build};
+
+// Whether it is the kind of the point of this number.
+fn is_point(number: u64, kind: GoalKind) -> bool
+    ensures { result ≡ is_point number kind }
+{
+    match kind {
+        GoalKind::Point(other) => other == number,
+        _ => false,
+    }
+}
+
+// Whether it is the point's mark.
+fn is_mark_of(point: &ProgramPoint, mark: Mark) -> bool
+    ensures { result ≡ is_mark_of point.now mark }
+{
+    is_point(point.number, mark.kind) && mark.place == point.point.mark.place
+}
+
+// Whether a proof was found.
+fn is_proof(verdict: Verdict) -> bool
+    ensures { result ≡ is_proved (verdict_of verdict) }
+{
+    match verdict {
+        Verdict::Proved => true,
+        Verdict::Open | Verdict::Turns | Verdict::Wide => false,
+    }
+}
+
+// Whether the search finds a proof of the goal.
+fn is_shown(alloc: Global, goal: &Goal, turns: u64) -> Result<bool, AllocError>
+    ensures { IfOk result (λ h. h ≡ is_shown turns goal.now) }
+{
+    let found = answer(alloc, &goal.obligation, turns)?;
+    Ok(is_proof(found.verdict))
+}
+
+// Whether the goal has another mark, or the search finds a proof of it.
+fn is_shown_or_another(
+    alloc: Global,
+    point: &ProgramPoint,
+    goal: &Goal,
+    turns: u64,
+) -> Result<bool, AllocError>
+    ensures { IfOk result (λ h. h ≡ is_shown_or_another turns point.now goal.now) }
+{
+    if is_mark_of(point, goal.mark) {
+        is_shown(alloc, goal, turns)
+    } else {
+        Ok(true)
+    }
+}
+
+// Whether the search finds a proof of each goal with the point's mark.
+fn are_shown(
+    alloc: Global,
+    point: &ProgramPoint,
+    goals: &[Goal],
+    turns: u64,
+) -> Result<bool, AllocError>
+    ensures { IfOk result (λ h. h ≡ list_all (is_shown_or_another turns point.now) goals.now) }
+{
+    for goal in goals {
+        if !is_shown_or_another(alloc, point, goal, turns)? {
+            return Ok(false);
+        }
+    }
+    Ok(true)
+}
+
+// The goals of the point's procedure with the point put in.
+fn point_goals(
+    alloc: Global,
+    module: &Module,
+    point: &ProgramPoint,
+) -> Result<Sequence<Goal>, BuildFault>
+    requires { AllGoForward «module».now }
+    ensures goals { IfOk result (λ gs. gs ≡ point_goals «module».now point.now) }
+    ensures within { IfOk result (λ gs. large gs ≡ None) }
+    ensures fault { IfErr result (IsFaultOf (point_goals «module».now point.now)) }
+{
+    with_point_goes_forward();
+    let changed = with_point(alloc, module, point.proc, point.number)?;
+    let plain = remove_gotos(alloc, &changed)?;
+    build(alloc, &plain, point.proc)
+}
+
+/// Whether the search shows, in so many turns, that no execution reaches the point: it finds a proof of
+/// the goal with the point's mark, where the point is put into its procedure. Where that procedure then
+/// has too many goals, or too long ones, the fault says so.
+pub fn is_unreachable(
+    alloc: Global,
+    module: &Module,
+    point: &ProgramPoint,
+    turns: u64,
+) -> Result<bool, BuildFault>
+    requires { AllGoForward «module».now }
+    ensures shown { IfOk result (λ u. u ≡ is_unreachable turns «module».now point.now) }
+    ensures within { IfOk result (λ u. large (point_goals «module».now point.now) ≡ None) }
+    ensures fault { IfErr result (IsFaultOf (point_goals «module».now point.now)) }
+{
+    let goals = point_goals(alloc, module, point)?;
+    Ok(are_shown(alloc, point, goals.as_slice(), turns)?)
+}
