@@ -2,4 +2,6 @@ mod NoBranch
 mod SameLines
 mod Led
 mod ChainEnds
+mod GoalMarks
+mod GoalSums
 mod SumEnds

@@ -1,15 +1,19 @@
 // The checksums of goals.
-ghost use Rattle.std.specs.Prelude.{◌≡◌, ◌++◌, map, codes, string_bytes, IfOk, OnOk};
+ghost use Rattle.std.specs.Prelude.{◌≡◌, ◌++◌, map, codes, string_bytes, Contains, Some, slice_get, option_map, IfOk, OnOk};
 ghost use Rattle.hex.specs.Hex.{encode_lower};
+ghost use Rattle.bpl_model.specs.Module.{Proc as procedure};
+ghost use Rattle.bpl_model.specs.NoGoto.{BodyHasNoGoto};
 ghost use Rattle.bpl_scopes.specs.Scopes.{table_of};
 ghost use Rattle.report_text.specs.Report.{head};
 ghost use Rattle.stmt_checksum.specs.Chain.{goal_sum};
+ghost use Rattle.stmt_checksum.specs.Sums.{sums_of_found, sums};
 ghost use Rattle.stmt_checksum.specs.SumLines.{sum_lines_of, sum_lines};
 
 use crate::chain::{Link, goal_sum, procedure_chain};
 use crate::lines::Leads;
+use crate::marks::goal_marks;
 use bpl_ast::Decl;
-use bpl_model::{Mark, Module};
+use bpl_model::{Mark, Module, Parts, Proc};
 use report_text::head;
 use std::alloc::{AllocError, Global};
 
@@ -81,4 +85,59 @@ pub fn sum_lines(
         )?;
     }
     Ok(lines)
+}
+
+// The checksums of goals with these marks.
+fn marked_sums(alloc: Global, chain: &[Link], marks: &[Mark]) -> Result<Vec<[u8; 32]>, AllocError>
+    ensures { IfOk result (λ v. v.items ≡ map (goal_sum chain.now) marks.now) }
+{
+    let mut sums = Vec::new(alloc);
+    for mark in marks {
+        sums.push(goal_sum(chain, mark))?;
+    }
+    Ok(sums)
+}
+
+// The checksums of the procedure's goals.
+fn procedure_sums(
+    alloc: Global,
+    module: &Module,
+    decls: &[Decl],
+    proc: &Proc,
+) -> Result<Vec<[u8; 32]>, AllocError>
+    requires there { Contains «module».now.procs proc.now }
+    requires no_goto { BodyHasNoGoto proc.now.body }
+    ensures { IfOk result (λ v. v.items ≡ sums_of_found «module».now decls.now (Some proc.now)) }
+{
+    let leads = Leads::of(alloc, module, decls)?;
+    let chain = procedure_chain(alloc, &leads, decls, proc.name.as_bytes())?;
+    let marks = goal_marks(alloc, leads.links(), proc)?;
+    marked_sums(alloc, &chain, &marks)
+}
+
+// The procedure of this number, if there is one.
+fn procedure_at(parts: &Parts, p: usize) -> Option<&Proc>
+    ensures { option_map (λ q. q.now) result ≡ slice_get parts.now.procs p }
+{
+    parts.procs.get(p)
+}
+
+/// The checksums of the goals of the procedure of this number, in order: of each the chain of SHA-256
+/// after its statement's line. The module is that of these declarations, and no `goto` stands in the
+/// procedure. One without a body has no goals.
+///
+/// An error is want of memory.
+pub fn sums(
+    alloc: Global,
+    module: &Module,
+    decls: &[Decl],
+    p: usize,
+) -> Result<Vec<[u8; 32]>, AllocError>
+    requires { (q : procedure) → slice_get «module».now.procs p ≡ Some q → BodyHasNoGoto q.body }
+    ensures { IfOk result (λ v. v.items ≡ sums «module».now decls.now p) }
+{
+    match procedure_at(module.parts(), p) {
+        Some(proc) => procedure_sums(alloc, module, decls, proc),
+        None => Ok(Vec::new(alloc)),
+    }
 }

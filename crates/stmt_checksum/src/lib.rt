@@ -14,10 +14,13 @@ mod chain;
 mod digests;
 mod lines;
 
+// The marks of a procedure's goals.
+mod marks;
+
 // The checksums of goals.
 pub mod checksums;
 
 // That each line has its part.
 pub mod laws;
 
-pub use checksums::sum_lines;
+pub use checksums::{sum_lines, sums};

@@ -1,0 +1,17 @@
+use Rattle.std.proofs.Common.{◌≡◌, ◌∙◌, ap, subst}
+use Rattle.std.specs.Prelude.{IfOk}
+use Rattle.bpl_model.specs.Cut.{cut_calls}
+use Rattle.bpl_blocks.specs.Blocks.{to_blocks}
+use Rattle.loop_cut.specs.Cut.{cut}
+use Rattle.stmt_checksum.specs.Marks.{graph_marks}
+use Rattle.stmt_checksum.proofs.marks.body_marks.Goals as goal
+
+pub to_blocks-requires : goal.to_blocks-requires
+to_blocks-requires c = record { from = c.args.proc.now; there = c.requires.there; no_goto = c.requires.no_goto; same = c.in_ok-proc.ensures.exact ∙ ap (λ m. cut_calls m c.args.proc.now) c.module.ensures }
+
+pub returns : goal.returns
+returns c =
+    let m = c.args.links.now in
+    let q : c.in_ok-proc.proc ≡ cut_calls m c.args.proc.now = c.in_ok-proc.ensures.exact ∙ ap (λ n. cut_calls n c.args.proc.now) c.module.ensures in
+    let graph : c.in_ok-graph.graph ≡ cut (to_blocks m (cut_calls m c.args.proc.now)) = c.in_ok-graph.ensures.exact ∙ ap cut (c.in_ok-to_blocks.ensures.exact ∙ ap (to_blocks m) q) in
+    subst (λ ms. IfOk c.graph_marks.result (λ v. v.items ≡ ms)) (ap graph_marks (c.blocks-2.ensures ∙ ap (λ g. g.blocks) graph)) c.graph_marks.ensures
