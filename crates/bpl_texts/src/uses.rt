@@ -33,7 +33,10 @@ fn push_groups<'a>(texts: &mut Positions<'a>, groups: &'a [Group]) -> Result<(),
 
 /// Puts the names of the parameters behind others.
 #[tactic(auto, using(crate::proofs::Names::both_texts))]
-pub fn push_signature<'a>(texts: &mut Positions<'a>, signature: &'a Signature) -> Result<(), AllocError>
+pub fn push_signature<'a>(
+    texts: &mut Positions<'a>,
+    signature: &'a Signature,
+) -> Result<(), AllocError>
     ensures { OnOk result (texts.new ≡ texts.old ++ texts_of (signature_names signature.now)) }
 {
     push_groups(texts, &signature.ins)?;
@@ -127,7 +130,11 @@ impl<'a> Uses<'a> {
     }
 
     /// Finds the names in the types of parameters and in their clauses.
-    pub(crate) fn note_signature(&mut self, alloc: Global, signature: &'a Signature) -> Result<(), AllocError>
+    pub(crate) fn note_signature(
+        &mut self,
+        alloc: Global,
+        signature: &'a Signature,
+    ) -> Result<(), AllocError>
         ensures { OnOk result (texts_seen self.new.names.items ≡ texts_seen self.old.names.items ++ signature_uses signature.now) }
     {
         let mut params = Positions::new(alloc);
