@@ -4,6 +4,7 @@ pub mod IsFirst
 pub mod FirstAt
 pub mod Shapes
 pub mod SynonymRounds
+mod GuessedSorts
 pub mod TypeSteps
 pub mod Declared
 pub mod Logical

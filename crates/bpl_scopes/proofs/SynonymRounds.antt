@@ -41,7 +41,7 @@ sort_known t hidden ks s e i = sort_by (λ n. unless_hidden (is_among hidden n) 
 pub sorts_known : (t : Table) (hidden : List Text) (ks : List (Option Kind)) (ss : Tys) → ks ≡ sorts_at t (length t) → sorts_by (sort_unless hidden t ks) ss ≡ sorts_of_types t hidden ss
 sorts_known t hidden ks ss e i = sorts_by (λ n. unless_hidden (is_among hidden n) (known_are t (length t) ks e n i)) ss
 
-by_entries : {A : Type 0} (f : Text → A) (es : List kept) → map (λ e. f e.name.now) es ≡ map (λ (e : Entry). f e.name) (entries_seen es)
+pub by_entries : {A : Type 0} (f : Text → A) (es : List kept) → map (λ e. f e.name.now) es ≡ map (λ (e : Entry). f e.name) (entries_seen es)
 by_entries f [] = refl
 by_entries f (e ∷ es) = ap (λ l. f e.name.now ∷ l) (by_entries f es)
 

@@ -7,6 +7,7 @@ pub mod TableView
 pub mod Sorts
 pub mod Shape
 pub mod KnownSorts
+pub mod Guessed
 pub mod CountsView
 pub mod TypeFaults
 pub mod Functions

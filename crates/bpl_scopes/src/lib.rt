@@ -14,6 +14,7 @@ pub mod table;
 
 // What a type stands for, and its faults.
 pub mod shape;
+mod synonym_order;
 mod synonyms;
 pub mod types;
 

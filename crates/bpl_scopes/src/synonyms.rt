@@ -1,15 +1,17 @@
-// The sorts for which synonyms stand: each round follows one synonym more, until a round finds
-// nothing new.
-ghost use Rattle.std.specs.Prelude.{◌≡◌, IfOk, IsTrue, map, List, [], Option, None, length};
+// The sorts for which synonyms stand: each takes its sort behind those in its type, and then one round
+// over all shows that these are the sorts.
+ghost use Rattle.std.specs.Prelude.{◌≡◌, IfOk, OnOk, IsTrue, map, List, [], Option, None, length};
 ghost use Rattle.bpl_ast.specs.TypeView.{tys_of};
 ghost use Rattle.bpl_scopes.specs.Scopes.{entity_of};
 ghost use Rattle.bpl_scopes.specs.Sorts.{is_int_alone, map_sort_if, sort_by, sorts_by, sort_after};
 ghost use Rattle.bpl_scopes.specs.Shape.{kind_seen};
 ghost use Rattle.bpl_scopes.specs.KnownSorts.{known_sort, sorts_at, shapes_seen, hidden_seen, sort_unless};
+ghost use Rattle.bpl_scopes.specs.Guessed.{IsUnder, next_sorts, put_sort};
 
 use crate::hidden::Hidden;
 use crate::names::Positions;
 use crate::shape::{Shape, is};
+use crate::synonym_order::synonym_order;
 use crate::table::{Entity, Entry, Table};
 use bpl_ast::{Type, TypeForm, TypeParams};
 use std::alloc::{AllocError, Global};
@@ -165,8 +167,70 @@ fn are_same(mine: &[Option<Shape>], others: &[Option<Shape>]) -> bool
     true
 }
 
-/// The sorts of the synonyms, beside the entries of the table.
-pub(crate) fn synonym_sorts(alloc: Global, table: &Table) -> Result<Vec<Option<Shape>>, AllocError>
+// The entry at this position takes its sort by those of the others.
+#[tactic(auto, using(crate::proofs::GuessedSorts::put_none, crate::proofs::GuessedSorts::put_some))]
+fn put_sort(
+    alloc: Global,
+    table: &Table,
+    sorts: &mut Vec<Option<Shape>>,
+    at: usize,
+) -> Result<(), AllocError>
+    ensures { OnOk result (shapes_seen sorts.new.items ≡ put_sort table.now (shapes_seen sorts.old.items) at) }
+{
+    let Some(entry) = table.entries().get(at) else {
+        return Ok(());
+    };
+    let sort = sort_after(alloc, table, sorts, entry.name)?;
+    if at < sorts.len() {
+        sorts[at] = sort;
+    }
+    Ok(())
+}
+
+// Behind the others there is no entry.
+fn position_in(order: &[usize], i: usize) -> usize {
+    match order.get(i) {
+        Some(at) => *at,
+        None => usize::MAX,
+    }
+}
+
+// The entries in this order take their sorts, each by those so far.
+fn put_sorts(
+    alloc: Global,
+    table: &Table,
+    order: &[usize],
+    sorts: &mut Vec<Option<Shape>>,
+) -> Result<(), AllocError>
+    requires { shapes_seen sorts.old.items ≡ sorts_at table.now 0 }
+    ensures { OnOk result (IsUnder (shapes_seen sorts.new.items) (sorts_at table.now (length table.now))) }
+{
+    for i in 0..table.len() {
+        put_sort(alloc, table, sorts, position_in(order, i))?;
+    }
+    Ok(())
+}
+
+// Sorts of the synonyms that are right where they are there.
+fn guessed_sorts(alloc: Global, table: &Table) -> Result<Vec<Option<Shape>>, AllocError>
+    ensures { IfOk result (λ v. IsUnder (shapes_seen v.items) (sorts_at table.now (length table.now))) }
+{
+    let order = synonym_order(alloc, table)?;
+    let mut sorts = no_sorts(alloc, table.entries())?;
+    put_sorts(alloc, table, &order, &mut sorts)?;
+    Ok(sorts)
+}
+
+// Whether following one synonym more finds nothing new.
+fn are_settled(alloc: Global, table: &Table, sorts: &[Option<Shape>]) -> Result<bool, AllocError>
+    ensures { IfOk result (λ b. IsTrue b → next_sorts table.now (shapes_seen sorts.now) ≡ shapes_seen sorts.now) }
+{
+    let next = round(alloc, table, sorts, table.entries())?;
+    Ok(are_same(&next, sorts))
+}
+
+// The sorts of the synonyms, in rounds from none on.
+fn sorts_in_rounds(alloc: Global, table: &Table) -> Result<Vec<Option<Shape>>, AllocError>
     ensures { IfOk result (λ v. shapes_seen v.items ≡ sorts_at table.now (length table.now)) }
 {
     let mut sorts = no_sorts(alloc, table.entries())?;
@@ -178,4 +242,16 @@ pub(crate) fn synonym_sorts(alloc: Global, table: &Table) -> Result<Vec<Option<S
         sorts = next;
     }
     Ok(sorts)
+}
+
+/// The sorts of the synonyms, beside the entries of the table. The time is that of one walk over their
+/// types.
+pub(crate) fn synonym_sorts(alloc: Global, table: &Table) -> Result<Vec<Option<Shape>>, AllocError>
+    ensures { IfOk result (λ v. shapes_seen v.items ≡ sorts_at table.now (length table.now)) }
+{
+    let sorts = guessed_sorts(alloc, table)?;
+    if are_settled(alloc, table, &sorts)? {
+        return Ok(sorts);
+    }
+    sorts_in_rounds(alloc, table)
 }
