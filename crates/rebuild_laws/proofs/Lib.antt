@@ -1,0 +1,5 @@
+pub mod RenamedTerms
+pub mod SameCanonical
+pub mod RenamedTriggers
+pub mod SameAfterTriggers
+pub mod OneForm
