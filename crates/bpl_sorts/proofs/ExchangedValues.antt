@@ -143,7 +143,7 @@ within_take (x ∷ xs) zero f y e = absurd (cc)
 within_take (x ∷ xs) (suc m) zero y e = (omega arith, e)
 within_take (x ∷ xs) (suc m) (suc f) y e = let p = within_take xs m f y e in (let q = p.0 in omega (arith, q), p.1)
 
-whole_take : {A : Type 0} (xs : List A) (m f : ℕ) → f < m → slice_get (take m xs) f ≡ slice_get xs f
+pub whole_take : {A : Type 0} (xs : List A) (m f : ℕ) → f < m → slice_get (take m xs) f ≡ slice_get xs f
 whole_take [] zero f h = refl
 whole_take [] (suc m) f h = refl
 whole_take (x ∷ xs) zero f h = absurd (omega (arith, h))

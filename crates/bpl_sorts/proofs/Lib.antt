@@ -1,7 +1,17 @@
 mod Exchanges
 mod TypedSorts
-mod ExchangedValues
+pub mod ExchangedValues
 pub mod Listed
 pub mod Readings
 pub mod TypedTerms
 pub mod ReadTypes
+pub mod NumberedTypes
+pub mod AlikeScopes
+pub mod TypedParts
+pub mod TypedStmts
+pub mod TypedVars
+pub mod TypedClauses
+pub mod TypedProcs
+pub mod NarrowedHeads
+pub mod TypedFunctions
+pub mod TypedModules

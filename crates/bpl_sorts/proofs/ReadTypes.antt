@@ -24,7 +24,7 @@ pub record StandsFor (stands : ℕ → Place → Written) (k : ℕ) (x : Entity)
 
 module _ (stands : ℕ → Place → Written) where
   -- k user types stand before
-  abbrev EntityReads : ℕ → Entity → Entity → Type 0
+  abbrev pub EntityReads : ℕ → Entity → Entity → Type 0
   EntityReads k (a_synonym None) x = StandsFor stands k x
   EntityReads k (a_synonym (Some s)) x = x ≡ a_synonym (Some s)
   EntityReads k (a_constant j t) x = x ≡ a_constant j t
@@ -32,12 +32,12 @@ module _ (stands : ℕ → Place → Written) where
   EntityReads k (a_function h) x = x ≡ a_function h
   EntityReads k (a_procedure j c) x = x ≡ a_procedure j c
 
-  abbrev Reads : ℕ → Table → Table → Type 0
+  abbrev pub Reads : ℕ → Table → Table → Type 0
   Reads k [] [] = Unit {0}
   Reads k (e ∷ t) (x ∷ u) = (x.name ≡ e.name) × EntityReads k e.entity x.entity × Reads (k + users_in e.entity) t u
   Reads k t u = ⊥
 
-  abbrev Found : ℕ → Option Entity → Option Entity → Type 0
+  abbrev pub Found : ℕ → Option Entity → Option Entity → Type 0
   Found k None o = o ≡ None
   Found k (Some e) o = (x : Entity) × (o ≡ Some x) × EntityReads k e x
 

@@ -10,3 +10,6 @@ pub mod Readings
 pub mod ReadingLaws
 pub mod Views
 pub mod CarrierFaults
+pub mod DeclaredTypes
+pub mod TypedModule
+pub mod TypedModules

@@ -3,6 +3,7 @@ ghost use Rattle.std.specs.Prelude.{◌≡◌, None, IfOk, IfErr};
 ghost use Rattle.bpl_declaration_faults.specs.DeclFaults.{fault_of};
 ghost use Rattle.bpl_sorts.specs.Erased.{erased};
 ghost use Rattle.bpl_sorts.specs.CarrierFaults.{carrier_fault, IsCarrierFault};
+ghost use Rattle.bpl_sorts.specs.TypedModules.{HasDeclaredTypes};
 
 use crate::erased::tell_apart;
 use bpl_ast::Program;
@@ -37,10 +38,13 @@ impl From<AllocError> for CarrierFault {
 /// program has no fault, user types are different from `int` and from each other; the fault is the
 /// first by declaration and place at which an operand, argument, right side, index or condition has
 /// another type than its place needs, an implementation has parameters of other types, or a map's
-/// domain is a user type. `Memory` comes where memory runs out, and may come in place of any answer.
+/// domain is a user type. Without one, each expression of the program's own declarations has its type.
+/// `Memory` comes where memory runs out, and may come in place of any answer.
+#[tactic(auto, using(crate::proofs::TypedModules::passing_typed))]
 pub fn check_carriers(alloc: Global, program: &Program) -> Result<(), CarrierFault>
     requires { fault_of (erased program.now) ≡ None }
     ensures faultless { IfOk result (λ _. carrier_fault program.now ≡ None) }
+    ensures typed { IfOk result (λ _. HasDeclaredTypes program.now) }
     ensures fault { IfErr result (IsCarrierFault program.now) }
 {
     let apart = tell_apart(alloc, program)?;

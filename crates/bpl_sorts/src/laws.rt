@@ -1,6 +1,9 @@
 // The readings of user types tell types, and carriers are told apart by equality alone.
 ghost use Rattle.bpl_sorts.specs.ExchangeLaws.{ExchangesKeepValues};
 ghost use Rattle.bpl_sorts.specs.ReadingLaws.{SortsTellTypes, TypesHaveTheirSorts, SortedExpressionsHaveTypes};
+ghost use Rattle.bpl_sorts.specs.TypedModules.{PassingProgramsHaveTypes};
+
+use module_laws::laws::faultless_modules_are_typed;
 
 /// Where two carriers of a user type are exchanged in an assignment, the value of each term with a
 /// type is the exchanged one.
@@ -22,3 +25,11 @@ pub fn types_have_their_sorts()
 pub fn sorted_expressions_have_types()
     ensures { SortedExpressionsHaveTypes }
 {}
+
+/// Where a program takes no user type for another type, each expression of its own declarations has
+/// its type, in the module of the declarations without user types.
+pub fn passing_programs_have_types()
+    ensures { PassingProgramsHaveTypes }
+{
+    faultless_modules_are_typed();
+}

@@ -1,0 +1,76 @@
+-- The types of what a program declares: of constants and global variables, of functions, and of the variables of procedures.
+use Rattle.std.specs.Prelude.{List, [], ◌∷◌, map, flat_map, Option, Some, None}
+use Rattle.bpl_ast.specs.Place.{Name, Ty as Written}
+use Rattle.bpl_ast.specs.Statement.{Argument, Signature, DeclBody, constant, function, axiom_of, variables, synonym, procedure, implementation, Decl}
+use Rattle.bpl_scopes.specs.Scopes.{Text, Heading, names_of, table_of, entity_of}
+use Rattle.bpl_scopes.specs.Functions.{function_in, in_number_order}
+use Rattle.bpl_declaration_faults.specs.Variables.{locals_of}
+use Rattle.module_laws.specs.Elaborate.{Implemented, or_else, own_body, implementation_of}
+use Rattle.bpl_sorts.specs.Types.{Ty, integers, Head}
+use Rattle.bpl_sorts.specs.TypeNames.{type_of}
+use Rattle.bpl_sorts.specs.Erased.{erased}
+
+-- the parameters and locals of a procedure
+pub record ProcTypes : Type 0 where
+  pub ins : List Ty
+  pub outs : List Ty
+  pub locals : List Ty
+
+pub record Types : Type 0 where
+  pub consts : List Ty
+  pub globals : List Ty
+  pub functions : List Head
+  pub procs : List ProcTypes
+
+module _ (ds : List Decl) where
+  -- of names with their types
+  abbrev pub types_named : List (Name × Written) → List Ty
+  types_named ps = map (λ (p : Name × Written). type_of ds p.1) ps
+
+  abbrev pub const_types_in : DeclBody → List Ty
+  const_types_in (constant u ns s) = map (λ (n : Name). type_of ds s) ns
+  const_types_in (function n ps ins r x) = []
+  const_types_in (axiom_of x) = []
+  const_types_in (variables gs) = []
+  const_types_in (synonym n s) = []
+  const_types_in (procedure n ps g ss b) = []
+  const_types_in (implementation n ps g b) = []
+
+  abbrev pub global_types_in : DeclBody → List Ty
+  global_types_in (variables gs) = types_named (names_of gs)
+  global_types_in (constant u ns s) = []
+  global_types_in (function n ps ins r x) = []
+  global_types_in (axiom_of x) = []
+  global_types_in (synonym n s) = []
+  global_types_in (procedure n ps g ss b) = []
+  global_types_in (implementation n ps g b) = []
+
+  abbrev pub head_of : Option Heading → Head
+  head_of None = ([], integers)
+  head_of (Some h) = (map (λ (a : Argument). type_of ds a.type) h.ins, type_of ds h.result)
+
+  -- locals are those of the body, which may stand in an `implementation`
+  abbrev pub local_types : Option Implemented → List Ty
+  local_types None = []
+  local_types (Some i) = types_named (locals_of i.1.locals)
+
+  abbrev pub proc_types : Signature → Option Implemented → ProcTypes
+  proc_types g i = record { ins = types_named (names_of g.ins); outs = types_named (names_of g.outs); locals = local_types i }
+
+  abbrev pub proc_types_in : DeclBody → List ProcTypes
+  proc_types_in (procedure n ps g ss b) = proc_types g (or_else (own_body g b) (implementation_of (erased ds) n.text)) ∷ []
+  proc_types_in (constant u ns s) = []
+  proc_types_in (function n ps ins r x) = []
+  proc_types_in (axiom_of x) = []
+  proc_types_in (variables gs) = []
+  proc_types_in (synonym n s) = []
+  proc_types_in (implementation n ps g b) = []
+
+  -- each in the order of its numbers, which erased declarations keep
+  abbrev pub declared_types : Types
+  declared_types = record {
+    consts = flat_map (λ (d : Decl). const_types_in d.body) (erased ds);
+    globals = flat_map (λ (d : Decl). global_types_in d.body) (erased ds);
+    functions = map (λ (n : Text). head_of (function_in (entity_of (table_of (erased ds)) n))) (in_number_order (table_of (erased ds)));
+    procs = flat_map (λ (d : Decl). proc_types_in d.body) (erased ds);
+  }
