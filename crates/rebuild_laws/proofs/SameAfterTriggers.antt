@@ -1,16 +1,17 @@
 -- Obligations that rename one another are one obligation once triggers are chosen and numbers are canonical.
-use Rattle.std.specs.Prelude.{◌≡◌, refl, ℕ, ◌<◌, not, List, [], ◌∷◌, map, slice_get, Option, Some, None, option_map}
+use Rattle.std.specs.Prelude.{◌≡◌, refl, ℕ, ◌<◌, List, [], ◌∷◌, map, slice_get, Some, option_map}
 use Rattle.std.specs.List.{AllByRecursion}
 use Rattle.std.proofs.Common.{ap, sym, ◌∙◌}
 use Rattle.std.proofs.lemmas.Option.{slice_get-map}
-use Rattle.logic_core.specs.Tree.{Kind, Tree}
+use Rattle.logic_core.specs.Tree.{Tree}
 use Rattle.logic_core.specs.Def.{Def, Obligation}
-use Rattle.logic_core.specs.Renamed.{both_renamed, def_renamed, EachHas}
+use Rattle.logic_core.specs.Renamed.{both_renamed, EachHas}
 use Rattle.obligation_text.specs.Canonical.{canonical}
 use Rattle.trigger_choice.specs.Candidates.{is_plain}
 use Rattle.trigger_choice.specs.Choice.{with_triggers, def_with_triggers, obligation_with_triggers}
 use Rattle.rebuild_laws.proofs.RenamedTerms.{each_more}
-use Rattle.rebuild_laws.proofs.RenamedTriggers.{with_triggers_has, with_triggers_renamed}
+use Rattle.rebuild_laws.proofs.TriggersHave.{with_triggers_has}
+use Rattle.rebuild_laws.proofs.RenamedTriggers.{with_triggers_renamed}
 use Rattle.rebuild_laws.proofs.SameCanonical.{Renames, same_canonical}
 
 module _ (new_def new_var old_def old_var : ℕ → ℕ) (D V : ℕ → Type 0) (back_def : (f : ℕ) → D f → old_def (new_def f) ≡ f) (back_var : (v : ℕ) → V v → old_var (new_var v) ≡ v) where

@@ -1,17 +1,17 @@
 -- Obligations that rename one another, one to one, are one obligation once they have canonical numbers.
-use Rattle.std.specs.Prelude.{◌≡◌, refl, ℕ, zero, suc, ◌+◌, ◌<◌, ◌≤◌, nat_eq, ◌||◌, Bool, true, false, cond, if◌then◌else◌, List, [], ◌∷◌, ◌++◌, map, length, fold, flat_map, filter_map, slice_get, Option, Some, None, option_map, unwrap_or}
+use Rattle.std.specs.Prelude.{◌≡◌, refl, ℕ, zero, suc, ◌+◌, ◌<◌, ◌≤◌, nat_eq, ◌||◌, Bool, true, false, cond, if◌then◌else◌, List, [], ◌∷◌, ◌++◌, map, length, fold, flat_map, slice_get, Some, option_map, unwrap_or}
 use Rattle.std.specs.List.{AllByRecursion, list_any, position_from, cons_option}
 use Rattle.std.proofs.Common.{ap, sym, subst, arith, ◌∙◌, true≢false}
 use Rattle.std.proofs.lemmas.Bool.{eqb-true, eq-eqb}
 use Rattle.std.proofs.lemmas.List.{map-append}
 use Rattle.std.proofs.lemmas.Option.{slice_get_within}
-use Rattle.logic_core.specs.Tree.{Kind, Tree, truth}
+use Rattle.logic_core.specs.Tree.{Tree, truth}
 use Rattle.logic_core.specs.Def.{Def, Obligation}
 use Rattle.logic_core.specs.Renamed.{both_renamed, def_renamed, EachHas}
 use Rattle.logic_core.specs.Variables.{variables, calls, joined, first_occurrences, place_in}
 use Rattle.obligation_text.specs.Numbering.{body, visited, definition_order, numbered_terms, variable_order}
 use Rattle.obligation_text.specs.Canonical.{picked, renumbered, canonical}
-use Rattle.rebuild_laws.proofs.RenamedTerms.{two_mapped, renamed_calls, renamed_variables, each_renamed_calls, each_renamed_variables, renamed_twice}
+use Rattle.rebuild_laws.proofs.RenamedTerms.{renamed_calls, each_renamed_calls, each_renamed_variables, renamed_twice}
 use Rattle.obligation_text.proofs.Lists.{variables_have, calls_have}
 
 every_both : {A : Type 0} (P : A → Type 0) (xs ys : List A) → AllByRecursion P xs → AllByRecursion P ys → AllByRecursion P (xs ++ ys)

@@ -1,1 +1,4 @@
 pub mod CanonicalForms
+pub mod Alike
+pub mod Numbers
+pub mod Procedures

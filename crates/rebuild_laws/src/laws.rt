@@ -1,5 +1,8 @@
 //! What renaming keeps. Each function does nothing; its contract is a law.
 ghost use Rattle.rebuild_laws.specs.CanonicalForms.{RenamedHaveOneForm, RenamedHaveOneFormWithTriggers};
+ghost use Rattle.rebuild_laws.specs.Procedures.{BodiesWithoutGotosGoAlike, CorrespondingHaveOneObligations};
+
+use vc_build::laws::sequents_are_sorted;
 
 /// Where an obligation is another one with new numbers for the definitions and variables that it
 /// reaches, no two with one number, the two have one canonical form, and so one text and one key.
@@ -12,3 +15,17 @@ pub fn renamed_have_one_form()
 pub fn renamed_have_one_form_with_triggers()
     ensures { RenamedHaveOneFormWithTriggers }
 {}
+
+/// Bodies that go alike over new numbers, whatever their places, still do once their gotos are removed.
+pub fn bodies_without_gotos_go_alike()
+    ensures { BodiesWithoutGotosGoAlike }
+{}
+
+/// Of two procedures without gotos, each in a module of its own, of which the first is typed: where what
+/// the one reaches of its module stands in the other's too, at new numbers and whatever its places, the
+/// two have equal obligations.
+pub fn corresponding_have_one_obligations()
+    ensures { CorrespondingHaveOneObligations }
+{
+    sequents_are_sorted();
+}
