@@ -1,0 +1,6 @@
+//! Tests of boards, of workers and of sessions over lines, in a crate of their own, so that the crates
+//! that they test are proved once.
+#![tactic(auto)]
+
+#[cfg(test)]
+mod tests;
