@@ -1,0 +1,2 @@
+pub mod BareTerms
+pub mod ReachClosed

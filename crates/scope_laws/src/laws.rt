@@ -1,0 +1,13 @@
+//! What names stand for, and what they reach. Each function does nothing; its contract is a law.
+ghost use Rattle.scope_laws.specs.Declared.{SameExpressionsHaveOneTerm, WhatIsReachedIsClosed};
+
+/// Two expressions that are the same but for their places have one term in a scope.
+pub fn same_expressions_have_one_term()
+    ensures { SameExpressionsHaveOneTerm }
+{}
+
+/// A declaration to which one that a procedure reaches leads on is reached, too: the rounds by which
+/// what is reached is found are enough.
+pub fn what_is_reached_is_closed()
+    ensures { WhatIsReachedIsClosed }
+{}

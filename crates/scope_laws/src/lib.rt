@@ -1,0 +1,4 @@
+//! Laws over declarations and what their names stand for.
+#![tactic(auto)]
+
+pub mod laws;
