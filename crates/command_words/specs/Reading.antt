@@ -5,20 +5,21 @@ use Rattle.clap.specs.Kinds.{Kinds}
 use Rattle.command_words.specs.Modes.{mode_named}
 use Rattle.command_words.specs.Options.{use_of_turns, use_of_workers, use_of_draws, given_number}
 use Rattle.command_words.specs.CommandLine.{the_command}
+use Rattle.command_words.specs.declared.options.TheConstants.{USUAL_TURNS, MOST_TURNS, MOST_WORKERS, LAST_SEED, MOST_SIZE}
 use Rattle.command_words.specs.declared.command.Mode.{Mode}
 use Rattle.command_words.specs.declared.command.Command.{Command}
 
 abbrev pub turns_of : Mode → Option (List ℕ) → Option ℕ
-turns_of mode given = given_number (use_of_turns mode) 20_000 1 1_000_000 given
+turns_of mode given = given_number (use_of_turns mode) USUAL_TURNS 1 MOST_TURNS given
 
 abbrev pub workers_of : Mode → Option (List ℕ) → Option ℕ
-workers_of mode given = given_number (use_of_workers mode) 0 0 64 given
+workers_of mode given = given_number (use_of_workers mode) 0 0 MOST_WORKERS given
 
 abbrev pub seed_of : Mode → Option (List ℕ) → Option ℕ
-seed_of mode given = given_number (use_of_draws mode) 0 0 2_147_483_647 given
+seed_of mode given = given_number (use_of_draws mode) 0 0 LAST_SEED given
 
 abbrev pub size_of : Mode → Option (List ℕ) → Option ℕ
-size_of mode given = given_number (use_of_draws mode) 0 0 5_000 given
+size_of mode given = given_number (use_of_draws mode) 0 0 MOST_SIZE given
 
 -- where the mode has a name, and each of the four options its number
 abbrev pub command_of : List ℕ → Option (List ℕ) → Option (List ℕ) → Option (List ℕ) → Option (List ℕ) → Option Command

@@ -5,6 +5,21 @@ ghost use Rattle.command_words.specs.Options.{use_of_turns, use_of_workers, use_
 use crate::command::Mode;
 use crate::number::number_between;
 
+/// The turns that a search has where none are given.
+pub const USUAL_TURNS: u32 = 20_000;
+
+/// The most turns.
+pub const MOST_TURNS: u32 = 1_000_000;
+
+/// The most workers.
+pub const MOST_WORKERS: u32 = 64;
+
+/// The last seed.
+pub const LAST_SEED: u32 = 2_147_483_647;
+
+/// The size of the largest program that is generated.
+pub const MOST_SIZE: u32 = 5_000;
+
 /// What a mode does with an option.
 #[derive(Clone, Copy, Drop)]
 pub enum Use {

@@ -6,7 +6,10 @@ ghost use Rattle.command_words.specs.Reading.{of_rows, reading};
 use crate::command::{Command, Mode};
 use crate::command_line::matches_for;
 use crate::fault::Usage;
-use crate::options::{given_number, use_of_draws, use_of_turns, use_of_workers};
+use crate::options::{
+    LAST_SEED, MOST_SIZE, MOST_TURNS, MOST_WORKERS, USUAL_TURNS, given_number, use_of_draws,
+    use_of_turns, use_of_workers,
+};
 use clap::ArgMatches;
 use std::alloc::Global;
 
@@ -25,14 +28,20 @@ fn command_of(matches: &ArgMatches<'_>) -> Option<Command>
     let turns = given_number(
         value(matches, "turns"),
         use_of_turns(mode),
-        20_000,
+        USUAL_TURNS,
         1,
-        1_000_000,
+        MOST_TURNS,
     )?;
-    let workers = given_number(value(matches, "workers"), use_of_workers(mode), 0, 0, 64)?;
+    let workers = given_number(
+        value(matches, "workers"),
+        use_of_workers(mode),
+        0,
+        0,
+        MOST_WORKERS,
+    )?;
     let draws = use_of_draws(mode);
-    let seed = given_number(value(matches, "seed"), draws, 0, 0, 2_147_483_647)?;
-    let size = given_number(value(matches, "size"), draws, 0, 0, 5_000)?;
+    let seed = given_number(value(matches, "seed"), draws, 0, 0, LAST_SEED)?;
+    let size = given_number(value(matches, "size"), draws, 0, 0, MOST_SIZE)?;
     Some(Command {
         mode,
         turns: u64::from(turns),
