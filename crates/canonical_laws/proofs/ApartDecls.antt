@@ -19,7 +19,7 @@ use Rattle.canonical_laws.proofs.ApartExprs.{good_names, good_some_params, rest_
 use Rattle.canonical_laws.proofs.ApartLines.{line_then, one_line, lines_append, rest_semicolon, rest_formula, rest_free, stmts_lines, brace}
 use Prim.Native.String.{String}
 
-rest_word : (w : String) (gs : List Glyph) → IsLoose (word w) → Rest gs → Rest (word w ∷ gs)
+pub rest_word : (w : String) (gs : List Glyph) → IsLoose (word w) → Rest gs → Rest (word w ∷ gs)
 rest_word w gs l r = rest_loose (word w) gs l r
 
 -- specifications
@@ -31,7 +31,7 @@ spec_is_line (modifies p []) ls hs w l = line_then 2 (word "modifies" ∷ semico
 spec_is_line (modifies p (n ∷ ns)) ls hs w l =
     line_then 2 (word "modifies" ∷ (names (n ∷ ns) ++ semicolon)) ls hs (rest_word "modifies" (names (n ∷ ns) ++ semicolon) (loose_word "modifies" refl refl) (rest_append (names (n ∷ ns)) semicolon (good_names (n ∷ ns) w).rest rest_semicolon)) l
 
-specs_lines : (ss : List Spec) → AreWrittenSpecs ss → AreLines (map spec_line ss) (specs_tokens ss)
+pub specs_lines : (ss : List Spec) → AreWrittenSpecs ss → AreLines (map spec_line ss) (specs_tokens ss)
 specs_lines [] w = none
 specs_lines (s ∷ ss) w = spec_is_line s (map spec_line ss) (specs_tokens ss) w.0 (specs_lines ss w.1)
 
@@ -61,7 +61,7 @@ rest_returned : (gs : Groups) → AreWrittenGroups gs → Rest (returned gs)
 rest_returned no_groups w = rest_nil
 rest_returned (group ns t c gs) w = rest_word "returns" (opening "(" ∷ (groups (group ns t c gs) ++ closing ")" ∷ [])) (loose_word "returns" refl refl) (in_round (groups (group ns t c gs)) [] (rest_groups (group ns t c gs) w) rest_nil)
 
-rest_signature : (ps : Option Params) (s : Signature) → AreParams ps → IsWrittenSignature s → Rest (signature ps s)
+pub rest_signature : (ps : Option Params) (s : Signature) → AreParams ps → IsWrittenSignature s → Rest (signature ps s)
 rest_signature ps s w v = rest_append (params ps) (opening "(" ∷ (groups s.ins ++ closing ")" ∷ returned s.outs)) (rest_params ps w) (in_round (groups s.ins) (returned s.outs) (rest_groups s.ins v.0) (rest_returned s.outs v.1))
 
 rest_argument : (n : Option Name) (t : Ty) → IsWrittenArgument (record { name = n; type = t }) → Rest (argument (record { name = n; type = t }))
@@ -93,7 +93,7 @@ rest_synonym : (t : Option Ty) → IsOptional IsWrittenType t → Rest (synonym_
 rest_synonym None w = rest_nil
 rest_synonym (Some t) w = rest_loose (word "=") (type t) equals_loose (good_type t w).rest
 
-rest_ended : (b : Option Body) → Rest (ended b)
+pub rest_ended : (b : Option Body) → Rest (ended b)
 rest_ended None = rest_semicolon
 rest_ended (Some b) = rest_nil
 

@@ -96,7 +96,7 @@ function_reads n ps ins t b room ls us w d (next p (next {ls = rest} q g)) =
 -- procedures and implementations
 
 -- a name, type parameters and a signature
-record HeadRead (room : ℕ) (q : Place) (n : Name) (ls us : List Lexeme) (ps : Option Params) (s : Signature) : Type 0 where
+pub record HeadRead (room : ℕ) (q : Place) (n : Name) (ls us : List Lexeme) (ps : Option Params) (s : Signature) : Type 0 where
   pub middle : List Lexeme
   pub params : ParamsRead ls middle ps
   pub signature : SignatureRead room middle us s
@@ -104,7 +104,7 @@ record HeadRead (room : ℕ) (q : Place) (n : Name) (ls us : List Lexeme) (ps : 
 signature_first : (gs hs : Groups) (ls us : List Lexeme) → Spelled (signature_tokens gs hs) ls us → sees_text "<" ls ≡ false
 signature_first gs hs ls us (next p g) = refl
 
-head_reads : (n : Name) (ps : Option Params) (gs hs : Groups) (room : ℕ) (q : Place) (ls us : List Lexeme) → AreParams ps → IsWrittenSignature (record { ins = gs; outs = hs }) → signature_depth (record { ins = gs; outs = hs }) ≤ suc room → sees_text "returns" us ≡ false
+pub head_reads : (n : Name) (ps : Option Params) (gs hs : Groups) (room : ℕ) (q : Place) (ls us : List Lexeme) → AreParams ps → IsWrittenSignature (record { ins = gs; outs = hs }) → signature_depth (record { ins = gs; outs = hs }) ≤ suc room → sees_text "returns" us ≡ false
     → Spelled (signature ps (record { ins = gs; outs = hs })) ls us → HeadRead room q n ls us ps (record { ins = gs; outs = hs })
 head_reads n ps gs hs room q ls us wp ws d z g =
     let f = split (params ps) (signature_tokens gs hs) g in
@@ -188,7 +188,7 @@ procedure_reads n ps s ss b room ls us w d z (next p (next {ls = rest} q g)) =
 
 -- all declarations
 
-decl_reads : (d : DeclBody) (room : ℕ) (ls us : List Lexeme) → IsWrittenDecl d → decl_depth d ≤ suc room → begins_spec us ≡ false → Spelled (decl_tokens d) ls us → DeclRead room ls us d
+pub decl_reads : (d : DeclBody) (room : ℕ) (ls us : List Lexeme) → IsWrittenDecl d → decl_depth d ≤ suc room → begins_spec us ≡ false → Spelled (decl_tokens d) ls us → DeclRead room ls us d
 decl_reads (constant u ns t) room ls us w d z g = const_reads u ns t room ls us w.0 w.1 d g
 decl_reads (function n ps ins t b) room ls us w d z g = function_reads n ps ins t b room ls us w d g
 decl_reads (axiom_of x) room ls us w d z g = axiom_reads x room ls us w d g

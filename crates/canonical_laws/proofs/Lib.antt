@@ -39,3 +39,5 @@ pub mod OnlyDeep
 pub mod Deeper
 pub mod SameParens
 pub mod SameTexts
+pub mod HeadsTold
+pub mod TextsTold

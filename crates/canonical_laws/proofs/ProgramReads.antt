@@ -64,7 +64,7 @@ spelled_tokens bytes from us (more {g = g} {t = t} {gs = gs} {ts = ts} h k a) =
 
 -- what is behind a declaration begins no specification
 
-decl_begins : (d : DeclBody) (hs : List Glyph) (ls us : List Lexeme) → Spelled (decl_tokens d ++ hs) ls us → begins_spec ls ≡ false
+pub decl_begins : (d : DeclBody) (hs : List Glyph) (ls us : List Lexeme) → Spelled (decl_tokens d ++ hs) ls us → begins_spec ls ≡ false
 decl_begins (constant u ns t) hs ls us (next p g) = refl
 decl_begins (function n ps ins t b) hs ls us (next p g) = refl
 decl_begins (axiom_of x) hs ls us (next p g) = refl

@@ -11,3 +11,4 @@ pub mod StatementNestings
 pub mod ReadBackDecl
 pub mod Lexed
 pub mod RoundTrip
+pub mod Heads

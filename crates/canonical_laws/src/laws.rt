@@ -1,4 +1,5 @@
 // Laws of the canonical text, over the definitions alone.
+ghost use Rattle.canonical_laws.specs.Heads.{TextsTellDeclarations};
 ghost use Rattle.canonical_laws.specs.ReadBack.{ExpressionsAreReadBack, TypesAreReadBack};
 ghost use Rattle.canonical_laws.specs.ReadBackDecl.{DeclarationsAreReadBack};
 ghost use Rattle.canonical_laws.specs.RoundTrip.{CanonicalTextSpellsTheSame, CanonicalTextSpellsTheSameOrIsDeep, LexesToItsTokens, ProgramsAreReadBack, SameProgramsHaveOneText, SomeCanonicalTextIsDeep};
@@ -53,4 +54,10 @@ pub fn some_canonical_text_is_deep()
 /// read of a canonical text is printed with the same bytes.
 pub fn same_programs_have_one_text()
     ensures { SameProgramsHaveOneText }
+{}
+
+/// A text of a procedure's own declarations and of others without bodies tells all of them but for
+/// places, and the others but for their bodies.
+pub fn texts_tell_declarations()
+    ensures { TextsTellDeclarations }
 {}
