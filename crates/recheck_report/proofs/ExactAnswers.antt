@@ -3,7 +3,8 @@ use Rattle.std.proofs.Common.{◌≡◌, ◌∙◌, refl, sym, ap, subst, arith,
 use Rattle.proof_text.specs.Reading.{OneProofATextHas, OneBadPlace}
 use Rattle.proof_lines.specs.Lines.{first_line, later_lines}
 use Rattle.recheck_report.specs.Judged.{Judgement, accepted, missing, bad, rejected, IsJudged, complaint}
-use Rattle.recheck_report.specs.Recheck.{Head, accepted_line, Rechecks, all_accepted, has_proof, lacks_one}
+use Rattle.recheck_report.specs.Accepted.{accepted_line}
+use Rattle.recheck_report.specs.Recheck.{Head, Rechecks, all_accepted, has_proof, lacks_one}
 use Rattle.recheck_report.specs.Worth.{AreAccepted, AcceptedExactly}
 use Rattle.recheck_report.proofs.OneAnswers.{nothing_said}
 

@@ -7,7 +7,8 @@ use Rattle.report_text.specs.Report.{head as head_text}
 use Rattle.proof_lines.specs.Lines.{first_line, later_lines}
 use Rattle.program_opening.specs.ProcGoals.{ProcGoals}
 use Rattle.recheck_report.specs.Judged.{Judgement, accepted, missing, bad, rejected, IsJudged, complaint}
-use Rattle.recheck_report.specs.Recheck.{Head, head_of, heads_in, heads, accepted_line, Rechecks, all_accepted, has_proof, lacks_one}
+use Rattle.recheck_report.specs.Accepted.{accepted_line}
+use Rattle.recheck_report.specs.Recheck.{Head, head_of, heads_in, heads, Rechecks, all_accepted, has_proof, lacks_one}
 use Rattle.recheck_report.specs.AnswerView.{IsSaid, LeadsOn}
 
 -- nothing is said only of what is accepted

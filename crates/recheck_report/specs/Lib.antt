@@ -1,5 +1,6 @@
 pub mod Judged
 pub mod JudgedView
+pub mod Accepted
 pub mod Recheck
 pub mod AnswerView
 pub mod Worth

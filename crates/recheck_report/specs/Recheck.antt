@@ -1,11 +1,12 @@
 -- The answer of `recheck` to goals and lines: of the first goal without an accepted proof what is said of its line, or that there is none.
-use Rattle.std.specs.Prelude.{◌≡◌, ℕ, Bool, true, false, List, [], ◌∷◌, map, flat_map, Some, codes}
+use Rattle.std.specs.Prelude.{◌≡◌, ℕ, Bool, true, false, List, [], ◌∷◌, map, flat_map, Some}
 use Rattle.logic_core.specs.Def.{Obligation}
 use Rattle.vc_build.specs.declared.goal.Goal.{Goal}
 use Rattle.report_text.specs.Report.{head as head_text}
 use Rattle.proof_lines.specs.Lines.{first_line, later_lines}
 use Rattle.program_opening.specs.ProcGoals.{ProcGoals}
 use Rattle.recheck_report.specs.Judged.{Judgement, accepted, IsJudged, complaint}
+use Rattle.recheck_report.specs.Accepted.{accepted_line}
 
 pub record Head : Type 0 where
   pub head : List ℕ
@@ -21,9 +22,6 @@ heads_in p = map (head_of p.name) p.goals
 
 abbrev pub heads : List ProcGoals → List Head
 heads ps = flat_map heads_in ps
-
-abbrev pub accepted_line : List ℕ
-accepted_line = codes "accepted"
 
 -- One line for each goal; lines beyond them are passed over. The last says whether every goal has an accepted proof.
 pub data Rechecks : List Head → List (List ℕ) → List ℕ → Bool → Type 0 where

@@ -8,7 +8,8 @@ use Rattle.vc_build.specs.Goals.{goals}
 use Rattle.program_opening.specs.ProcGoals.{goals_by_proc}
 use Rattle.program_opening.specs.Opening.{program, Opens}
 use Rattle.recheck_report.specs.Judged.{accepted, IsJudged}
-use Rattle.recheck_report.specs.Recheck.{Head, heads, accepted_line, Rechecks}
+use Rattle.recheck_report.specs.Accepted.{accepted_line}
+use Rattle.recheck_report.specs.Recheck.{Head, heads, Rechecks}
 
 -- goals and lines have one answer at most: a text is that of one proof, a bad text has one place, and no text is both
 abbrev pub OneAnswer : Type 0

@@ -3,16 +3,9 @@ use Rattle.std.specs.Prelude.{◌≡◌, ℕ, true, List, map, All, slice_get, S
 use Rattle.std.specs.List.{list_all}
 use Rattle.flow_core.specs.declared.mark.Mark.{Mark}
 use Rattle.tableau.specs.Search.{Verdict, is_proved}
-use Rattle.report_text.specs.Report.{report, correct_line}
-use Rattle.report_text.specs.Lines.{line_feed, text_of, IsWithout, HasLine}
-
-abbrev pub colon : ℕ
-colon = 58
-
--- a procedure's name has neither a line feed nor a colon
-pub record IsName (name : List ℕ) : Type 0 where
-  pub no_feed : IsWithout line_feed name
-  pub no_colon : IsWithout colon name
+use Rattle.report_text.specs.Report.{report}
+use Rattle.report_text.specs.Lines.{text_of, HasLine}
+use Rattle.report_text.specs.Called.{correct_line, IsName}
 
 -- one of the procedures has this name, and each of its verdicts is that a proof was found
 pub record IsProvedAmong (names : List (List ℕ)) (vss : List (List Verdict)) (name : List ℕ) : Type 0 where

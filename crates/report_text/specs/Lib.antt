@@ -1,3 +1,4 @@
 pub mod Report
 pub mod Lines
+pub mod Called
 pub mod Correct

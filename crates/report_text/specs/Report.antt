@@ -49,7 +49,3 @@ report [] mss vss = []
 report (n ∷ ns) [] vss = []
 report (n ∷ ns) (ms ∷ mss) [] = []
 report (n ∷ ns) (ms ∷ mss) (vs ∷ vss) = proc_lines n ms vs ++ report ns mss vss
-
--- what a report says of a procedure that is correct
-abbrev pub correct_line : List ℕ → List ℕ
-correct_line name = name ++ codes " correct"

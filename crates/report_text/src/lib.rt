@@ -14,4 +14,4 @@ mod reports;
 pub mod laws;
 
 pub use heads::head;
-pub use reports::{report, text};
+pub use reports::{all_proved, is_proof, report, text};

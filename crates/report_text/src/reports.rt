@@ -23,8 +23,8 @@ fn word(verdict: Verdict) -> &'static [u8]
     }
 }
 
-// Whether a proof was found.
-fn is_proof(verdict: Verdict) -> bool
+/// Whether a proof was found.
+pub fn is_proof(verdict: Verdict) -> bool
     ensures { result ≡ is_proved (verdict_of verdict) }
 {
     match verdict {
@@ -33,8 +33,8 @@ fn is_proof(verdict: Verdict) -> bool
     }
 }
 
-// Whether each of a procedure's goals is proved.
-fn all_proved(verdicts: &[Verdict]) -> bool
+/// Whether each of a procedure's goals is proved.
+pub fn all_proved(verdicts: &[Verdict]) -> bool
     ensures { result ≡ list_all is_proved (map verdict_of verdicts.now) }
 {
     for verdict in verdicts {

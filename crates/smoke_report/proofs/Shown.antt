@@ -22,7 +22,8 @@ use Rattle.goal_laws.specs.Proved.{GoalsAreSorted}
 use Rattle.smoke_report.specs.declared.program_point.ProgramPoint.{ProgramPoint}
 use Rattle.smoke_report.specs.ProgramPoints.{program_points}
 use Rattle.smoke_report.specs.Smoke.{point_goals, is_point, is_mark_of, is_shown, is_shown_or_another, is_unreachable, unreachable}
-use Rattle.smoke_report.specs.Sound.{ValidPointsAreUnreached, IsUnreached, UnreachableIsUnreached}
+use Rattle.smoke_report.specs.Unreached.{IsUnreached}
+use Rattle.smoke_report.specs.Sound.{ValidPointsAreUnreached, UnreachableIsUnreached}
 use Rattle.smoke_report.proofs.Points.{IsAt, each_is, chosen}
 use Rattle.smoke_report.proofs.Unreached.{contained, in_module}
 

@@ -1,3 +1,5 @@
 pub mod ProgramPoints
+pub mod PointLines
 pub mod Smoke
+pub mod Unreached
 pub mod Sound

@@ -1,5 +1,5 @@
 -- What is said of a program's points: those that the search shows to be unreachable, each with so many turns, and how many there are.
-use Rattle.std.specs.Prelude.{ℕ, nat_eq, Bool, true, false, ◌&&◌, cond, List, [], ◌∷◌, ◌++◌, map, filter, length, codes, decimal, Option, None}
+use Rattle.std.specs.Prelude.{ℕ, nat_eq, Bool, true, false, ◌&&◌, cond, List, [], ◌∷◌, ◌++◌, map, filter, length, Option, None}
 use Rattle.std.specs.List.{list_all}
 use Rattle.std.specs.Option.{option_or}
 use Rattle.fault_text.specs.Words.{same_place}
@@ -9,8 +9,6 @@ use Rattle.flow_core.specs.declared.mark.Mark.{Mark}
 use Rattle.bpl_model.specs.Module.{Module}
 use Rattle.bpl_goto.specs.Removed.{remove_gotos}
 use Rattle.tableau.specs.Search.{answer, is_proved}
-use Rattle.bpl_smoke.specs.declared.point.PointKind.{PointKind}
-use Rattle.bpl_smoke.specs.declared.point.PointKind.TheVariants.{Branch, Else, Loop, End}
 use Rattle.bpl_smoke.specs.Put.{with_point}
 use Rattle.vc_build.specs.declared.goal.Goal.{Goal}
 use Rattle.vc_build.specs.declared.fault.Measure.{Measure}
@@ -18,6 +16,7 @@ use Rattle.vc_build.specs.Goals.{goals_at}
 use Rattle.vc_build.specs.Large.{large}
 use Rattle.smoke_report.specs.declared.program_point.ProgramPoint.{ProgramPoint}
 use Rattle.smoke_report.specs.ProgramPoints.{program_points}
+use Rattle.smoke_report.specs.PointLines.{point_line, summary}
 
 -- ---- a point
 
@@ -50,19 +49,6 @@ abbrev pub none_unreachable : ℕ → Module → Bool
 none_unreachable turns m = nat_eq (length (unreachable turns m)) 0
 
 -- ---- the lines
-
-abbrev pub kind_text : PointKind → List ℕ
-kind_text (Branch k) = codes "branch(" ++ decimal k ++ codes ")"
-kind_text Else = codes "else"
-kind_text Loop = codes "loop"
-kind_text End = codes "end"
-
-abbrev pub point_line : ProgramPoint → List ℕ
-point_line x = x.name ++ codes " " ++ decimal x.point.mark.place.line ++ codes ":" ++ decimal x.point.mark.place.col ++ codes " " ++ kind_text x.point.kind ++ codes " unreachable"
-
--- so many points, and so many of them unreachable
-abbrev pub summary : ℕ → ℕ → List ℕ
-summary n u = codes "smoke points=" ++ decimal n ++ codes " unreachable=" ++ decimal u
 
 abbrev pub smoke_lines : ℕ → Module → List (List ℕ)
 smoke_lines turns m = map point_line (unreachable turns m) ++ summary (length (program_points m)) (length (unreachable turns m)) ∷ []

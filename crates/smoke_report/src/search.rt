@@ -1,8 +1,6 @@
 // What the search says of a point.
 ghost use Rattle.std.specs.Prelude.{◌≡◌, None, IfErr, IfOk};
 ghost use Rattle.std.specs.List.{list_all};
-ghost use Rattle.tableau.specs.RunView.{verdict_of};
-ghost use Rattle.tableau.specs.Search.{is_proved};
 ghost use Rattle.bpl_goto.specs.Forward.{AllGoForward};
 ghost use Rattle.vc_build.specs.Large.{large};
 ghost use Rattle.vc_build.specs.Exceeds.{IsFaultOf};
@@ -14,8 +12,8 @@ use bpl_model::{GoalKind, Mark, Module};
 use bpl_smoke::laws::with_point_goes_forward;
 use bpl_smoke::with_point;
 use logic_core::Sequence;
+use report_text::is_proof;
 use std::alloc::{AllocError, Global};
-use tableau::ended::Verdict;
 use tableau::search::answer;
 use vc_build::{BuildFault, Goal, build};
 
@@ -34,16 +32,6 @@ fn is_mark_of(point: &ProgramPoint, mark: Mark) -> bool
     ensures { result ≡ is_mark_of point.now mark }
 {
     is_point(point.number, mark.kind) && mark.place == point.point.mark.place
-}
-
-// Whether a proof was found.
-fn is_proof(verdict: Verdict) -> bool
-    ensures { result ≡ is_proved (verdict_of verdict) }
-{
-    match verdict {
-        Verdict::Proved => true,
-        Verdict::Open | Verdict::Turns | Verdict::Wide => false,
-    }
 }
 
 // Whether the search finds a proof of the goal.

@@ -1,6 +1,7 @@
 use Rattle.std.proofs.Common.{◌≡◌, ◌++◌, drop, map}
 use Rattle.std.specs.Prelude.{filter}
-use Rattle.smoke_report.specs.Smoke.{is_unreachable, point_line, large_among}
+use Rattle.smoke_report.specs.PointLines.{point_line}
+use Rattle.smoke_report.specs.Smoke.{is_unreachable, large_among}
 use Rattle.smoke_report.proofs.report.point_lines.Given as goal
 
 -- the lines so far, and then those of the points that are left, are all; up to here no limit is exceeded

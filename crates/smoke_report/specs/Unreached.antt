@@ -1,0 +1,24 @@
+-- What bytes say of points: that no execution reaches them.
+use Rattle.std.specs.Prelude.{◌≡◌, ℕ, List, [], ◌∷◌, ◌++◌, map, length, slice_get, Some}
+use Rattle.std.specs.List.{AllByRecursion}
+use Rattle.bpl_model.specs.Module.{Proc, Module}
+use Rattle.bpl_smoke.specs.Points.{point_at}
+use Rattle.bpl_smoke.specs.Reach.{Reaches}
+use Rattle.report_text.specs.Lines.{text_of}
+use Rattle.smoke_report.specs.declared.program_point.ProgramPoint.{ProgramPoint}
+use Rattle.smoke_report.specs.PointLines.{point_line, summary}
+
+-- it is a point of a procedure of this module, and that procedure reaches it from none of its entry states
+pub record IsUnreached (m : Module) (x : ProgramPoint) : Type 0 where
+  pub proc : Proc
+  pub there : slice_get m.procs x.proc ≡ Some proc
+  pub named : proc.name ≡ x.name
+  pub is_point : point_at proc x.number ≡ Some x.point
+  pub never : ¬ Reaches m x.proc x.number
+
+-- these bytes are the lines of points that are so, and a last one that counts them
+pub record NamesUnreached (m : Module) (written : List ℕ) : Type 0 where
+  pub named : List ProgramPoint
+  pub count : ℕ
+  pub said : written ≡ text_of (map point_line named ++ summary count (length named) ∷ [])
+  pub unreached : AllByRecursion (IsUnreached m) named
