@@ -1,5 +1,5 @@
 -- Whether all verdicts that were found are proofs is whether all goals are proved.
-use Rattle.std.proofs.Common.{◌≡◌, ◌∙◌, refl, sym, ap, ℕ, ◌&&◌, List, [], ◌∷◌, map, Vec, Global}
+use Rattle.std.proofs.Common.{◌≡◌, ◌∙◌, sym, ap, ℕ, List, map, Vec, Global}
 use Rattle.std.specs.List.{list_all}
 use Rattle.std.proofs.lemmas.List.Folds.{list_all-map}
 use Rattle.tableau.specs.declared.ended.Verdict.{Verdict}
@@ -8,12 +8,8 @@ use Rattle.tableau.specs.Search.{is_proved}
 use Rattle.program_opening.specs.ProcGoals.{ProcGoals}
 use Rattle.check_report.specs.Scratch.{verdicts, all_proved}
 
-each_seen : (found : List (Vec Verdict Global)) → list_all (λ (vs : Vec Verdict Global). list_all (λ v. is_proved (verdict_of v)) vs.items) found ≡ list_all (λ (vs : Vec Verdict Global). list_all is_proved (map verdict_of vs.items)) found
-each_seen [] = refl
-each_seen (vs ∷ found) = λ i. sym (list_all-map is_proved verdict_of vs.items) i && each_seen found i
-
 pub all_by_parts : (turns : ℕ) (found : List (Vec Verdict Global)) (ps : List ProcGoals) → map (λ vs. map verdict_of vs.items) found ≡ map (λ p. verdicts turns p.goals) ps
-    → list_all (λ vs. list_all (λ v. is_proved (verdict_of v)) vs.items) found ≡ all_proved turns ps
+    → list_all (λ vs. list_all is_proved (map verdict_of vs.items)) found ≡ all_proved turns ps
 all_by_parts turns found ps e =
-    each_seen found ∙ sym (list_all-map (list_all is_proved) (λ (vs : Vec Verdict Global). map verdict_of vs.items) found) ∙ ap (list_all (list_all is_proved)) e
+    sym (list_all-map (list_all is_proved) (λ (vs : Vec Verdict Global). map verdict_of vs.items) found) ∙ ap (list_all (list_all is_proved)) e
     ∙ list_all-map (list_all is_proved) (λ (p : ProcGoals). verdicts turns p.goals) ps

@@ -9,7 +9,8 @@ use Rattle.vc_build.specs.declared.goal.Goal.{Goal}
 use Rattle.vc_build.specs.Goals.{goals}
 use Rattle.vc_build.specs.Rebuild.{with_body}
 use Rattle.vc_build.specs.Sound.{ValidGoalsAreSafe}
-use Rattle.report_text.specs.Correct.{IsName, IsProvedAmong, CorrectIsProved}
+use Rattle.report_text.specs.Called.{IsName}
+use Rattle.report_text.specs.Correct.{IsProvedAmong, CorrectIsProved}
 use Rattle.program_opening.specs.ProcGoals.{ProcGoals, goals_by_proc}
 use Rattle.program_opening.specs.Opening.{program, opening, Opens}
 use Rattle.program_opening.specs.Laws.{IsSound, DeclaredModulesAreSound}

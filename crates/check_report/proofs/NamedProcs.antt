@@ -7,7 +7,7 @@ use Rattle.tableau.specs.Search.{Verdict}
 use Rattle.bpl_model.specs.Module.{Proc, Module}
 use Rattle.vc_build.specs.Goals.{goals}
 use Rattle.vc_build.specs.Rebuild.{with_body}
-use Rattle.report_text.specs.Correct.{IsName}
+use Rattle.report_text.specs.Called.{IsName}
 use Rattle.program_opening.specs.ProcGoals.{ProcGoals, goals_of_proc, goals_by_proc}
 use Rattle.program_opening.specs.Laws.{HaveOwnNames}
 use Rattle.check_report.specs.Scratch.{verdicts}

@@ -1,5 +1,6 @@
 -- The procedures of a program that a text spells have names without line feed and colon.
-use Rattle.std.proofs.Common.{◌≡◌, ◌∙◌, refl, sym, ap, subst, arith, ℕ, zero, suc, ◌<◌, get_or, length, nat_eq, Bool, true, false, cond, ◌&&◌, ◌||◌, IsTrue, Some, None, Result, Ok, Err, List, [], ◌∷◌, ◌++◌, flat_map, if◌then◌else◌}
+use Rattle.std.proofs.Common.{◌≡◌, ◌∙◌, refl, sym, ap, subst, arith, ℕ, zero, suc, ◌<◌, get_or, length, nat_eq, Bool, true, false, cond, ◌&&◌, ◌||◌, IsTrue, Some, None, Result, Ok, Err, List, [], ◌∷◌, ◌++◌, flat_map, append-nil, if◌then◌else◌}
+use Rattle.std.proofs.lemmas.Grind.{flat_map-append}
 use Rattle.std.specs.List.{AllByRecursion, list_all}
 use Rattle.std.proofs.lemmas.List.Elements.{recursion_from_All}
 use Rattle.bv_base.specs.declared.place.Place.{Place}
@@ -9,7 +10,7 @@ use Rattle.bpl_lex.specs.Lexing.{tokens}
 use Rattle.bpl_lex.proofs.FirstBytes.{differs}
 use Rattle.bpl_lex.proofs.Laws.{spelled, each_of_kind}
 use Rattle.bpl_lex.proofs.Shapes.{is_name_byte}
-use Rattle.bpl_ast.specs.Statement.{DeclBody, Decl}
+use Rattle.bpl_ast.specs.Statement.{DeclBody, constant, function, axiom_of, variables, synonym, procedure, implementation, Decl}
 use Rattle.bpl_grammar.specs.Lexeme.{Lexeme, same_kind, lexemes}
 use Rattle.bpl_grammar.specs.Types.{IsId}
 use Rattle.bpl_grammar.specs.Programs.{DeclBody', of_const, of_unique_const, of_function, of_axiom, of_var, of_type, of_synonym, of_procedure, of_procedure_with_body, of_implementation, Decls, SpelledIn}
@@ -17,11 +18,12 @@ use Rattle.bpl_grammar.specs.Programs as programs
 use Rattle.bpl_grammar.proofs.Suffixes.{Suffix, here, later, takes_suffix}
 use Rattle.bpl_scopes.specs.Scopes.{Table, table_of, Counts, no_counts, counts_after}
 use Rattle.bpl_model.specs.Module.{Proc}
+use Rattle.bpl_sorts.specs.Erased.{users_with, replaced_body, replaced_from, replaced, Unique, one_more, axioms_from, axioms_after, uniques, carrier_axioms, as_integers, erased}
 use Rattle.module_laws.specs.Elaborate.{procs_in, module_of}
 use Rattle.program_opening.specs.Spelled.{IsSpelled, AreSpelled}
 use Rattle.goal_laws.proofs.Joined.{all_join}
 use Rattle.report_text.specs.Lines.{line_feed, count, IsWithout}
-use Rattle.report_text.specs.Correct.{colon, IsName}
+use Rattle.report_text.specs.Called.{colon, IsName}
 
 -- ---- an identifier is a name
 
@@ -149,5 +151,33 @@ all_spelled ds table counts (e ∷ es) h =
     all_join (λ (p : Proc). IsName p.name) (procs_in ds table counts e.body) (flat_map (λ (x : Decl). procs_in ds table counts x.body) es)
     (spelled_one ds table counts e h.0) (all_spelled ds table counts es h.1)
 
-pub spelled_names : (ds : List Decl) → AreSpelled ds → AllByRecursion (λ (p : Proc). IsName p.name) (module_of ds).procs
-spelled_names ds h = all_spelled ds (table_of ds) (counts_after no_counts ds) ds h
+-- ---- erased declarations have the same procedures
+
+module _ (all : List Decl) (table : Table) (counts : Counts) where
+  abbrev procs_of : List Decl → List Proc
+  procs_of ds = flat_map (λ (d : Decl). procs_in all table counts d.body) ds
+
+  same_body : (t : Table) (k : ℕ) (b : DeclBody) → procs_in all table counts (replaced_body as_integers t k b) ≡ procs_in all table counts b
+  same_body t k (constant u ns s) = refl
+  same_body t k (function n ps ins r x) = refl
+  same_body t k (axiom_of x) = refl
+  same_body t k (variables gs) = refl
+  same_body t k (synonym n None) = refl
+  same_body t k (synonym n (Some s)) = refl
+  same_body t k (procedure n ps g ss b) = refl
+  same_body t k (implementation n ps g b) = refl
+
+  same_procs : (t : Table) (k : ℕ) (ds : List Decl) → procs_of (replaced_from as_integers t k ds) ≡ procs_of ds
+  same_procs t k [] = refl
+  same_procs t k (d ∷ ds) = λ j. same_body t (users_with k d.body) d.body j ++ same_procs t (users_with k d.body) ds j
+
+  no_procs : (count : ℕ → ℕ) (k : ℕ) (us : List Unique) → procs_of (axioms_from count k us) ≡ []
+  no_procs count k [] = refl
+  no_procs count k (u ∷ us) = no_procs (one_more count u.0) (suc k) us
+
+pub spelled_names : (ds : List Decl) → AreSpelled ds → AllByRecursion (λ (p : Proc). IsName p.name) (module_of (erased ds)).procs
+spelled_names ds h =
+    let e = erased ds in let t = table_of e in let c = counts_after no_counts e in
+    subst AreNamed (sym (flat_map-append (λ (d : Decl). procs_in e t c d.body) (replaced as_integers ds) (carrier_axioms ds)
+    ∙ ((λ j. same_procs e t c (table_of ds) 0 ds j ++ no_procs e t c (λ i. 0) (axioms_after 0 ds) (uniques (table_of ds) ds) j) ∙ append-nil (procs_of e t c ds))))
+    (all_spelled e t c ds h)

@@ -1,2 +1,3 @@
 pub mod Scratch
+pub mod Called
 pub mod Sound

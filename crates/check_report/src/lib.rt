@@ -4,7 +4,7 @@
 #![tactic(auto)]
 
 // What the search says of goals.
-mod verdicts;
+pub mod verdicts;
 
 // The report on a program.
 pub mod reports;

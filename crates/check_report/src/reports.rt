@@ -8,7 +8,7 @@ ghost use Rattle.check_report.specs.Scratch.{lines_on, all_proved};
 
 use crate::verdicts::{marks, verdicts};
 use program_opening::ProcGoals;
-use report_text::text;
+use report_text::{all_proved, text};
 use std::alloc::{AllocError, Global};
 use tableau::ended::Verdict;
 
@@ -40,26 +40,9 @@ pub fn report(alloc: Global, procs: &[ProcGoals], turns: u64) -> Result<Reported
     })
 }
 
-// Whether a proof was found.
-fn is_proof(verdict: Verdict) -> bool
-    ensures { result ≡ is_proved (verdict_of verdict) }
-{
-    match verdict {
-        Verdict::Proved => true,
-        Verdict::Open | Verdict::Turns | Verdict::Wide => false,
-    }
-}
-
-// Whether a proof was found for each goal of a procedure.
-fn are_proofs(verdicts: &[Verdict]) -> bool
-    ensures { result ≡ list_all (λ v. is_proved (verdict_of v)) verdicts.now }
-{
-    verdicts.iter().all(|verdict| is_proof(*verdict))
-}
-
-// Whether one was found for each goal of each procedure.
+// Whether a proof was found for each goal of each procedure.
 fn all_are_proofs(found: &[Vec<Verdict>]) -> bool
-    ensures { result ≡ list_all (λ vs. list_all (λ v. is_proved (verdict_of v)) vs.items) found.now }
+    ensures { result ≡ list_all (λ vs. list_all is_proved (map verdict_of vs.items)) found.now }
 {
-    found.iter().all(|verdicts| are_proofs(verdicts))
+    found.iter().all(|verdicts| all_proved(verdicts))
 }

@@ -5,6 +5,7 @@ use Rattle.bpl_ast.specs.Statement.{Decl}
 use Rattle.bpl_model.specs.Module.{Module}
 use Rattle.module_laws.specs.ModuleLaws.{FaultlessIsTyped, FaultlessGoesForward}
 use Rattle.vc_build.specs.Sound.{ValidGoalsAreSafe}
+use Rattle.bpl_sorts.specs.Erased.{erased}
 use Rattle.program_opening.specs.Opening.{program}
 use Rattle.program_opening.specs.Laws.{IsSound, DeclaredModulesAreSound, ModulesAreSound, ProgramsAreSound}
 use Rattle.program_opening.proofs.Openings.{program_of}
@@ -13,7 +14,7 @@ use Rattle.program_opening.proofs.OwnNames.{own_names}
 pub declared_modules_are_sound : FaultlessIsTyped → FaultlessGoesForward → DeclaredModulesAreSound
 declared_modules_are_sound typed forward ds m h =
     let found = program_of ds m (sym h) in
-    subst IsSound (sym found.1) (record { typed = typed ds found.0; forward = forward ds found.0; own_names = own_names ds found.0 })
+    subst IsSound (sym found.1) (record { typed = typed (erased ds) found.0; forward = forward (erased ds) found.0; own_names = own_names (erased ds) found.0 })
 
 pub modules_are_sound : DeclaredModulesAreSound → ModulesAreSound
 modules_are_sound sound text m (inl s) = sound s.decls m (sym s.is)

@@ -31,7 +31,7 @@ pub enum Opened {
     Refused(Written),
 }
 
-// What a program without faults of names and sorts is, whose module this is.
+// What a program without faults of names and types is, whose module this is.
 #[tactic(auto, using(crate::proofs::Openings::large_is))]
 fn open_module(alloc: Global, module: Module) -> Result<Opened, AllocError>
     requires { AllGoForward «module» }
@@ -59,7 +59,7 @@ fn open_program(alloc: Global, program: &Program) -> Result<Opened, AllocError>
 
 /// What the text is: the program that it spells, with its module and the goals of each procedure with
 /// a body, or the first of its faults as it is written. A fault of the text itself stands before those
-/// of names and sorts, and these before the limits on goals. The only error is want of memory.
+/// of names and types, and these before the limits on goals. The only error is want of memory.
 #[tactic(auto, using(crate::proofs::Openings::spelled_is, crate::proofs::Openings::told_is))]
 pub fn open(alloc: Global, text: &[u8]) -> Result<Opened, AllocError>
     requires { length text.now < 2 ^ 32 - 1 }

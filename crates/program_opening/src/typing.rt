@@ -1,33 +1,84 @@
-// What declarations are by names and sorts.
-ghost use Rattle.std.specs.Prelude.{IfOk};
+// What declarations are by names and types.
+ghost use Rattle.std.specs.Prelude.{◌≡◌, ◌<◌, length, None, IfOk};
+ghost use Rattle.bpl_declaration_faults.specs.DeclFaults.{fault_of};
+ghost use Rattle.bpl_goto.specs.Forward.{AllGoForward};
+ghost use Rattle.module_laws.specs.Elaborate.{module_of};
 ghost use Rattle.program_faults.specs.FaultView.{SourcesAreShort};
-ghost use Rattle.program_opening.specs.Opening.{typing};
+ghost use Rattle.bpl_sorts.specs.Erased.{erased};
+ghost use Rattle.bpl_sorts.specs.CarrierFaults.{carrier_fault};
+ghost use Rattle.program_opening.specs.Opening.{told_carrier, typing_by_carriers, typing};
 ghost use Rattle.program_opening.specs.OpenedView.{IsTypedAs};
 
-use bpl_ast::Program;
+use bpl_ast::{Decl, Program};
 use bpl_model::Module;
 use bpl_resolve::{ResolveFault, resolve};
-use fault_text::Written;
+use bpl_scopes::TypeKind;
+use bpl_sorts::{CarrierFault, check_carriers, erase};
+use bv_base::place::Place;
+use fault_text::{Written, fault_in_decl};
 use program_faults::written_of_program;
 use std::alloc::{AllocError, Global};
 
-/// What declarations are: a module, or what has a first fault by names and sorts, as it is written.
+/// What declarations are: a module, or what has a first fault by names and types, as it is written.
 #[derive(Drop)]
 pub enum Typed {
     Module(Module),
     Refused(Written),
 }
 
-/// What the declarations are by names and sorts. The only error is want of memory.
-#[tactic(auto, using(crate::proofs::Openings::faulty_is, crate::proofs::Openings::faultless_is, module_laws::proofs::GoesForward::goes_forward, program_faults::proofs::Position::fault_there))]
+// The fault of a user type that is taken for another type, written.
+fn written_of_carrier(
+    alloc: Global,
+    decls: &[Decl],
+    decl: usize,
+    at: Place,
+) -> Result<Written, AllocError>
+    requires sources { SourcesAreShort decls.now }
+    requires there { decl < length decls.now }
+    ensures { IfOk result (λ w. w ≡ told_carrier decls.now (decl, at)) }
+{
+    let written = fault_in_decl(alloc, &decls[decl], TypeKind::Sort, at)?;
+    Ok(Written {
+        kind: Vec::from_slice(alloc, b"Carrier")?,
+        decl: written.decl,
+        place: written.place,
+        word: written.word,
+    })
+}
+
+// What declarations are whose erased ones have no fault and this module.
+#[tactic(auto, using(crate::proofs::Openings::carriers_told, crate::proofs::Openings::carriers_right, crate::proofs::Openings::carrier_there))]
+fn with_carriers(alloc: Global, program: &Program, module: Module) -> Result<Typed, AllocError>
+    requires sources { SourcesAreShort program.now }
+    requires faultless { fault_of (erased program.now) ≡ None }
+    requires module { «module» ≡ module_of (erased program.now) }
+    requires forward { AllGoForward «module» }
+    ensures { IfOk result (λ t. IsTypedAs (typing_by_carriers program.now (carrier_fault program.now)) t) }
+{
+    match check_carriers(alloc, program) {
+        Ok(()) => Ok(Typed::Module(module)),
+        Err(CarrierFault::Carrier { decl, at }) => Ok(Typed::Refused(written_of_carrier(
+            alloc,
+            &program.decls,
+            decl,
+            at,
+        )?)),
+        Err(CarrierFault::Memory) => Err(AllocError),
+    }
+}
+
+/// What the declarations are by names and types: user types are read as integers, and then told from
+/// them and from each other. The only error is want of memory.
+#[tactic(auto, using(crate::proofs::Openings::faulty_is, crate::proofs::Openings::typed_as, crate::proofs::Openings::sources_stay, module_laws::proofs::GoesForward::goes_forward, program_faults::proofs::Position::fault_there))]
 pub fn type_check(alloc: Global, program: &Program) -> Result<Typed, AllocError>
     requires { SourcesAreShort program.now }
     ensures { IfOk result (λ t. IsTypedAs (typing program.now) t) }
 {
-    match resolve(alloc, program) {
-        Ok(module) => Ok(Typed::Module(module)),
+    let erased = erase(alloc, program)?;
+    match resolve(alloc, &erased) {
+        Ok(module) => with_carriers(alloc, program, module),
         Err(ResolveFault::Fault(fault)) => {
-            Ok(Typed::Refused(written_of_program(alloc, &program.decls, fault)?))
+            Ok(Typed::Refused(written_of_program(alloc, &erased.decls, fault)?))
         }
         Err(ResolveFault::Memory) => Err(AllocError),
     }

@@ -14,5 +14,5 @@ returns-clause-all c =
     let procs = c.args.procs.now in
     let whole : take c.loop-proc.proc-index procs ≡ procs = take_all c.loop-proc.proc-index procs c.loop-proc-test.false in
     let found = c.loop-proc.invariant.found ∙ ap (map (λ (p : ProcGoals). verdicts c.args.turns p.goals)) whole in
-    c.all_are_proofs.ensures ∙ ap (list_all (λ (vs : Vec Verdict Global). list_all (λ v. is_proved (verdict_of v)) vs.items)) c.deref-6.ensures.value
+    c.all_are_proofs.ensures ∙ ap (list_all (λ (vs : Vec Verdict Global). list_all is_proved (map verdict_of vs.items))) c.deref-6.ensures.value
     ∙ all_by_parts c.args.turns c.loop-proc.found.items procs found

@@ -1,0 +1,17 @@
+-- What bytes say: a procedure that they call correct is safe.
+use Rattle.std.specs.Prelude.{◌≡◌, ℕ, List, Contains}
+use Rattle.bpl_model.specs.Module.{Proc, Module}
+use Rattle.bpl_model.specs.Safe.{Safe}
+use Rattle.report_text.specs.Lines.{HasLine}
+use Rattle.report_text.specs.Called.{correct_line, IsName}
+
+-- some procedure has this name, and no execution from an entry state of one that has it fails
+pub record IsSafeIn (m : Module) (name : List ℕ) : Type 0 where
+  pub proc : Proc
+  pub there : Contains m.procs proc
+  pub named : proc.name ≡ name
+  pub safe : (p : Proc) → Contains m.procs p → p.name ≡ name → Safe m p
+
+-- where the line stands in these bytes, whole, that the procedure of a name is correct, the procedure of that name is safe
+abbrev pub CallsCorrectTheSafe : Module → List ℕ → Type 0
+CallsCorrectTheSafe m written = (name : List ℕ) → IsName name → HasLine written (correct_line name) → IsSafeIn m name
