@@ -1,0 +1,9 @@
+mod LinesAlone
+mod Parts
+mod Programs
+mod Calls
+mod Sessions
+mod RefusedEdits
+mod ShortTexts
+mod TrueReports
+mod StaySpelled

@@ -1,0 +1,111 @@
+-- What is found of all goals, procedure by procedure.
+use Rattle.std.proofs.Common.{◌≡◌, ◌∙◌, refl, sym, ap, arith, add-one, append_assoc, drop-cons, ℕ, ◌+◌, ◌<◌, List, get_or, [], ◌∷◌, ◌++◌, map, length, take, drop, sum, length-append}
+use Rattle.std.specs.Prelude.{flat_map}
+use Rattle.std.proofs.lemmas.List.{map-append, take-map, drop-map, take_at, drop_at, length-map}
+use Rattle.std.proofs.lemmas.List.Sums.{sum_by-cons}
+use Rattle.obligation_text.specs.Asked.{Asked}
+use Rattle.tableau.specs.Settled.{Settled, settled_by}
+use Rattle.vc_build.specs.declared.goal.Goal.{Goal}
+use Rattle.vc_rebuild.specs.declared.kept.BuiltProc.{BuiltProc}
+use Rattle.tableau.specs.Search.{Verdict}
+use Rattle.flow_core.specs.declared.mark.Mark.{Mark}
+use Rattle.bpl_ast.specs.Statement.{Decl}
+use Rattle.bpl_model.specs.Module.{Module}
+use Rattle.report_text.specs.Report.{report}
+use Rattle.stmt_checksum.specs.SumLines.{sum_lines}
+use Rattle.program_opening.specs.ProcGoals.{ProcGoals}
+use Rattle.check_report.specs.Scratch.{verdicts, lines_on}
+use Rattle.edit_session.specs.Program.{question, text_or_none, proof_line}
+use Rattle.edit_session.specs.Sums.{sums_on}
+use Rattle.edit_session.specs.Built.{proc_goals, goal_counts, questions_of, in_parts}
+
+pub map_map : {A B C : Type 0} (f : A → B) (g : B → C) (xs : List A) → map g (map f xs) ≡ map (λ x. g (f x)) xs
+map_map f g [] = refl
+map_map f g (x ∷ xs) = ap (λ ys. g (f x) ∷ ys) (map_map f g xs)
+
+pub map_flat : {A B C : Type 0} (f : A → List B) (g : B → C) (xs : List A) → map g (flat_map f xs) ≡ flat_map (λ x. map g (f x)) xs
+map_flat f g [] = refl
+map_flat f g (x ∷ xs) = map-append g (f x) (flat_map f xs) ∙ ap (λ ys. map g (f x) ++ ys) (map_flat f g xs)
+
+-- parts of a list that is joined of parts are those parts
+parts_back : {A B C : Type 0} (f : A → C) (g : B → List C) (bs : List B) (xs : List A) → map f xs ≡ flat_map g bs → map (map f) (in_parts (map (λ b. length (g b)) bs) xs) ≡ map g bs
+parts_back f g [] xs e = refl
+parts_back f g (b ∷ bs) xs e =
+    let front : map f (take (length (g b)) xs) ≡ g b = sym (take-map f (length (g b)) xs) ∙ ap (take (length (g b))) e ∙ take_at (g b) (flat_map g bs) (length (g b)) refl in
+    let back : map f (drop (length (g b)) xs) ≡ flat_map g bs = sym (drop-map f (length (g b)) xs) ∙ ap (drop (length (g b))) e ∙ drop_at (g b) (flat_map g bs) (length (g b)) refl in
+    λ i. front i ∷ parts_back f g bs (drop (length (g b)) xs) back i
+
+-- the next part
+drop_next : (ns : List ℕ) (k : ℕ) → k < length ns → drop k ns ≡ get_or ns k 0 ∷ drop (k + 1) ns
+drop_next ns k below = rw (add-one, drop-cons ns k 0)
+
+pub sum_next : (ns : List ℕ) (k : ℕ) → k < length ns → sum (drop k ns) ≡ get_or ns k 0 + sum (drop (k + 1) ns)
+sum_next ns k below = ap sum (drop_next ns k below) ∙ sum_by-cons (λ n. n) (get_or ns k 0) (drop (k + 1) ns)
+
+pub parts_more : {A B : Type 0} (f : A → B) (ns : List ℕ) (k n : ℕ) (xs ys : List A) (found : List (List B)) (part : List B) (all : List (List B)) → k < length ns → get_or ns k 0 ≡ n
+    → found ++ map (map f) (in_parts (drop k ns) xs) ≡ all → part ≡ map f (take n xs) → ys ≡ drop n xs → (found ++ part ∷ []) ++ map (map f) (in_parts (drop (k + 1) ns) ys) ≡ all
+parts_more f ns k n xs ys found part all below same before this left =
+    let rest : map (map f) (in_parts (drop k ns) xs) ≡ map f (take n xs) ∷ map (map f) (in_parts (drop (k + 1) ns) (drop n xs)) =
+    ap (λ ms. map (map f) (in_parts ms xs)) (drop_next ns k below ∙ ap (λ m. m ∷ drop (k + 1) ns) same) in
+    append_assoc found (part ∷ []) (map (map f) (in_parts (drop (k + 1) ns) ys)) ∙ (λ i. found ++ this i ∷ map (map f) (in_parts (drop (k + 1) ns) (left i))) ∙ ap (λ ps. found ++ ps) (sym rest) ∙ before
+
+-- the verdicts of a procedure's goals are as many as the goals
+same_counts : (turns : ℕ) (bs : List BuiltProc) → map (λ (b : BuiltProc). length (verdicts turns b.goals)) bs ≡ goal_counts bs
+same_counts turns [] = refl
+same_counts turns (b ∷ bs) = λ i. length-map b.goals (λ (g : Goal). (settled_by (question turns g)).verdict) i ∷ same_counts turns bs i
+
+flat_same : {A B : Type 0} (f g : A → List B) (xs : List A) → ((x : A) → f x ≡ g x) → flat_map f xs ≡ flat_map g xs
+flat_same f g [] h = refl
+flat_same f g (x ∷ xs) h = λ i. h x i ++ flat_same f g xs h i
+
+-- what the search says of a procedure's questions are the verdicts of its goals
+its_verdicts : (turns : ℕ) (b : BuiltProc) → map (λ (q : Asked). (settled_by q).verdict) (map (question turns) b.goals) ≡ verdicts turns b.goals
+its_verdicts turns b = map_map (question turns) (λ (q : Asked). (settled_by q).verdict) b.goals
+
+-- over what the answers stand for
+module _ {X : Type 0} (value : X → Settled) (turns : ℕ) where
+  pub verdicts_by_proc : (bs : List BuiltProc) (xs : List X) → map value xs ≡ map settled_by (questions_of turns bs)
+      → map (map (λ x. (value x).verdict)) (in_parts (goal_counts bs) xs) ≡ map (λ (b : BuiltProc). verdicts turns b.goals) bs
+  verdicts_by_proc bs xs e =
+      let flat : map (λ x. (value x).verdict) xs ≡ flat_map (λ (b : BuiltProc). verdicts turns b.goals) bs =
+      sym (map_map value (λ (s : Settled). s.verdict) xs) ∙ ap (map (λ (s : Settled). s.verdict)) e ∙ map_map settled_by (λ (s : Settled). s.verdict) (questions_of turns bs)
+      ∙ map_flat (λ (b : BuiltProc). map (question turns) b.goals) (λ (q : Asked). (settled_by q).verdict) bs ∙ flat_same (λ (b : BuiltProc). map (λ (q : Asked). (settled_by q).verdict) (map (question turns) b.goals)) (λ (b : BuiltProc). verdicts turns b.goals) bs (its_verdicts turns) in
+      ap (λ ns. map (map (λ x. (value x).verdict)) (in_parts ns xs)) (sym (same_counts turns bs)) ∙ parts_back (λ x. (value x).verdict) (λ (b : BuiltProc). verdicts turns b.goals) bs xs flat
+
+  many_questions : (bs : List BuiltProc) → sum (goal_counts bs) ≡ length (questions_of turns bs)
+  many_questions [] = refl
+  many_questions (b ∷ bs) =
+      let all : sum (goal_counts (b ∷ bs)) ≡ length b.goals + sum (goal_counts bs) = sum_by-cons (λ n. n) (length b.goals) (goal_counts bs) in
+      let questions : length (questions_of turns (b ∷ bs)) ≡ length (map (question turns) b.goals) + length (questions_of turns bs) = length-append (map (question turns) b.goals) (questions_of turns bs) in
+      omega (arith, many_questions bs, all, questions, length-map b.goals (question turns))
+
+  pub as_many : (bs : List BuiltProc) (xs : List X) → map value xs ≡ map settled_by (questions_of turns bs) → sum (goal_counts bs) ≡ length xs
+  as_many bs xs e = omega (arith, many_questions bs, ap length e, length-map xs value, length-map (questions_of turns bs) settled_by)
+
+  -- the proofs found
+  pub proofs_by_question : (qs : List Asked) (xs : List X) → map value xs ≡ map settled_by qs → map (λ x. text_or_none (value x).found) xs ≡ map proof_line qs
+  proofs_by_question qs xs e =
+      sym (map_map value (λ (s : Settled). text_or_none s.found) xs) ∙ ap (map (λ (s : Settled). text_or_none s.found)) e ∙ map_map settled_by (λ (s : Settled). text_or_none s.found) qs
+
+-- ---- the lines that names, marks and verdicts give
+
+its_names : (bs : List BuiltProc) (ns : List (List ℕ)) → ns ≡ map (λ (b : BuiltProc). b.name) bs → ns ≡ map (λ (p : ProcGoals). p.name) (map proc_goals bs)
+its_names bs ns e = e ∙ sym (map_map proc_goals (λ (p : ProcGoals). p.name) bs)
+
+its_marks : (bs : List BuiltProc) (mss : List (List Mark)) → mss ≡ map (λ (b : BuiltProc). map (λ (g : Goal). g.mark) b.goals) bs → mss ≡ map (λ (p : ProcGoals). map (λ (g : Goal). g.mark) p.goals) (map proc_goals bs)
+its_marks bs mss e = e ∙ sym (map_map proc_goals (λ (p : ProcGoals). map (λ (g : Goal). g.mark) p.goals) bs)
+
+pub reported_lines : (turns : ℕ) (bs : List BuiltProc) (ns : List (List ℕ)) (mss : List (List Mark)) (vss : List (List Verdict)) → ns ≡ map (λ (b : BuiltProc). b.name) bs
+    → mss ≡ map (λ (b : BuiltProc). map (λ (g : Goal). g.mark) b.goals) bs → vss ≡ map (λ (b : BuiltProc). verdicts turns b.goals) bs → report ns mss vss ≡ lines_on turns (map proc_goals bs)
+reported_lines turns bs ns mss vss n k v =
+    let found : vss ≡ map (λ (p : ProcGoals). verdicts turns p.goals) (map proc_goals bs) = v ∙ sym (map_map proc_goals (λ (p : ProcGoals). verdicts turns p.goals) bs) in
+    λ i. report (its_names bs ns n i) (its_marks bs mss k i) (found i)
+
+summed_lines : (m : Module) (ds : List Decl) (bs : List BuiltProc) (ns : List (List ℕ)) (mss : List (List Mark)) → ns ≡ map (λ (b : BuiltProc). b.name) bs
+    → mss ≡ map (λ (b : BuiltProc). map (λ (g : Goal). g.mark) b.goals) bs → sum_lines m ds ns mss ≡ sums_on m ds (map proc_goals bs)
+summed_lines m ds bs ns mss n k = λ i. sum_lines m ds (its_names bs ns n i) (its_marks bs mss k i)
+
+-- of texts that are the lines of these declarations, which are those
+pub sums_told : (m : Module) (es ds : List Decl) (bs : List BuiltProc) (found lines ns : List (List ℕ)) (mss : List (List Mark)) → es ≡ ds → ns ≡ map (λ (b : BuiltProc). b.name) bs
+    → mss ≡ map (λ (b : BuiltProc). map (λ (g : Goal). g.mark) b.goals) bs → lines ≡ sum_lines m es ns mss → found ≡ lines → found ≡ sums_on m ds (map proc_goals bs)
+sums_told m es ds bs found lines ns mss d n k l f = f ∙ l ∙ ap (λ xs. sum_lines m xs ns mss) d ∙ summed_lines m ds bs ns mss n k

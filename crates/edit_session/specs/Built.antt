@@ -1,0 +1,21 @@
+-- What was built of a program, as replies are made of it.
+use Rattle.std.specs.Prelude.{ℕ, List, [], ◌∷◌, map, length, take, drop, flat_map}
+use Rattle.program_opening.specs.ProcGoals.{ProcGoals}
+use Rattle.vc_rebuild.specs.declared.kept.BuiltProc.{BuiltProc}
+use Rattle.obligation_text.specs.Asked.{Asked}
+use Rattle.edit_session.specs.Program.{question}
+
+abbrev pub proc_goals : BuiltProc → ProcGoals
+proc_goals b = record { name = b.name; goals = b.goals }
+
+abbrev pub goal_counts : List BuiltProc → List ℕ
+goal_counts bs = map (λ (b : BuiltProc). length b.goals) bs
+
+-- the questions of goals, procedure by procedure
+abbrev pub questions_of : ℕ → List BuiltProc → List Asked
+questions_of turns bs = flat_map (λ (b : BuiltProc). map (question turns) b.goals) bs
+
+-- a list in parts of these lengths
+abbrev pub in_parts : {A : Type 0} → List ℕ → List A → List (List A)
+in_parts [] xs = []
+in_parts (n ∷ ns) xs = take n xs ∷ in_parts ns (drop n xs)

@@ -1,0 +1,11 @@
+pub mod Program
+pub mod Sums
+pub mod Asking
+pub mod Answers
+pub mod Session
+pub mod Built
+pub mod Kept
+pub mod Codes
+pub mod Judged
+pub mod Told
+pub mod Worth

@@ -1,0 +1,95 @@
+// Names, marks and questions of the goals that were built.
+ghost use Rattle.std.specs.Prelude.{◌≡◌, ◌++◌, map, length, string_bytes, IfOk, OnOk};
+ghost use Rattle.std.specs.Arc.{arc_value};
+ghost use Rattle.edit_session.specs.Program.{question};
+ghost use Rattle.edit_session.specs.Built.{questions_of, goal_counts};
+
+use flow_core::Mark;
+use obligation_text::Asked;
+use std::alloc::{AllocError, Global};
+use std::sync::Arc;
+use vc_rebuild::{BuiltProc, SharedGoal};
+
+/// The names of the procedures.
+pub fn names(alloc: Global, procs: &[BuiltProc]) -> Result<Vec<String>, AllocError>
+    ensures { IfOk result (λ v. map string_bytes v.items ≡ map (λ b. b.name) procs.now) }
+{
+    let mut found = Vec::new(alloc);
+    for proc in procs {
+        found.push(String::from_str(alloc, proc.name.text.as_str())?)?;
+    }
+    Ok(found)
+}
+
+// The marks of goals.
+fn marks_of(alloc: Global, goals: &[SharedGoal]) -> Result<Vec<Mark>, AllocError>
+    ensures { IfOk result (λ v. v.items ≡ map (λ g. g.mark) goals.now) }
+{
+    let mut found = Vec::new(alloc);
+    for goal in goals {
+        found.push(goal.mark())?;
+    }
+    Ok(found)
+}
+
+/// The marks of each procedure's goals.
+pub fn marks(alloc: Global, procs: &[BuiltProc]) -> Result<Vec<Vec<Mark>>, AllocError>
+    ensures { IfOk result (λ v. map (λ ms. ms.items) v.items ≡ map (λ b. map (λ g. g.mark) b.goals) procs.now) }
+{
+    let mut found = Vec::new(alloc);
+    for proc in procs {
+        found.push(marks_of(alloc, proc.goals.as_slice())?)?;
+    }
+    Ok(found)
+}
+
+/// How many goals each procedure has.
+pub fn counts(alloc: Global, procs: &[BuiltProc]) -> Result<Vec<usize>, AllocError>
+    ensures { IfOk result (λ v. v.items ≡ goal_counts procs.now) }
+{
+    let mut found = Vec::new(alloc);
+    for proc in procs {
+        found.push(proc.goals.len())?;
+    }
+    Ok(found)
+}
+
+// The question whether the goal is proved in so many turns.
+fn question(alloc: Global, goal: &SharedGoal, turns: u64) -> Result<Arc<Asked, Global>, AllocError>
+    ensures { IfOk result (λ q. arc_value q ≡ question turns goal.now) }
+{
+    let obligation = Arc::try_clone(goal.obligation())?;
+    let asked = Asked::printed(alloc, obligation, goal.text(), turns)?;
+    let shared = Arc::new(alloc, asked)?;
+    Ok(shared)
+}
+
+// The questions of goals come behind.
+fn push_questions(
+    alloc: Global,
+    found: &mut Vec<Arc<Asked, Global>>,
+    goals: &[SharedGoal],
+    turns: u64,
+) -> Result<(), AllocError>
+    ensures { OnOk result (map arc_value found.new.items ≡ map arc_value found.old.items ++ map (question turns) goals.now) }
+{
+    for goal in goals {
+        found.push(question(alloc, goal, turns)?)?;
+    }
+    Ok(())
+}
+
+/// The questions of all goals, procedure by procedure.
+pub fn questions(
+    alloc: Global,
+    procs: &[BuiltProc],
+    turns: u64,
+) -> Result<Vec<Arc<Asked, Global>>, AllocError>
+    ensures { IfOk result (λ v. map arc_value v.items ≡ questions_of turns procs.now) }
+{
+    let mut found = Vec::new(alloc);
+    for proc in procs {
+        push_questions(alloc, &mut found, proc.goals.as_slice(), turns)?;
+    }
+    Ok(found)
+}

@@ -1,0 +1,28 @@
+//! A session on one thread: the program that is open, edits of it, and the board of its goals. Each
+//! request is answered as the definitions have it, whatever was kept before; a request that is refused,
+//! or for which there is no memory, leaves declarations, version, kept answers and claims as they were.
+//! Each report is the report from scratch of the program that is open, and what it calls correct is safe.
+#![tactic(auto)]
+
+// The goals that were built: names, marks, questions, and the answers of each procedure.
+mod goals;
+mod verdicts;
+
+// The texts of requests, the lines of replies, and the replies that refuse a program.
+mod lines;
+mod refusals;
+mod texts;
+
+// The program that is open, and declarations that are to be.
+pub mod program;
+
+// Calls on the board, and the replies that tell them.
+mod board_calls;
+
+// The session.
+pub mod session;
+
+// What its reports are worth.
+pub mod laws;
+
+pub use session::Session;

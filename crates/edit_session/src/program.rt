@@ -1,0 +1,189 @@
+// The program that is open, and declarations that are to be.
+ghost use Rattle.std.specs.Prelude.{◌≡◌, [], map, IfOk};
+ghost use Rattle.std.specs.Arc.{arc_value};
+ghost use Rattle.bpl_goto.specs.Forward.{AllGoForward};
+ghost use Rattle.vc_build.specs.Rebuild.{built};
+ghost use Rattle.vc_rebuild.specs.Kept.{as_all_built};
+ghost use Rattle.program_faults.specs.FaultView.{SourcesAreShort};
+ghost use Rattle.program_opening.specs.Opening.{typing, typed as typed_as};
+ghost use Rattle.program_opening.specs.ProcGoals.{goals_by_proc};
+ghost use Rattle.edit_session.specs.Program.{IsModuleOf, questions};
+ghost use Rattle.edit_session.specs.Built.{proc_goals};
+ghost use Rattle.edit_session.specs.Judged.{IsJudged};
+
+use crate::goals;
+use crate::refusals::fault_reply;
+use bpl_ast::{Decl, Program};
+use bpl_model::Module;
+use bv_base::Steps;
+use obligation_text::Asked;
+use program_opening::size::written_of_size;
+use program_opening::{Typed, type_check};
+use request_text::Reply;
+use std::alloc::{AllocError, Global};
+use std::marker::Model;
+use std::sync::Arc;
+use std::sync::ledger::Ledger;
+use vc_build::BuildFault;
+use vc_rebuild::{Built, BuiltProc, rebuild};
+
+/// Declarations without a fault, their module, and what was built of it.
+#[derive(Drop)]
+pub struct OpenProgram {
+    program: Program,
+    typed: Module,
+    built: Built,
+}
+
+impl Model for OpenProgram {
+    ghost use Rattle.edit_session.specs.Asking.{Taken};
+    ghost use Rattle.edit_session.specs.Codes.{coded_taken};
+
+    ghost Value = { Taken };
+
+    ghost coded = { coded_taken };
+
+    ghost view = { λ a. record { decls = a.program; typed = a.typed } };
+
+    ghost use Rattle.edit_session.specs.Kept.{IsOpen};
+
+    ghost invariant = { λ a. IsOpen (record { decls = a.program; typed = a.typed }) a.built };
+}
+
+/// What declarations are: a program, of which so many procedures are new, or what has a first fault.
+#[derive(Drop)]
+pub enum Judged {
+    Taken { program: OpenProgram, rebuilt: u64 },
+    Refused(Reply),
+}
+
+// What declarations are that have no fault by names and types.
+#[tactic(auto, using(crate::proofs::Programs::is_taken, crate::proofs::Programs::large_denied, crate::proofs::Programs::opens_so))]
+fn build<L: Ledger>(
+    alloc: Global,
+    old: &Built,
+    program: Program,
+    typed: Module,
+    steps: &mut Steps<L>,
+) -> Result<Judged, AllocError>
+    requires short { SourcesAreShort program }
+    requires is_typed { typing program ≡ typed_as typed }
+    requires forward { AllGoForward typed }
+    ensures { IfOk result (IsJudged (as_all_built old.now.procs) program) }
+{
+    match rebuild(alloc, old, &typed, steps) {
+        Ok(built) => {
+            let rebuilt = built.rebuilt();
+            let program = OpenProgram {
+                program,
+                typed,
+                built,
+            };
+            Ok(Judged::Taken { program, rebuilt })
+        }
+        Err(BuildFault::Large { what, number }) => {
+            Ok(Judged::Refused(fault_reply(written_of_size(alloc, what, number)?)?))
+        }
+        Err(BuildFault::Memory) => Err(AllocError),
+    }
+}
+
+// What the declarations are, where this was built before.
+#[tactic(auto, using(crate::proofs::Programs::ill_denied))]
+fn judge<L: Ledger>(
+    alloc: Global,
+    old: &Built,
+    decls: Vec<Decl>,
+    steps: &mut Steps<L>,
+) -> Result<Judged, AllocError>
+    requires { SourcesAreShort decls.items }
+    ensures { IfOk result (IsJudged (as_all_built old.now.procs) decls.items) }
+{
+    let program = Program { decls };
+    match type_check(alloc, &program)? {
+        Typed::Module(module) => build(alloc, old, program, module, steps),
+        Typed::Refused(fault) => Ok(Judged::Refused(fault_reply(fault)?)),
+    }
+}
+
+impl OpenProgram {
+    /// The program without declarations. Nothing in it has a fault.
+    #[tactic(auto, using(crate::proofs::Programs::taken_decls, crate::proofs::Programs::taken_module))]
+    pub fn empty<L: Ledger>(alloc: Global, steps: &mut Steps<L>) -> Result<OpenProgram, AllocError>
+        ensures none { IfOk result (λ p. p.decls ≡ []) }
+        ensures is_module { IfOk result (λ p. IsModuleOf [] p.typed) }
+    {
+        let nothing = Built::empty(alloc);
+        match judge(alloc, &nothing, Vec::new(alloc), steps)? {
+            Judged::Taken { program, .. } => Ok(program),
+            Judged::Refused(reply) => {
+                drop(reply);
+                Err(AllocError)
+            }
+        }
+    }
+
+    /// What declarations are that are to be open in its place: of their procedures those are built
+    /// whose dependency text none of its procedures has.
+    pub fn judge<L: Ledger>(
+        &self,
+        alloc: Global,
+        decls: Vec<Decl>,
+        steps: &mut Steps<L>,
+    ) -> Result<Judged, AllocError>
+        requires { SourcesAreShort decls.items }
+        ensures { IfOk result (IsJudged (built self.now.typed) decls.items) }
+    {
+        judge(alloc, &self.built, decls, steps)
+    }
+
+    /// What is known of every program that is open: its declarations have no fault, and its module is
+    /// theirs.
+    pub fn has_module(&self)
+        ensures { IsModuleOf self.now.decls self.now.typed }
+    {
+        let _typed = &self.typed;
+    }
+
+    /// Its declarations.
+    pub fn decls(&self) -> &[Decl]
+        ensures decls { result.now ≡ self.now.decls }
+        ensures short { SourcesAreShort self.now.decls }
+    {
+        self.program.decls.as_slice()
+    }
+
+    /// It.
+    pub fn program(&self) -> &Program
+        ensures { result.now ≡ self.now.decls }
+    {
+        &self.program
+    }
+
+    /// Its module.
+    pub fn typed(&self) -> &Module
+        ensures { result.now ≡ self.now.typed }
+    {
+        &self.typed
+    }
+
+    /// Its procedures with a body, as they were built.
+    #[tactic(auto, using(crate::proofs::Programs::procs_are))]
+    pub fn procs(&self) -> &[BuiltProc]
+        ensures { map proc_goals result.now ≡ goals_by_proc self.now.typed }
+    {
+        self.built.procs()
+    }
+
+    /// The questions of its goals.
+    #[tactic(auto, using(crate::proofs::Programs::questions_are))]
+    pub fn questions(
+        &self,
+        alloc: Global,
+        turns: u64,
+    ) -> Result<Vec<Arc<Asked, Global>>, AllocError>
+        ensures { IfOk result (λ v. map arc_value v.items ≡ questions turns self.now.typed) }
+    {
+        goals::questions(alloc, self.built.procs(), turns)
+    }
+}

@@ -1,0 +1,203 @@
+// The session.
+ghost use Rattle.std.specs.Prelude.{◌≡◌, ◌<◌, ◌^◌, ◌-◌, Result, Ok, Err, IfOk};
+ghost use Rattle.bpl_model.specs.Module.{Module as typed_module};
+ghost use Rattle.vc_build.specs.Rebuild.{built, rebuilt as rebuilt_of};
+ghost use Rattle.program_faults.specs.FaultView.{SourcesAreShort};
+ghost use Rattle.program_edits.specs.Edited.{IsEdited, edited as edited_to};
+ghost use Rattle.program_edits.specs.Refusals.{IsChange};
+ghost use Rattle.request_text.specs.Request as asked;
+ghost use Rattle.request_text.specs.RequestView.{request_view, IsAnswer};
+ghost use Rattle.request_text.specs.ReplyView.{reply_view};
+ghost use Rattle.edit_session.specs.Program.{IsModuleOf};
+ghost use Rattle.edit_session.specs.Answers.{Asked, Line, new_session};
+ghost use Rattle.edit_session.specs.Asking.{Asks, taken};
+ghost use Rattle.edit_session.specs.Judged.{reply_of};
+ghost use Rattle.edit_session.specs.Kept.{IsLater, HasRoom};
+
+use crate::board_calls::{open_goals, prove_goals, report_goals};
+use crate::lines::sum_lines;
+use crate::program::{Judged, OpenProgram};
+use crate::refusals::refusal;
+use crate::texts::has_short_texts;
+use board_core::Board;
+use bpl_ast::Decl;
+use bv_base::Steps;
+use program_edits::edited;
+use request_text::{BadRequest, Reply, Request};
+use std::alloc::{AllocError, Global};
+use std::marker::Model;
+use std::sync::ledger::Ledger;
+use tableau::settled::Settled;
+
+/// The program that is open, and the board of its goals. Each goal is searched with the same turns.
+#[derive(Drop)]
+pub struct Session<L: Ledger> {
+    alloc: Global,
+    turns: u64,
+    opened: OpenProgram,
+    board: Board<Settled>,
+    steps: Steps<L>,
+}
+
+impl<L: Ledger> Model for Session<L> {
+    ghost use Rattle.edit_session.specs.Kept.{Session as session, IsReady};
+    ghost use Rattle.edit_session.specs.Codes.{coded_session};
+
+    ghost Value = { session };
+
+    ghost coded = { coded_session };
+
+    ghost view = { λ a. record { turns = a.turns; state = record { decls = a.opened.decls; version = a.board.version; board = a.board } } };
+
+    ghost invariant = { λ a. IsReady a.turns a.opened.typed a.board };
+}
+
+impl<L: Ledger> Session<L> {
+    /// A session without declarations, at version 0. Each goal is to be searched with so many turns.
+    pub fn new(alloc: Global, turns: u64, mut steps: Steps<L>) -> Result<Session<L>, AllocError>
+        ensures { IfOk result (λ s. s ≡ record { turns = turns; state = new_session }) }
+    {
+        let opened = OpenProgram::empty(alloc, &mut steps)?;
+        Ok(Session {
+            alloc,
+            turns,
+            opened,
+            board: Board::new(alloc),
+            steps,
+        })
+    }
+
+    /// Lets go of the session.
+    pub fn end(self) {}
+
+    /// Answers a line: the request that it is, or why it is none. The reply, the calls on the board, and
+    /// the declarations and the version after it are those that the definitions give a line. A refusal
+    /// leaves all as it was, and so does want of memory, but for goals that were settled before it. A
+    /// quit is answered by `Reply::Quit`, with which the session ends.
+    pub fn answer(&mut self, request: Result<Request, BadRequest>) -> Reply
+        requires { HasRoom self.old }
+        ensures line { (wanted : Asked) → IsAnswer wanted request → Line self.old.turns 0 self.old.state wanted (reply_view result) self.new.state }
+        ensures later { IsLater self.old self.new }
+    {
+        match self.reply(request) {
+            Ok(reply) => reply,
+            Err(_) => Reply::Memory,
+        }
+    }
+
+    fn reply(&mut self, request: Result<Request, BadRequest>) -> Result<Reply, AllocError>
+        requires { HasRoom self.old }
+        ensures line { (wanted : Asked) → IsAnswer wanted request → Line self.old.turns 0 self.old.state wanted (reply_of result) self.new.state }
+        ensures later { IsLater self.old self.new }
+    {
+        match request {
+            Ok(request) => self.reply_to(&request),
+            Err(why) => Ok(Reply::Bad(why)),
+        }
+    }
+
+    #[tactic(auto, using(crate::proofs::Sessions::no_later, crate::proofs::LinesAlone::quit_line))]
+    fn reply_to(&mut self, request: &Request) -> Result<Reply, AllocError>
+        requires { HasRoom self.old }
+        ensures line { Line self.old.turns 0 self.old.state (Ok (request_view request.now)) (reply_of result) self.new.state }
+        ensures later { IsLater self.old self.new }
+    {
+        match request {
+            Request::Open { .. } => self.edit(request),
+            Request::Edit { .. } => self.edit(request),
+            Request::Status => Ok(self.status()),
+            Request::Report => self.report(),
+            Request::Sums => self.sums(),
+            Request::Proofs => self.proofs(),
+            Request::Quit => Ok(Reply::Quit),
+        }
+    }
+
+    // An open or an edit.
+    #[tactic(auto, using(crate::proofs::LinesAlone::without_memory, crate::proofs::Sessions::no_later))]
+    fn edit(&mut self, request: &Request) -> Result<Reply, AllocError>
+        requires change { IsChange (request_view request.now) }
+        requires room { HasRoom self.old }
+        ensures line { Line self.old.turns 0 self.old.state (Ok (request_view request.now)) (reply_of result) self.new.state }
+        ensures later { IsLater self.old self.new }
+    {
+        if !has_short_texts(request) {
+            return Err(AllocError);
+        }
+        match edited(self.alloc, self.opened.decls(), request) {
+            Ok(decls) => self.take(decls),
+            Err(fault) => refusal(fault),
+        }
+    }
+
+    // Takes the declarations, where they have no fault.
+    fn take(&mut self, decls: Vec<Decl>) -> Result<Reply, AllocError>
+        requires room { HasRoom self.old }
+        requires short { SourcesAreShort decls.items }
+        ensures line { (r : asked.Request) → IsEdited self.old.state.decls r (edited_to decls.items) → Line self.old.turns 0 self.old.state (Ok r) (reply_of result) self.new.state }
+        ensures later { IsLater self.old self.new }
+    {
+        self.opened.has_module();
+        let judged = self.opened.judge(self.alloc, decls, &mut self.steps)?;
+        match judged {
+            Judged::Taken { program, rebuilt } => self.open_program(program, rebuilt),
+            Judged::Refused(reply) => Ok(reply),
+        }
+    }
+
+    // Opens the program, of which so many procedures are new.
+    fn open_program(&mut self, program: OpenProgram, rebuilt: u64) -> Result<Reply, AllocError>
+        requires { HasRoom self.old }
+        ensures line { (r : asked.Request) (m : typed_module) → IsModuleOf self.old.state.decls m → rebuilt ≡ rebuilt_of (built m) program.typed → Asks self.old.state.decls r (taken program) → Line self.old.turns 0 self.old.state (Ok r) (reply_of result) self.new.state }
+        ensures later { IsLater self.old self.new }
+    {
+        let reply = open_goals(self.alloc, &mut self.board, &program, rebuilt, self.turns)?;
+        self.opened = program;
+        Ok(reply)
+    }
+
+    // How many goals are answered.
+    fn status(&self) -> Reply
+        ensures { Line self.now.turns 0 self.now.state (Ok asked.status) (reply_view result) self.now.state }
+    {
+        let seen = self.board.look();
+        Reply::Status {
+            done: seen.done,
+            pending: seen.pending,
+            version: seen.version,
+        }
+    }
+
+    // The report, once each goal is answered.
+    fn report(&mut self) -> Result<Reply, AllocError>
+        requires { HasRoom self.old }
+        ensures line { Line self.old.turns 0 self.old.state (Ok asked.report) (reply_of result) self.new.state }
+        ensures later { IsLater self.old self.new }
+    {
+        self.opened.has_module();
+        report_goals(self.alloc, &mut self.board, &self.opened, self.turns)
+    }
+
+    // The proofs, once each goal is answered.
+    fn proofs(&mut self) -> Result<Reply, AllocError>
+        requires { HasRoom self.old }
+        ensures line { Line self.old.turns 0 self.old.state (Ok asked.proofs) (reply_of result) self.new.state }
+        ensures later { IsLater self.old self.new }
+    {
+        self.opened.has_module();
+        prove_goals(self.alloc, &mut self.board, &self.opened, self.turns)
+    }
+
+    // The checksums.
+    fn sums(&self) -> Result<Reply, AllocError>
+        ensures { Line self.now.turns 0 self.now.state (Ok asked.sums) (reply_of result) self.now.state }
+    {
+        let opened = &self.opened;
+        opened.has_module();
+        let lines = sum_lines(self.alloc, opened.typed(), opened.program(), opened.procs())?;
+        Ok(Reply::Sums {
+            lines,
+            version: self.board.look().version,
+        })
+    }
+}

@@ -1,0 +1,60 @@
+// The verdicts of each procedure's goals.
+ghost use Rattle.std.specs.Prelude.{◌≡◌, ◌≤◌, map, length, take, drop, sum, IfOk, OnOk};
+ghost use Rattle.std.specs.Arc.{arc_value};
+ghost use Rattle.tableau.specs.RunView.{verdict_of};
+ghost use Rattle.tableau.specs.Settled.{Settled as settled};
+ghost use Rattle.edit_session.specs.Built.{in_parts};
+
+use std::alloc::{AllocError, Global};
+use std::collections::VecDeque;
+use std::sync::Arc;
+use tableau::ended::Verdict;
+use tableau::settled::Settled;
+
+// The first so many answers that are left.
+fn taken(
+    alloc: Global,
+    left: &mut VecDeque<Arc<Settled, Global>>,
+    count: usize,
+) -> Result<Vec<Arc<Settled, Global>>, AllocError>
+    requires { count ≤ length left.old.items }
+    ensures taken { IfOk result (λ v. v.items ≡ take count left.old.items) }
+    ensures left { OnOk result (left.new.items ≡ drop count left.old.items) }
+{
+    let mut own = Vec::new(alloc);
+    for _done in 0..count {
+        if let Some(answer) = left.pop_front() {
+            own.push(answer)?;
+        }
+    }
+    Ok(own)
+}
+
+// The answers' verdicts.
+fn verdicts_of(alloc: Global, answers: &[Arc<Settled, Global>]) -> Result<Vec<Verdict>, AllocError>
+    ensures { IfOk result (λ v. map verdict_of v.items ≡ map (λ a. (arc_value {X = settled} a).verdict) answers.now) }
+{
+    let mut found = Vec::new(alloc);
+    for answer in answers {
+        found.push(answer.verdict())?;
+    }
+    Ok(found)
+}
+
+/// The verdicts of the answers, in parts of these lengths.
+pub fn verdicts(
+    alloc: Global,
+    counts: &[usize],
+    answers: Vec<Arc<Settled, Global>>,
+) -> Result<Vec<Vec<Verdict>>, AllocError>
+    requires { sum counts.now ≡ length answers.items }
+    ensures { IfOk result (λ v. map (λ vs. map verdict_of vs.items) v.items ≡ map (map (λ a. (arc_value {X = settled} a).verdict)) (in_parts counts.now answers.items)) }
+{
+    let mut left = VecDeque::from_vec(answers);
+    let mut found = Vec::new(alloc);
+    for count in counts {
+        let own = taken(alloc, &mut left, *count)?;
+        found.push(verdicts_of(alloc, &own)?)?;
+    }
+    Ok(found)
+}
