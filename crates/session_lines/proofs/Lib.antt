@@ -1,0 +1,4 @@
+pub mod Sessions
+pub mod LongLines
+pub mod Replies
+pub mod Served
