@@ -1,7 +1,12 @@
 mod LineLengths
+mod GeneratedLengths
+mod Unread
 mod Ends
 mod BuiltCommands
 mod Worth
 mod Answering
 mod Commands
 mod OneAnswer
+mod Generating
+mod TextModes
+mod SessionEnds

@@ -1,5 +1,5 @@
--- What is answered to a whole input, and the status: exactly the report from scratch, what is said of the proofs, or the fault's line.
-use Rattle.std.specs.Prelude.{◌≡◌, ℕ, Bool, cond, List, Contains}
+-- What is answered to a whole input, and the status: exactly the report from scratch, what is said of the proofs or of the points, or the fault's line.
+use Rattle.std.specs.Prelude.{◌≡◌, ℕ, Bool, cond, List, Option, Some, None, Contains}
 use Rattle.std.specs.List.{AllByRecursion}
 use Rattle.logic_core.specs.Valid.{Valid}
 use Rattle.bpl_model.specs.Module.{Proc, Module}
@@ -9,10 +9,13 @@ use Rattle.fault_text.specs.Written.{Written, fault_line}
 use Rattle.report_text.specs.Lines.{ended, text_of}
 use Rattle.proof_lines.specs.Parts.{program_in, lines_in}
 use Rattle.vc_build.specs.Goals.{goals}
+use Rattle.vc_build.specs.declared.fault.Measure.{Measure}
 use Rattle.program_opening.specs.ProcGoals.{goals_by_proc}
-use Rattle.program_opening.specs.Opening.{Opening, program, refused, Opens}
+use Rattle.program_opening.specs.Opening.{Opening, program, refused, size_fault, Opens}
 use Rattle.check_report.specs.Scratch.{scratch, all_proved}
-use Rattle.recheck_report.specs.Recheck.{heads, accepted_line, Rechecks}
+use Rattle.recheck_report.specs.Accepted.{accepted_line}
+use Rattle.recheck_report.specs.Recheck.{heads, Rechecks}
+use Rattle.smoke_report.specs.Smoke.{smoke_lines, none_unreachable, points_large}
 use Rattle.edit_server.specs.declared.status.Status.{Status}
 use Rattle.edit_server.specs.declared.status.Status.TheVariants.{Done, NotAll, Refused}
 
@@ -63,11 +66,31 @@ pub record IsRecheck (text written : List ℕ) (status : Status) : Type 0 where
   pub opens : Opens (program_in text) opening
   pub answer : IsReviewOn opening (lines_in text) written status
 
--- ---- of each mode
+-- ---- smoke: the points that the search shows to be unreachable, each with the same turns
+
+pub record IsSmokeReport (turns : ℕ) (m : Module) (written : List ℕ) (status : Status) : Type 0 where
+  pub lines : written ≡ text_of (smoke_lines turns m)
+  pub none : status ≡ done_if (none_unreachable turns m)
+
+-- a program that is too large with some of its points put in is refused
+abbrev pub IsSmokeWithin : ℕ → Module → Option (Measure × ℕ) → List ℕ → Status → Type 0
+IsSmokeWithin turns m None written status = IsSmokeReport turns m written status
+IsSmokeWithin turns m (Some p) written status = IsRefusal (size_fault p.0 p.1) written status
+
+abbrev pub IsSmokeOn : ℕ → Opening → List ℕ → Status → Type 0
+IsSmokeOn turns (program m) written status = IsSmokeWithin turns m (points_large m) written status
+IsSmokeOn turns (refused w) written status = IsRefusal w written status
+
+pub record IsSmoke (turns : ℕ) (text written : List ℕ) (status : Status) : Type 0 where
+  pub opening : Opening
+  pub opens : Opens text opening
+  pub answer : IsSmokeOn turns opening written status
+
+-- ---- of each mode that answers a text
 
 abbrev pub IsAnswerOf : Mode → ℕ → List ℕ → List ℕ → Status → Type 0
 IsAnswerOf Check turns text written status = IsCheck turns text written status
 IsAnswerOf Recheck turns text written status = IsRecheck text written status
 IsAnswerOf Serve turns text written status = ⊥
 IsAnswerOf Gen turns text written status = ⊥
-IsAnswerOf Smoke turns text written status = ⊥
+IsAnswerOf Smoke turns text written status = IsSmoke turns text written status

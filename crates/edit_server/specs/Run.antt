@@ -3,15 +3,13 @@ use Rattle.std.specs.Prelude.{◌≡◌, ℕ, ◌+◌, ◌<◌, ◌≤◌, List,
 use Rattle.bv_base.specs.Known.{Takes, Adds, IsEnd}
 use Rattle.command_words.specs.declared.command.Command.{Command}
 use Rattle.edit_server.specs.Answer.{IsAnswerOf}
+use Rattle.edit_server.specs.Generated.{IsGenerated}
 use Rattle.edit_server.specs.Worth.{IsWorth}
+use Rattle.edit_server.specs.declared.command.TheConstants.{TOTAL}
 use Rattle.edit_server.specs.declared.status.Status.{Status}
 
 abbrev pub usage_line : List ℕ
 usage_line = codes "fault Usage - 0:0 -\n"
-
--- the most bytes that are read
-abbrev pub total : ℕ
-total = 16777216
 
 -- the command's answer to a text: exactly which it is, and what it is worth
 pub record IsAnswer (command : Command) (text written : List ℕ) (status : Status) : Type 0 where
@@ -24,22 +22,22 @@ pub record Answered (command : Command) (left left' held held' : Option (List �
   pub written : List ℕ
   pub taken : Takes left left' text
   pub to_the_end : IsEnd left'
-  pub short : length text ≤ total
+  pub short : length text ≤ TOTAL
   pub added : Adds held held' written
   pub is_answer : IsAnswer command text written status
 
 -- the total was taken, and a further byte was read
 abbrev pub IsFull : Option (List ℕ) → Option (List ℕ) → Type 0
-IsFull left left' = (taken : List ℕ) × (length taken ≡ total + 1) × Takes left left' taken
+IsFull left left' = (taken : List ℕ) × (length taken ≡ TOTAL + 1) × Takes left left' taken
 
 -- no more than the total was taken
 abbrev pub IsWithin : Option (List ℕ) → Option (List ℕ) → Type 0
-IsWithin left left' = (taken : List ℕ) × (length taken ≤ total) × Takes left left' taken
+IsWithin left left' = (taken : List ℕ) × (length taken ≤ TOTAL) × Takes left left' taken
 
 -- it is told what is left, and that is no more than the total
 abbrev pub IsShort : Option (List ℕ) → Type 0
 IsShort None = ⊥
-IsShort (Some bytes) = length bytes ≤ total
+IsShort (Some bytes) = length bytes ≤ TOTAL
 
 -- some front of what was to be written was written
 abbrev pub WroteFront : Option (List ℕ) → Option (List ℕ) → List ℕ → Type 0
@@ -52,6 +50,19 @@ pub record Broken (command : Command) (left left' held held' : Option (List ℕ)
   pub status : Status
   pub taken : Takes left left' text
   pub to_the_end : IsEnd left'
-  pub short : length text ≤ total
+  pub short : length text ≤ TOTAL
   pub front : WroteFront held held' written
   pub is_answer : IsAnswer command text written status
+
+-- nothing was read, and the summary of the generated program was written
+pub record Generated (command : Command) (held held' : Option (List ℕ)) (status : Status) : Type 0 where
+  pub written : List ℕ
+  pub added : Adds held held' written
+  pub is_answer : IsGenerated command.turns command.seed command.size written status
+
+-- nothing was read, and a front of it was written
+pub record BrokenSummary (command : Command) (held held' : Option (List ℕ)) : Type 0 where
+  pub written : List ℕ
+  pub status : Status
+  pub front : WroteFront held held' written
+  pub is_answer : IsGenerated command.turns command.seed command.size written status

@@ -1,26 +1,30 @@
--- What an answer is worth, said by executions alone: procedures that it calls correct, or all of them where it says `accepted`, have no execution from an entry state that fails.
+-- What an answer is worth, said by executions alone: procedures that it calls correct, or all of them where it says `accepted`, have no execution from an entry state that fails, and none comes to a point that it calls unreachable.
 use Rattle.std.specs.Prelude.{◌≡◌, ◌≢◌, ℕ, List, None, Contains}
 use Rattle.bpl_ast.specs.Statement.{Decl}
 use Rattle.bpl_grammar.specs.Programs.{SpellsProgram}
 use Rattle.bpl_declaration_faults.specs.DeclFaults.{fault_of}
+use Rattle.bpl_sorts.specs.Erased.{erased}
+use Rattle.bpl_sorts.specs.CarrierFaults.{carrier_fault}
 use Rattle.module_laws.specs.Elaborate.{module_of}
 use Rattle.bpl_model.specs.Module.{Proc, Module}
 use Rattle.bpl_model.specs.Safe.{Safe}
 use Rattle.command_words.specs.declared.command.Mode.{Mode}
 use Rattle.command_words.specs.declared.command.Mode.TheVariants.{Check, Serve, Recheck, Gen, Smoke}
 use Rattle.report_text.specs.Lines.{ended}
-use Rattle.check_report.specs.Sound.{CallsCorrectTheSafe}
+use Rattle.check_report.specs.Called.{CallsCorrectTheSafe}
 use Rattle.proof_lines.specs.Parts.{program_in}
-use Rattle.recheck_report.specs.Recheck.{accepted_line}
+use Rattle.recheck_report.specs.Accepted.{accepted_line}
+use Rattle.smoke_report.specs.Unreached.{NamesUnreached}
 use Rattle.edit_server.specs.declared.status.Status.{Status}
 use Rattle.edit_server.specs.declared.status.Status.TheVariants.{Refused}
 
--- the text spells a program without faults by names and sorts, and this is its module
+-- the text spells a program without faults by names and types, and this is the module of its declarations without user types
 pub record IsProgram (text : List ℕ) (m : Module) : Type 0 where
   pub decls : List Decl
   pub spelled : SpellsProgram text decls
-  pub faultless : fault_of decls ≡ None
-  pub is : m ≡ module_of decls
+  pub faultless : fault_of (erased decls) ≡ None
+  pub told : carrier_fault decls ≡ None
+  pub is : m ≡ module_of (erased decls)
 
 abbrev pub AllAreSafe : Module → Type 0
 AllAreSafe m = (p : Proc) → Contains m.procs p → Safe m p
@@ -33,9 +37,13 @@ IsCorrectSafe text written status = status ≢ Refused → (m : Module) × IsPro
 abbrev pub IsAcceptedSafe : List ℕ → List ℕ → Type 0
 IsAcceptedSafe text written = written ≡ ended accepted_line → (m : Module) × IsProgram (program_in text) m × AllAreSafe m
 
+-- where the text isn't refused, it is a program, and what is written names points that no execution from an entry state reaches
+abbrev pub IsNamedUnreached : List ℕ → List ℕ → Status → Type 0
+IsNamedUnreached text written status = status ≢ Refused → (m : Module) × IsProgram text m × NamesUnreached m written
+
 abbrev pub IsWorth : Mode → List ℕ → List ℕ → Status → Type 0
 IsWorth Check text written status = IsCorrectSafe text written status
 IsWorth Recheck text written status = IsAcceptedSafe text written
 IsWorth Serve text written status = ⊥
 IsWorth Gen text written status = ⊥
-IsWorth Smoke text written status = ⊥
+IsWorth Smoke text written status = IsNamedUnreached text written status

@@ -2,17 +2,14 @@
 ghost use Rattle.std.specs.Prelude.{◌≡◌, IfErr, IfOk, None, Some, map, string_bytes};
 ghost use Rattle.edit_server.specs.Built.{is_built, command_for};
 
-use command_words::{Command, Mode, Usage, read_words};
+use command_words::{Command, Usage, read_words};
 use std::alloc::Global;
 
-// Whether the command's mode is there.
+// Whether the command is answered.
 fn is_built(command: &Command) -> bool
     ensures { result ≡ is_built command.now }
 {
-    match command.mode {
-        Mode::Check | Mode::Recheck => true,
-        Mode::Serve | Mode::Gen | Mode::Smoke => false,
-    }
+    command.workers == 0
 }
 
 /// The command that the words are, where it is answered.

@@ -5,9 +5,9 @@ ghost use Rattle.edit_server.specs.Exit.{exit_code};
 /// How a run ended.
 #[derive(Clone, Copy, PartialEq, Eq, Debug)]
 pub enum Status {
-    /// All was answered, and every assertion is proved.
+    /// All was answered, and every goal is proved or has an accepted proof, or no point is named.
     Done,
-    /// All was answered, and some assertion isn't proved.
+    /// All was answered, and some goal isn't, or some point is named.
     NotAll,
     /// The words are no command.
     Usage,

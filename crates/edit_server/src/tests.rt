@@ -176,7 +176,17 @@ fn words_that_are_no_command_are_refused(rt: HostRuntime) -> Result<(), Fail> {
     assert!(rt; runs(&rt, &["check", "--turns", "0"], "", line, Status::Usage)?);
     assert!(rt; runs(&rt, &["recheck", "--turns", "5"], "", line, Status::Usage)?);
     assert!(rt; runs(&rt, &["check", "--workers", "1"], "", line, Status::Usage)?);
-    assert!(rt; runs(&rt, &["serve"], "", line, Status::Usage)?);
+    assert!(rt; runs(&rt, &["smoke", "--workers", "0"], "", line, Status::Usage)?);
+    assert!(rt;
+        runs(
+            &rt,
+            &["gen", "--seed", "1", "--size", "1", "--workers", "1"],
+            "",
+            line,
+            Status::Usage
+        )?
+    );
+    assert!(rt; runs(&rt, &["serve", "--workers", "1"], "", line, Status::Usage)?);
     assert!(rt; runs(&rt, &["fly"], "", line, Status::Usage)?);
     assert!(rt; runs(&rt, &[], "", line, Status::Usage)?);
     Ok(())

@@ -12,6 +12,7 @@ pub fn refuse_words<K: Sink>(sink: &mut K) -> Status
     ensures usage { result ≡ Status.Usage → Adds (K.held sink.old) (K.held sink.new) usage_line }
     ensures front { result ≡ Status.WriteFault → WroteFront (K.held sink.old) (K.held sink.new) usage_line }
     ensures fault { result ≡ Status.WriteFault → HasRisen (K.faults sink.old) (K.faults sink.new) }
+    ensures quiet { ¬ (result ≡ Status.WriteFault) → K.faults sink.new ≡ K.faults sink.old }
 {
     match write_all(sink, b"fault Usage - 0:0 -\n") {
         Ok(()) => Status::Usage,

@@ -1,0 +1,25 @@
+-- What is answered where a program is generated: the summary of its goals, each searched with the same turns, or the fault's line.
+use Rattle.std.specs.Prelude.{◌≡◌, ℕ, List, length}
+use Rattle.std.specs.List.{list_all}
+use Rattle.tableau.specs.Search.{is_proved}
+use Rattle.bpl_model.specs.Module.{Module}
+use Rattle.report_text.specs.Lines.{ended}
+use Rattle.request_text.specs.Generated.{generate}
+use Rattle.program_opening.specs.ProcGoals.{goals_by_proc}
+use Rattle.program_opening.specs.Opening.{Opening, program, refused, Opens}
+use Rattle.generated_report.specs.Summary.{verdicts_on, summary}
+use Rattle.edit_server.specs.declared.status.Status.{Status}
+use Rattle.edit_server.specs.Answer.{done_if, IsRefusal}
+
+pub record IsSummary (turns seed size : ℕ) (m : Module) (written : List ℕ) (status : Status) : Type 0 where
+  pub line : written ≡ ended (summary seed size (length (generate seed size)) (verdicts_on turns (goals_by_proc m)))
+  pub all : status ≡ done_if (list_all is_proved (verdicts_on turns (goals_by_proc m)))
+
+abbrev pub IsSummaryOn : ℕ → ℕ → ℕ → Opening → List ℕ → Status → Type 0
+IsSummaryOn turns seed size (program m) written status = IsSummary turns seed size m written status
+IsSummaryOn turns seed size (refused w) written status = IsRefusal w written status
+
+pub record IsGenerated (turns seed size : ℕ) (written : List ℕ) (status : Status) : Type 0 where
+  pub opening : Opening
+  pub opens : Opens (generate seed size) opening
+  pub answer : IsSummaryOn turns seed size opening written status

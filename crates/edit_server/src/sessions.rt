@@ -1,0 +1,112 @@
+// Whole sessions over input and output in memory; what is expected is written by hand from the rules.
+use crate::{Status, run};
+use bv_base::{MemSink, MemSource};
+use std::alloc::{AllocError, Global};
+use std::test::Fail;
+
+/// An open, a report and a quit: lines of 54, 16 and 14 bytes.
+const REQUESTS: &[u8; 84] =
+    b"{\"op\":\"open\",\"text\":\"procedure P() { assert true; }\"}\n{\"op\":\"report\"}\n{\"op\":\"quit\"}\n";
+
+/// Their replies: lines of 36, 60 and 12 bytes.
+const REPLIES: &[u8; 108] =
+    b"{\"goals\":1,\"rebuilt\":1,\"version\":1}\n{\"report\":[\"P 1:17 assert proved\",\"P correct\"],\"version\":1}\n{\"ok\":true}\n";
+
+/// How a session over these bytes ends where these reads or writes of a byte fail, and what was written.
+fn serve<R: AllocGlobal>(
+    rt: &R,
+    input: &[u8],
+    reads: Vec<u64>,
+    writes: Vec<u64>,
+) -> Result<(Status, Vec<u8>), AllocError> {
+    let mut words = Vec::new(rt.alloc());
+    words.push(String::from_str(rt.alloc(), "serve")?)?;
+    let mut source = MemSource::new(Vec::from_slice(rt.alloc(), input)?, 1, reads);
+    let mut sink = MemSink::new(rt.alloc(), 1, writes);
+    sink.reserve(1000)?;
+    let ended = run(rt, words.as_slice(), &mut source, &mut sink);
+    Ok((ended, Vec::from_slice(rt.alloc(), sink.bytes())?))
+}
+
+/// The one call that fails.
+fn failing(alloc: Global, number: u64) -> Result<Vec<u64>, AllocError> {
+    let mut fails = Vec::new(alloc);
+    fails.push(number)?;
+    Ok(fails)
+}
+
+/// Whether each read of these, where it fails, leaves these bytes written.
+fn reads_leave<R: AllocGlobal>(
+    rt: &R,
+    first: u64,
+    behind: u64,
+    left: &[u8],
+) -> Result<bool, AllocError> {
+    for k in first..behind {
+        let (ended, written) = serve(
+            rt,
+            REQUESTS.as_slice(),
+            failing(rt.alloc(), k)?,
+            Vec::new(rt.alloc()),
+        )?;
+        if ended != Status::ReadFault || written.as_slice() != left {
+            return Ok(false);
+        }
+    }
+    Ok(true)
+}
+
+#[test]
+fn a_read_that_fails_leaves_the_replies_before(rt: HostRuntime) -> Result<(), Fail> {
+    assert!(rt; reads_leave(&rt, 0, 54, b"".as_slice())?);
+    assert!(rt; reads_leave(&rt, 54, 70, &REPLIES[..36])?);
+    assert!(rt; reads_leave(&rt, 70, 84, &REPLIES[..96])?);
+    // behind the quit nothing is read
+    let (ended, written) = serve(
+        &rt,
+        REQUESTS.as_slice(),
+        failing(rt.alloc(), 84)?,
+        Vec::new(rt.alloc()),
+    )?;
+    assert!(rt; ended == Status::Done && written.as_slice() == REPLIES.as_slice());
+    Ok(())
+}
+
+#[test]
+fn a_write_that_fails_leaves_the_bytes_of_the_replies_before(rt: HostRuntime) -> Result<(), Fail> {
+    for k in 0..108usize {
+        let (ended, written) = serve(
+            &rt,
+            REQUESTS.as_slice(),
+            Vec::new(rt.alloc()),
+            failing(rt.alloc(), k as u64)?,
+        )?;
+        assert!(rt; ended == Status::WriteFault && written.as_slice() == &REPLIES[..k]);
+    }
+    let (ended, _) = serve(
+        &rt,
+        REQUESTS.as_slice(),
+        Vec::new(rt.alloc()),
+        failing(rt.alloc(), 108)?,
+    )?;
+    assert!(rt; ended == Status::Done);
+    Ok(())
+}
+
+/// Whether a session over one line of so many letters writes this.
+fn line_is_answered<R: AllocGlobal>(
+    rt: &R,
+    count: usize,
+    reply: &[u8],
+) -> Result<bool, AllocError> {
+    let line = vec![in rt.alloc(); b'a'; count]?;
+    let (ended, written) = serve(rt, &line, Vec::new(rt.alloc()), Vec::new(rt.alloc()))?;
+    Ok(ended == Status::Done && written.as_slice() == reply)
+}
+
+#[test]
+fn a_line_may_have_1_048_576_bytes(rt: HostRuntime) -> Result<(), Fail> {
+    assert!(rt; line_is_answered(&rt, 1_048_576, b"{\"error\":\"Json\"}\n")?);
+    assert!(rt; line_is_answered(&rt, 1_048_577, b"{\"error\":\"Long\"}\n")?);
+    Ok(())
+}
