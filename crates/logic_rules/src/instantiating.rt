@@ -307,7 +307,10 @@ fn step(alloc: Global, found: &Candidate) -> Result<Step, AllocError>
     ensures { IfOk result (λ s. step_of s ≡ by_instantiate found.now.fact.number found.now.tuple) }
 {
     let tuple = copy_terms(alloc, found.tuple.as_slice())?;
-    Ok(Step::Instantiate(found.fact.number, tuple))
+    Ok(Step::Instantiate {
+        fact: found.fact.number,
+        terms: tuple,
+    })
 }
 
 /// The instance is added and the mark made. Wide exactly where the instance leaves 128 bits.

@@ -143,7 +143,10 @@ fn step(found: At<Term>) -> Step
         fact,
         what: call,
     } = found;
-    Step::Unfold(fact.number, call)
+    Step::Unfold {
+        fact: fact.number,
+        term: call,
+    }
 }
 
 /// The fact is changed: its first Call becomes the definition's body. Wide exactly where the normal

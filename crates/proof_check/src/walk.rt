@@ -65,20 +65,32 @@ fn after_step(alloc: Global, defs: &[Def], context: &Context, step: &Step) -> Re
 {
     match step {
         Step::Split(f) => split(alloc, defs, context, context.fact(*f)?),
-        Step::Instantiate(f, terms) => {
-            instantiate(alloc, defs, context, context.fact(*f)?, terms)
+        Step::Instantiate { fact, terms } => {
+            instantiate(alloc, defs, context, context.fact(*fact)?, terms)
         }
         Step::Skolem(f) => skolem(alloc, defs, context, context.fact(*f)?),
-        Step::Replace(f, g, t) => {
-            let fact = context.fact(*f)?;
-            replace(alloc, defs, context, fact, context.fact(*g)?, t)
+        Step::Replace { fact, by, term } => {
+            let fact = context.fact(*fact)?;
+            replace(alloc, defs, context, fact, context.fact(*by)?, term)
         }
-        Step::Unfold(f, t) => unfold(alloc, defs, context, context.fact(*f)?, t),
-        Step::Back(f, t) => back(alloc, defs, context, context.fact(*f)?, t),
+        Step::Unfold { fact, term } => unfold(alloc, defs, context, context.fact(*fact)?, term),
+        Step::Back { fact, term } => back(alloc, defs, context, context.fact(*fact)?, term),
         Step::Differ(f) => differ(alloc, defs, context, context.fact(*f)?),
-        Step::Combine(f, p, g, q) => {
-            let fact = context.fact(*f)?;
-            combine(alloc, context, fact, *p, context.fact(*g)?, *q)
+        Step::Combine {
+            first,
+            first_times,
+            second,
+            second_times,
+        } => {
+            let fact = context.fact(*first)?;
+            combine(
+                alloc,
+                context,
+                fact,
+                *first_times,
+                context.fact(*second)?,
+                *second_times,
+            )
         }
         Step::Tighten(f) => tighten(alloc, context, context.fact(*f)?),
     }
@@ -183,10 +195,14 @@ fn judge_end(
     ensures same { OnOk result (context.new ≡ context.old) }
 {
     match end {
-        End::Close(f, g) => judge_close(alloc, context, node, *f, *g),
-        End::Cases(f, first, others) => {
+        End::Close { first, second } => judge_close(alloc, context, node, *first, *second),
+        End::Cases {
+            fact,
+            first,
+            others,
+        } => {
             let cases = at_node(
-                after_cases(alloc, defs, context, *f, others),
+                after_cases(alloc, defs, context, *fact, others),
                 node,
                 Rule::Split,
             )?;
@@ -194,21 +210,40 @@ fn judge_end(
             let node = judge_child(alloc, defs, context, next(node), facts, first)?;
             judge_each(alloc, defs, context, node, &cases.others, others)
         }
-        End::Condition(f, t, yes, no) => {
+        End::Condition {
+            fact,
+            term,
+            yes,
+            no,
+        } => {
             let facts = at_node(
-                after_condition(alloc, defs, context, *f, t),
+                after_condition(alloc, defs, context, *fact, term),
                 node,
                 Rule::Split,
             )?;
             let node = judge_child(alloc, defs, context, next(node), facts.yes, yes)?;
             judge_child(alloc, defs, context, node, facts.no, no)
         }
-        End::Past(t, below, same, above) => {
-            let facts = at_node(past(alloc, defs, context, t), node, Rule::Past)?;
+        End::Past {
+            term,
+            below,
+            same,
+            above,
+        } => {
+            let facts = at_node(past(alloc, defs, context, term), node, Rule::Past)?;
             judge_signs(alloc, defs, context, next(node), facts, below, same, above)
         }
-        End::Trichotomy(d, below, same, above) => {
-            let facts = at_node(trichotomy(alloc, defs, context, d), node, Rule::Trichotomy)?;
+        End::Trichotomy {
+            term,
+            below,
+            same,
+            above,
+        } => {
+            let facts = at_node(
+                trichotomy(alloc, defs, context, term),
+                node,
+                Rule::Trichotomy,
+            )?;
             judge_signs(alloc, defs, context, next(node), facts, below, same, above)
         }
     }

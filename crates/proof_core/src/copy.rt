@@ -14,13 +14,36 @@ impl Step {
     {
         match self {
             Step::Split(f) => Ok(Step::Split(*f)),
-            Step::Instantiate(f, terms) => Ok(Step::Instantiate(*f, copy_terms(alloc, terms)?)),
+            Step::Instantiate { fact, terms } => Ok(Step::Instantiate {
+                fact: *fact,
+                terms: copy_terms(alloc, terms)?,
+            }),
             Step::Skolem(f) => Ok(Step::Skolem(*f)),
-            Step::Replace(f, g, t) => Ok(Step::Replace(*f, *g, t.copy(alloc)?)),
-            Step::Unfold(f, t) => Ok(Step::Unfold(*f, t.copy(alloc)?)),
-            Step::Back(f, t) => Ok(Step::Back(*f, t.copy(alloc)?)),
+            Step::Replace { fact, by, term } => Ok(Step::Replace {
+                fact: *fact,
+                by: *by,
+                term: term.copy(alloc)?,
+            }),
+            Step::Unfold { fact, term } => Ok(Step::Unfold {
+                fact: *fact,
+                term: term.copy(alloc)?,
+            }),
+            Step::Back { fact, term } => Ok(Step::Back {
+                fact: *fact,
+                term: term.copy(alloc)?,
+            }),
             Step::Differ(f) => Ok(Step::Differ(*f)),
-            Step::Combine(f, p, g, q) => Ok(Step::Combine(*f, *p, *g, *q)),
+            Step::Combine {
+                first,
+                first_times,
+                second,
+                second_times,
+            } => Ok(Step::Combine {
+                first: *first,
+                first_times: *first_times,
+                second: *second,
+                second_times: *second_times,
+            }),
             Step::Tighten(f) => Ok(Step::Tighten(*f)),
         }
     }
@@ -53,27 +76,68 @@ fn copy_end(alloc: Global, end: &End) -> Result<End, AllocError>
     ensures { IfOk result (λ e. end_of e ≡ end_of end.now) }
 {
     match end {
-        End::Close(f, g) => Ok(End::Close(*f, *g)),
-        End::Cases(f, first, others) => {
+        End::Close { first, second } => Ok(End::Close {
+            first: *first,
+            second: *second,
+        }),
+        End::Cases {
+            fact,
+            first,
+            others,
+        } => {
             let first = copy_boxed(alloc, first)?;
-            Ok(End::Cases(*f, first, copy_proofs(alloc, others)?))
+            Ok(End::Cases {
+                fact: *fact,
+                first,
+                others: copy_proofs(alloc, others)?,
+            })
         }
-        End::Condition(f, t, yes, no) => {
-            let term = t.copy(alloc)?;
+        End::Condition {
+            fact,
+            term,
+            yes,
+            no,
+        } => {
+            let term = term.copy(alloc)?;
             let yes = copy_boxed(alloc, yes)?;
-            Ok(End::Condition(*f, term, yes, copy_boxed(alloc, no)?))
+            Ok(End::Condition {
+                fact: *fact,
+                term,
+                yes,
+                no: copy_boxed(alloc, no)?,
+            })
         }
-        End::Past(t, below, same, above) => {
-            let term = t.copy(alloc)?;
+        End::Past {
+            term,
+            below,
+            same,
+            above,
+        } => {
+            let term = term.copy(alloc)?;
             let below = copy_boxed(alloc, below)?;
             let same = copy_boxed(alloc, same)?;
-            Ok(End::Past(term, below, same, copy_boxed(alloc, above)?))
+            Ok(End::Past {
+                term,
+                below,
+                same,
+                above: copy_boxed(alloc, above)?,
+            })
         }
-        End::Trichotomy(t, below, same, above) => {
-            let term = t.copy(alloc)?;
+        End::Trichotomy {
+            term,
+            below,
+            same,
+            above,
+        } => {
+            let term = term.copy(alloc)?;
             let below = copy_boxed(alloc, below)?;
             let same = copy_boxed(alloc, same)?;
-            Ok(End::Trichotomy(term, below, same, copy_boxed(alloc, above)?))
+            Ok(End::Trichotomy {
+                term,
+                below,
+                same,
+                above: copy_boxed(alloc, above)?,
+            })
         }
     }
 }

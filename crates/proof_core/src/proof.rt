@@ -14,19 +14,37 @@ pub enum Step {
     /// The parts of a fact that is an And.
     Split(u64),
     /// The body of a fact that is a ForAll, with the terms for its variables.
-    Instantiate(u64, Vec<Term>),
+    Instantiate {
+        fact: u64,
+        terms: Vec<Term>,
+    },
     /// The body of a fact that is an Exists, with new variables, which take the next numbers.
     Skolem(u64),
     /// The first fact with the term replaced everywhere by what the second fact says.
-    Replace(u64, u64, Term),
+    Replace {
+        fact: u64,
+        by: u64,
+        term: Term,
+    },
     /// The fact with the call in it replaced by its definition's body.
-    Unfold(u64, Term),
+    Unfold {
+        fact: u64,
+        term: Term,
+    },
     /// The fact with a Read of a Write in it, at a constant distance, replaced by what it reads.
-    Back(u64, Term),
+    Back {
+        fact: u64,
+        term: Term,
+    },
     /// An index, which is a new variable, at which two maps differ whose Eq the fact denies.
     Differ(u64),
     /// That the sum of multiples of two linear facts is not below zero.
-    Combine(u64, i128, u64, i128),
+    Combine {
+        first: u64,
+        first_times: i128,
+        second: u64,
+        second_times: i128,
+    },
     /// The fact with its coefficients divided by their greatest common divisor.
     Tighten(u64),
 }
@@ -44,16 +62,38 @@ pub struct Proof {
 #[derive(Drop)]
 pub enum End {
     /// By two facts of which the second is the Not of the first, or by one that is false.
-    Close(u64, u64),
+    Close {
+        first: u64,
+        second: u64,
+    },
     /// By a fact that is an Or, an Eq of Bool or the Not of one, with a proof for its first case
     /// and one for each of the others.
-    Cases(u64, Box<Proof>, Vec<Proof>),
+    Cases {
+        fact: u64,
+        first: Box<Proof>,
+        others: Vec<Proof>,
+    },
     /// By an If in a fact: its condition holds, and then it doesn't.
-    Condition(u64, Term, Box<Proof>, Box<Proof>),
+    Condition {
+        fact: u64,
+        term: Term,
+        yes: Box<Proof>,
+        no: Box<Proof>,
+    },
     /// By a Read of a Write: the index written is below, at or above the index read.
-    Past(Term, Box<Proof>, Box<Proof>, Box<Proof>),
+    Past {
+        term: Term,
+        below: Box<Proof>,
+        same: Box<Proof>,
+        above: Box<Proof>,
+    },
     /// By a term of Int: it is below, at or above zero.
-    Trichotomy(Term, Box<Proof>, Box<Proof>, Box<Proof>),
+    Trichotomy {
+        term: Term,
+        below: Box<Proof>,
+        same: Box<Proof>,
+        above: Box<Proof>,
+    },
 }
 
 impl Model for Proof {
@@ -92,13 +132,27 @@ impl End {
         ensures { result ≡ capped (end_nodes (end_of self.now)) }
     {
         match self {
-            End::Close(_, _) => 1,
-            End::Cases(_, first, others) => first
+            End::Close { .. } => 1,
+            End::Cases { first, others, .. } => first
                 .size()
                 .saturating_add(proofs_size(others))
                 .saturating_add(1),
-            End::Condition(_, _, yes, no) => yes.size().saturating_add(no.size()).saturating_add(1),
-            End::Past(_, below, same, above) | End::Trichotomy(_, below, same, above) => below
+            End::Condition { yes, no, .. } => yes
+                .size()
+                .saturating_add(no.size())
+                .saturating_add(1),
+            End::Past {
+                below,
+                same,
+                above,
+                ..
+            }
+            | End::Trichotomy {
+                below,
+                same,
+                above,
+                ..
+            } => below
                 .size()
                 .saturating_add(same.size())
                 .saturating_add(above.size())

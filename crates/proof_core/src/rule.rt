@@ -74,13 +74,13 @@ impl Step {
     {
         match self {
             Step::Split(_) => Rule::Split,
-            Step::Instantiate(_, _) => Rule::Instantiate,
+            Step::Instantiate { .. } => Rule::Instantiate,
             Step::Skolem(_) => Rule::Skolem,
-            Step::Replace(_, _, _) => Rule::Replace,
-            Step::Unfold(_, _) => Rule::Unfold,
-            Step::Back(_, _) => Rule::Back,
+            Step::Replace { .. } => Rule::Replace,
+            Step::Unfold { .. } => Rule::Unfold,
+            Step::Back { .. } => Rule::Back,
             Step::Differ(_) => Rule::Differ,
-            Step::Combine(_, _, _, _) => Rule::Combine,
+            Step::Combine { .. } => Rule::Combine,
             Step::Tighten(_) => Rule::Tighten,
         }
     }
@@ -92,10 +92,10 @@ impl End {
         ensures { rule_of result ≡ end_rule (end_of self.now) }
     {
         match self {
-            End::Close(_, _) => Rule::Close,
-            End::Cases(_, _, _) | End::Condition(_, _, _, _) => Rule::Split,
-            End::Past(_, _, _, _) => Rule::Past,
-            End::Trichotomy(_, _, _, _) => Rule::Trichotomy,
+            End::Close { .. } => Rule::Close,
+            End::Cases { .. } | End::Condition { .. } => Rule::Split,
+            End::Past { .. } => Rule::Past,
+            End::Trichotomy { .. } => Rule::Trichotomy,
         }
     }
 }

@@ -189,17 +189,38 @@ impl Open {
             Beyond::Split(f) => Ok(self.stepped(Step::Split(f))),
             Beyond::Instance(f, terms) => {
                 let terms = terms.into_vec();
-                Ok(self.stepped(Step::Instantiate(f, terms)))
+                Ok(self.stepped(Step::Instantiate { fact: f, terms }))
             }
             Beyond::Cases(f, first, others) => {
                 let first = Box::new(alloc, first)?;
-                Ok(Some(self.ended(alloc, End::Cases(f, first, others.into_vec()))))
+                Ok(Some(self.ended(
+                    alloc,
+                    End::Cases {
+                        fact: f,
+                        first,
+                        others: others.into_vec(),
+                    },
+                )))
             }
-            Beyond::Close(f, g) => Ok(Some(self.ended(alloc, End::Close(f, g)))),
+            Beyond::Close(f, g) => Ok(Some(self.ended(
+                alloc,
+                End::Close {
+                    first: f,
+                    second: g,
+                },
+            ))),
             Beyond::Condition(f, term, yes, no) => {
                 let yes = Box::new(alloc, yes)?;
                 let no = Box::new(alloc, no)?;
-                Ok(Some(self.ended(alloc, End::Condition(f, term, yes, no))))
+                Ok(Some(self.ended(
+                    alloc,
+                    End::Condition {
+                        fact: f,
+                        term,
+                        yes,
+                        no,
+                    },
+                )))
             }
             Beyond::Three(ways, term, below, same, above) => {
                 let end = ways.of(alloc, term, below, same, above)?;

@@ -127,7 +127,12 @@ impl Factor {
     {
         match self {
             Factor::First(f) => Beyond::Fact(Fact::CombineBy(f, number)),
-            Factor::Second(f, p, g) => step(Step::Combine(f, p, g, number)),
+            Factor::Second(f, p, g) => step(Step::Combine {
+                first: f,
+                first_times: p,
+                second: g,
+                second_times: number,
+            }),
         }
     }
 }
@@ -139,9 +144,13 @@ impl Argument {
     {
         match self {
             Argument::Instance(f, terms) => Ok(Beyond::Instance(f, joined(terms, term)?)),
-            Argument::Replace(f, g) => Ok(step(Step::Replace(f, g, term))),
-            Argument::Unfold(f) => Ok(step(Step::Unfold(f, term))),
-            Argument::Back(f) => Ok(step(Step::Back(f, term))),
+            Argument::Replace(f, g) => Ok(step(Step::Replace {
+                fact: f,
+                by: g,
+                term,
+            })),
+            Argument::Unfold(f) => Ok(step(Step::Unfold { fact: f, term })),
+            Argument::Back(f) => Ok(step(Step::Back { fact: f, term })),
             Argument::Condition(f) => Ok(Beyond::Child(Branch::Then(f, term))),
             Argument::Three(ways) => Ok(Beyond::Child(Branch::Below(ways, term))),
         }
@@ -187,8 +196,18 @@ impl Ways {
         let same = Box::new(alloc, same)?;
         let above = Box::new(alloc, above)?;
         match self {
-            Ways::Past => Ok(End::Past(term, below, same, above)),
-            Ways::Trichotomy => Ok(End::Trichotomy(term, below, same, above)),
+            Ways::Past => Ok(End::Past {
+                term,
+                below,
+                same,
+                above,
+            }),
+            Ways::Trichotomy => Ok(End::Trichotomy {
+                term,
+                below,
+                same,
+                above,
+            }),
         }
     }
 }

@@ -98,24 +98,29 @@ fn step_fits(step: &Step)
 {
     match step {
         Step::Split(f) | Step::Skolem(f) | Step::Differ(f) | Step::Tighten(f) => number_fits(*f),
-        Step::Instantiate(f, terms) => {
-            number_fits(*f);
+        Step::Instantiate { fact, terms } => {
+            number_fits(*fact);
             tuple_fits(terms)
         }
-        Step::Replace(f, g, term) => {
-            number_fits(*f);
-            number_fits(*g);
+        Step::Replace { fact, by, term } => {
+            number_fits(*fact);
+            number_fits(*by);
             term_fits(term)
         }
-        Step::Unfold(f, term) | Step::Back(f, term) => {
-            number_fits(*f);
+        Step::Unfold { fact, term } | Step::Back { fact, term } => {
+            number_fits(*fact);
             term_fits(term)
         }
-        Step::Combine(f, p, g, q) => {
-            number_fits(*f);
-            integer_fits(*p);
-            number_fits(*g);
-            integer_fits(*q)
+        Step::Combine {
+            first,
+            first_times,
+            second,
+            second_times,
+        } => {
+            number_fits(*first);
+            integer_fits(*first_times);
+            number_fits(*second);
+            integer_fits(*second_times)
         }
     }
 }
@@ -142,22 +147,42 @@ fn end_fits(end: &End)
     ensures { end_fits (end_of end.now) ≡ true }
 {
     match end {
-        End::Close(f, g) => {
-            number_fits(*f);
-            number_fits(*g)
+        End::Close { first, second } => {
+            number_fits(*first);
+            number_fits(*second)
         }
-        End::Cases(f, first, others) => {
-            number_fits(*f);
+        End::Cases {
+            fact,
+            first,
+            others,
+        } => {
+            number_fits(*fact);
             proof_fits(first);
             proofs_fit(others)
         }
-        End::Condition(f, term, yes, no) => {
-            number_fits(*f);
+        End::Condition {
+            fact,
+            term,
+            yes,
+            no,
+        } => {
+            number_fits(*fact);
             term_fits(term);
             proof_fits(yes);
             proof_fits(no)
         }
-        End::Past(term, below, same, above) | End::Trichotomy(term, below, same, above) => {
+        End::Past {
+            term,
+            below,
+            same,
+            above,
+        }
+        | End::Trichotomy {
+            term,
+            below,
+            same,
+            above,
+        } => {
             term_fits(term);
             proof_fits(below);
             proof_fits(same);

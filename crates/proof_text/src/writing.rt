@@ -69,29 +69,34 @@ fn put_step(out: &mut Vec<u8>, step: &Step) -> Result<(), AllocError>
 {
     match step {
         Step::Split(f) => put_fact_node(out, b"s", *f),
-        Step::Instantiate(f, terms) => {
+        Step::Instantiate { fact, terms } => {
             open(out, b"i")?;
-            put_fact(out, *f)?;
+            put_fact(out, *fact)?;
             put_tuple(out, terms)?;
             put(out, b")")
         }
         Step::Skolem(f) => put_fact_node(out, b"w", *f),
-        Step::Replace(f, g, term) => {
+        Step::Replace { fact, by, term } => {
             open(out, b"e")?;
-            put_fact(out, *f)?;
-            put_fact(out, *g)?;
+            put_fact(out, *fact)?;
+            put_fact(out, *by)?;
             put_spaced(out, term)?;
             put(out, b")")
         }
-        Step::Unfold(f, term) => put_term_node(out, b"u", *f, term),
-        Step::Back(f, term) => put_term_node(out, b"r", *f, term),
+        Step::Unfold { fact, term } => put_term_node(out, b"u", *fact, term),
+        Step::Back { fact, term } => put_term_node(out, b"r", *fact, term),
         Step::Differ(f) => put_fact_node(out, b"d", *f),
-        Step::Combine(f, p, g, q) => {
+        Step::Combine {
+            first,
+            first_times,
+            second,
+            second_times,
+        } => {
             open(out, b"k")?;
-            put_fact(out, *f)?;
-            put_multiplier(out, *p)?;
-            put_fact(out, *g)?;
-            put_multiplier(out, *q)?;
+            put_fact(out, *first)?;
+            put_multiplier(out, *first_times)?;
+            put_fact(out, *second)?;
+            put_multiplier(out, *second_times)?;
             put(out, b")")
         }
         Step::Tighten(f) => put_fact_node(out, b"t", *f),
@@ -168,33 +173,48 @@ fn put_end(out: &mut Vec<u8>, end: &End) -> Result<(), AllocError>
     ensures { OnOk result (out.new.items ≡ out.old.items ++ end_text (end_of end.now)) }
 {
     match end {
-        End::Close(f, g) => {
+        End::Close { first, second } => {
             open(out, b"c")?;
-            put_fact(out, *f)?;
-            put_fact(out, *g)?;
+            put_fact(out, *first)?;
+            put_fact(out, *second)?;
             put(out, b")")
         }
-        End::Cases(f, first, others) => {
+        End::Cases {
+            fact,
+            first,
+            others,
+        } => {
             open(out, b"s")?;
-            put_fact(out, *f)?;
+            put_fact(out, *fact)?;
             put_child(out, first)?;
             put_children(out, others)?;
             put(out, b")")
         }
-        End::Condition(f, term, yes, no) => {
+        End::Condition {
+            fact,
+            term,
+            yes,
+            no,
+        } => {
             open(out, b"s")?;
-            put_fact(out, *f)?;
+            put_fact(out, *fact)?;
             put_spaced(out, term)?;
             put_child(out, yes)?;
             put_child(out, no)?;
             put(out, b")")
         }
-        End::Past(term, below, same, above) => {
-            put_three_ways(out, b"p", term, below, same, above)
-        }
-        End::Trichotomy(term, below, same, above) => {
-            put_three_ways(out, b"y", term, below, same, above)
-        }
+        End::Past {
+            term,
+            below,
+            same,
+            above,
+        } => { put_three_ways(out, b"p", term, below, same, above) }
+        End::Trichotomy {
+            term,
+            below,
+            same,
+            above,
+        } => { put_three_ways(out, b"y", term, below, same, above) }
     }
 }
 

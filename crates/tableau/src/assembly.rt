@@ -76,7 +76,13 @@ fn only(alloc: Global, mut begun: Vec<PartialProof>) -> PartialProof
     begun.reverse();
     match begun.pop() {
         Some(partial) => partial,
-        None => ended(alloc, End::Close(0, 0)),
+        None => ended(
+            alloc,
+            End::Close {
+                first: 0,
+                second: 0,
+            },
+        ),
     }
 }
 
@@ -96,11 +102,18 @@ fn fork(alloc: Global, f: u64, begun: Vec<PartialProof>) -> Result<PartialProof,
     ensures { IfOk result (λ p. partial_of p ≡ proof_of (forks f) (map partial_of begun.items)) }
 {
     let mut proofs = finish_each(alloc, begun)?;
-    let mut end = End::Close(0, 0);
+    let mut end = End::Close {
+        first: 0,
+        second: 0,
+    };
     proofs.reverse();
     if let Some(first) = proofs.pop() {
         proofs.reverse();
-        end = End::Cases(f, Box::new(alloc, first)?, proofs);
+        end = End::Cases {
+            fact: f,
+            first: Box::new(alloc, first)?,
+            others: proofs,
+        };
     }
     Ok(ended(alloc, end))
 }
@@ -118,9 +131,23 @@ fn chosen_proof(
         Some((yes, no)) => {
             let yes = Box::new(alloc, yes)?;
             let no = Box::new(alloc, no)?;
-            Ok(ended(alloc, End::Condition(f, condition, yes, no)))
+            Ok(ended(
+                alloc,
+                End::Condition {
+                    fact: f,
+                    term: condition,
+                    yes,
+                    no,
+                },
+            ))
         }
-        None => Ok(ended(alloc, End::Close(0, 0))),
+        None => Ok(ended(
+            alloc,
+            End::Close {
+                first: 0,
+                second: 0,
+            },
+        )),
     }
 }
 
@@ -137,9 +164,23 @@ fn passed_proof(
             let below = Box::new(alloc, below)?;
             let same = Box::new(alloc, same)?;
             let above = Box::new(alloc, above)?;
-            Ok(ended(alloc, End::Past(access, below, same, above)))
+            Ok(ended(
+                alloc,
+                End::Past {
+                    term: access,
+                    below,
+                    same,
+                    above,
+                },
+            ))
         }
-        None => Ok(ended(alloc, End::Close(0, 0))),
+        None => Ok(ended(
+            alloc,
+            End::Close {
+                first: 0,
+                second: 0,
+            },
+        )),
     }
 }
 
@@ -156,9 +197,23 @@ fn decided_proof(
             let below = Box::new(alloc, below)?;
             let same = Box::new(alloc, same)?;
             let above = Box::new(alloc, above)?;
-            Ok(ended(alloc, End::Trichotomy(number, below, same, above)))
+            Ok(ended(
+                alloc,
+                End::Trichotomy {
+                    term: number,
+                    below,
+                    same,
+                    above,
+                },
+            ))
         }
-        None => Ok(ended(alloc, End::Close(0, 0))),
+        None => Ok(ended(
+            alloc,
+            End::Close {
+                first: 0,
+                second: 0,
+            },
+        )),
     }
 }
 
@@ -172,7 +227,13 @@ fn proof_of(
 {
     match ending {
         Ending::GoesOn => Ok(only(alloc, begun)),
-        Ending::Closes(f, g) => Ok(ended(alloc, End::Close(f, g))),
+        Ending::Closes(f, g) => Ok(ended(
+            alloc,
+            End::Close {
+                first: f,
+                second: g,
+            },
+        )),
         Ending::Forks(f) => fork(alloc, f, begun),
         Ending::Chooses(f, condition) => chosen_proof(alloc, f, condition, begun),
         Ending::Passes(access) => passed_proof(alloc, access, begun),

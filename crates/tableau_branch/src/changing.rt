@@ -54,9 +54,16 @@ impl<'a> Replacing<'a> {
         let left = self.left.copy(alloc)?;
         match self.ground {
             Ground::Fact(by) | Ground::Equation(by) => {
-                Ok(Step::Replace(fact.number(), by, left))
+                Ok(Step::Replace {
+                    fact: fact.number(),
+                    by,
+                    term: left,
+                })
             }
-            Ground::Access => Ok(Step::Back(fact.number(), left)),
+            Ground::Access => Ok(Step::Back {
+                fact: fact.number(),
+                term: left,
+            }),
         }
     }
 

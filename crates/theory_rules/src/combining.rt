@@ -157,7 +157,12 @@ fn add_combined(alloc: Global, branch: Branch, combined: Combined) -> Result<Mov
         fact,
     } = combined;
     let mut made = Made::begun(alloc, branch);
-    let step = Step::Combine(first.number, p, second.number, q);
+    let step = Step::Combine {
+        first: first.number,
+        first_times: p,
+        second: second.number,
+        second_times: q,
+    };
     let sum = append_by(alloc, &mut made, step, fact)?;
     add(&mut made, sum)?;
     Ok(Move::on_one(alloc, made)?)

@@ -10,13 +10,31 @@ use std::test::Fail;
 fn steps(alloc: Global) -> Result<Vec<Step>, AllocError> {
     let mut steps = Vec::new(alloc);
     steps.push(Step::Split(1))?;
-    steps.push(Step::Instantiate(2, Vec::from_array(alloc, [variable(X)])?))?;
+    steps.push(Step::Instantiate {
+        fact: 2,
+        terms: Vec::from_array(alloc, [variable(X)])?,
+    })?;
     steps.push(Step::Skolem(3))?;
-    steps.push(Step::Replace(5, 4, variable(X)))?;
-    steps.push(Step::Combine(5, 1, 4, 1))?;
+    steps.push(Step::Replace {
+        fact: 5,
+        by: 4,
+        term: variable(X),
+    })?;
+    steps.push(Step::Combine {
+        first: 5,
+        first_times: 1,
+        second: 4,
+        second_times: 1,
+    })?;
     steps.push(Step::Tighten(5))?;
-    steps.push(Step::Unfold(6, call(alloc)?))?;
-    steps.push(Step::Back(7, read_past(alloc, variable(X))?))?;
+    steps.push(Step::Unfold {
+        fact: 6,
+        term: call(alloc)?,
+    })?;
+    steps.push(Step::Back {
+        fact: 7,
+        term: read_past(alloc, variable(X))?,
+    })?;
     steps.push(Step::Differ(9))?;
     Ok(steps)
 }
@@ -33,17 +51,43 @@ fn boxed(alloc: Global, end: End) -> Result<Box<Proof>, AllocError> {
 
 // A close by the axiom that is false.
 fn closed(alloc: Global) -> Result<Box<Proof>, AllocError> {
-    boxed(alloc, End::Close(0, 0))
+    boxed(
+        alloc,
+        End::Close {
+            first: 0,
+            second: 0,
+        },
+    )
 }
 
 // Cases of p or q; of what a read past a write finds; and of a choice.
 fn children(alloc: Global) -> Result<(Box<Proof>, Box<Proof>, Box<Proof>), AllocError> {
     let mut others = Vec::new(alloc);
-    others.push(ended(alloc, End::Close(0, 0)))?;
-    let cases = End::Cases(10, closed(alloc)?, others);
+    others.push(ended(
+        alloc,
+        End::Close {
+            first: 0,
+            second: 0,
+        },
+    ))?;
+    let cases = End::Cases {
+        fact: 10,
+        first: closed(alloc)?,
+        others,
+    };
     let place = read_past(alloc, variable(Y))?;
-    let past = End::Past(place, closed(alloc)?, closed(alloc)?, closed(alloc)?);
-    let condition = End::Condition(11, choice(alloc)?, closed(alloc)?, closed(alloc)?);
+    let past = End::Past {
+        term: place,
+        below: closed(alloc)?,
+        same: closed(alloc)?,
+        above: closed(alloc)?,
+    };
+    let condition = End::Condition {
+        fact: 11,
+        term: choice(alloc)?,
+        yes: closed(alloc)?,
+        no: closed(alloc)?,
+    };
     Ok((
         boxed(alloc, cases)?,
         boxed(alloc, past)?,
@@ -55,7 +99,12 @@ fn by_every_rule(alloc: Global) -> Result<Proof, AllocError> {
     let (below, same, above) = children(alloc)?;
     Ok(Proof {
         steps: steps(alloc)?,
-        end: End::Trichotomy(variable(X), below, same, above),
+        end: End::Trichotomy {
+            term: variable(X),
+            below,
+            same,
+            above,
+        },
     })
 }
 

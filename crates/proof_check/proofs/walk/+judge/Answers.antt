@@ -25,7 +25,7 @@ judge_end-returns-in_ok-node-in-Cases-clause-judged t c =
     let old = c.args.context.now in
     let cases = c.in_ok-cases-in-Cases.cases in
     let others = proofs_of c.in-Cases.others.items in
-    let given : for_each others (after_cases c.args.defs.now old c.in-Cases.f) ≡ Some (with_fact old cases.first, map (λ t. with_fact old t) cases.others.items) = search rules in
+    let given : for_each others (after_cases c.args.defs.now old c.in-Cases.fact) ≡ Some (with_fact old cases.first, map (λ t. with_fact old t) cases.others.items) = search rules in
     let first : judged c.args.defs.now (next c.args.node) (with_fact old cases.first) c.in-Cases.first.value ≡ Ok c.in_ok-node-in-Cases.node = search rules in
     let each : JudgesAs (λ n. n) c.judge_each.result (judged_each c.args.defs.now c.in_ok-node-in-Cases.node (map (λ t. with_fact old t) cases.others.items) others) = search rules in
-    rw c.in-Cases.is (cases_judged (λ n. n) c.judge_each.result c.args.defs.now c.args.node c.in_ok-node-in-Cases.node old _ _ c.in-Cases.f c.in-Cases.first.value others given first each)
+    rw c.in-Cases.is (cases_judged (λ n. n) c.judge_each.result c.args.defs.now c.args.node c.in_ok-node-in-Cases.node old _ _ c.in-Cases.fact c.in-Cases.first.value others given first each)
