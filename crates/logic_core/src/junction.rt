@@ -2,13 +2,40 @@
 // drops, beside the other one the whole is that value, one part alone is the result, and no part
 // is the neutral value.
 ghost use Rattle.std.specs.Prelude.{◌≡◌, [], ◌∷◌, ◌++◌, None, IfOk, IfErr};
-ghost use Rattle.logic_core.specs.Tree.{all, some, Trees};
+ghost use Rattle.logic_core.specs.Tree.{Trees};
 ghost use Rattle.logic_core.specs.View.{trees_of};
 ghost use Rattle.logic_core.specs.Before.{before, tree_before};
-ghost use Rattle.logic_core.specs.Junction.{is_truth, has_truth, with_conjunct, conjuncts, all_of, conjunction, with_disjunct, disjuncts, some_of, disjunction, is_zero, as_all, as_some};
+ghost use Rattle.logic_core.specs.Junction.{is_truth, has_truth, neutral, joined, as_joined, with_operand, operands, joined_or_alone, junction, is_zero};
 
 use crate::term::{Node, Term};
 use std::alloc::{AllocError, Global};
+
+/// What joins formulas.
+#[derive(Clone, Copy, PartialEq, Eq, Debug, Drop)]
+pub enum Connective {
+    And,
+    Or,
+}
+
+// The truth value that drops: true from an And, false from an Or.
+fn neutral(connective: Connective) -> bool
+    ensures { result ≡ neutral connective }
+{
+    match connective {
+        Connective::And => true,
+        Connective::Or => false,
+    }
+}
+
+// The And or the Or of these parts.
+fn joined(connective: Connective, parts: Vec<Term>) -> Term
+    ensures { result ≡ joined connective (trees_of parts.items) }
+{
+    match connective {
+        Connective::And => Term::new(Node::And(parts)),
+        Connective::Or => Term::new(Node::Or(parts)),
+    }
+}
 
 impl Term {
     /// Whether this is the truth value b.
@@ -63,124 +90,79 @@ fn append_terms(parts: Vec<Term>, more: Vec<Term>) -> Result<Vec<Term>, AllocErr
     Ok(parts)
 }
 
-// The parts where this is an And, and the term itself where it isn't.
-fn into_conjuncts(term: Term) -> Result<Vec<Term>, Term>
-    ensures nested { IfOk result (λ v. term ≡ all (trees_of v.items)) }
-    ensures other { IfErr result (λ t. (t ≡ term) × (as_all term ≡ None)) }
+// The parts where this is one of the kind, and the term itself where it isn't.
+fn into_parts(connective: Connective, term: Term) -> Result<Vec<Term>, Term>
+    ensures nested { IfOk result (λ v. term ≡ joined connective (trees_of v.items)) }
+    ensures other { IfErr result (λ t. (t ≡ term) × (as_joined connective term ≡ None)) }
 {
-    match term.node {
-        Node::And(parts) => Ok(parts),
-        node => Err(Term::new(node)),
+    match connective {
+        Connective::And => match term.node {
+            Node::And(parts) => Ok(parts),
+            node => Err(Term::new(node)),
+        },
+        Connective::Or => match term.node {
+            Node::Or(parts) => Ok(parts),
+            node => Err(Term::new(node)),
+        },
     }
 }
 
-// One more part of an And: a nested And is taken in, and true drops.
-fn push_conjunct(parts: Vec<Term>, term: Term) -> Result<Vec<Term>, AllocError>
-    ensures { IfOk result (λ v. (us : Trees) → before tree_before v.items us ≡ before tree_before parts.items (with_conjunct term us)) }
+// One more part: a nested one of the kind is taken in, and the neutral truth value drops.
+fn push_operand(
+    connective: Connective,
+    parts: Vec<Term>,
+    term: Term,
+) -> Result<Vec<Term>, AllocError>
+    ensures { IfOk result (λ v. (us : Trees) → before tree_before v.items us ≡ before tree_before parts.items (with_operand connective term us)) }
 {
-    if term.is_truth(true) {
+    if term.is_truth(neutral(connective)) {
         return Ok(parts);
     }
-    let parts = match into_conjuncts(term) {
+    let parts = match into_parts(connective, term) {
         Ok(nested) => append_terms(parts, nested)?,
         Err(term) => push_term(parts, term)?,
     };
     Ok(parts)
 }
 
-// The parts of an And, those of nested ones among them, without true.
-fn conjuncts(alloc: Global, terms: Vec<Term>) -> Result<Vec<Term>, AllocError>
-    ensures { IfOk result (λ v. trees_of v.items ≡ conjuncts (trees_of terms.items)) }
+// The parts, those of nested ones of the kind among them, without the neutral truth value.
+fn operands(
+    alloc: Global,
+    connective: Connective,
+    terms: Vec<Term>,
+) -> Result<Vec<Term>, AllocError>
+    ensures { IfOk result (λ v. trees_of v.items ≡ operands connective (trees_of terms.items)) }
 {
     let mut parts = Vec::new(alloc);
     for term in terms {
-        parts = push_conjunct(parts, term)?;
+        parts = push_operand(connective, parts, term)?;
     }
     Ok(parts)
 }
 
-// One part alone is the result, and none is true.
-fn all_of(parts: Vec<Term>) -> Term
-    ensures { result ≡ all_of (trees_of parts.items) }
+// One part alone is the result, and none is the neutral truth value.
+fn joined_or_alone(connective: Connective, parts: Vec<Term>) -> Term
+    ensures { result ≡ joined_or_alone connective (trees_of parts.items) }
 {
     if parts.len() > 1 {
-        return Term::new(Node::And(parts));
+        return joined(connective, parts);
     }
     let mut parts = parts;
     match parts.pop() {
         Some(alone) => alone,
-        None => Term::new(Node::Truth(true)),
+        None => Term::new(Node::Truth(neutral(connective))),
     }
 }
 
-/// The And of normal formulas: nested ones are taken in, true drops, and beside false it is false.
-pub fn conjunction(alloc: Global, terms: Vec<Term>) -> Result<Term, AllocError>
-    ensures { IfOk result (λ t. t ≡ conjunction (trees_of terms.items)) }
+/// The And or the Or of normal formulas: nested ones of the kind are taken in, the neutral truth value
+/// drops, and beside the other one the whole is that value.
+pub fn junction(alloc: Global, connective: Connective, terms: Vec<Term>) -> Result<Term, AllocError>
+    ensures { IfOk result (λ t. t ≡ junction connective (trees_of terms.items)) }
 {
-    let parts = conjuncts(alloc, terms)?;
-    if has_truth(false, &parts) {
-        return Ok(Term::new(Node::Truth(false)));
+    let parts = operands(alloc, connective, terms)?;
+    let absorbing = !neutral(connective);
+    if has_truth(absorbing, &parts) {
+        return Ok(Term::new(Node::Truth(absorbing)));
     }
-    Ok(all_of(parts))
-}
-
-// The parts where this is an Or, and the term itself where it isn't.
-fn into_disjuncts(term: Term) -> Result<Vec<Term>, Term>
-    ensures nested { IfOk result (λ v. term ≡ some (trees_of v.items)) }
-    ensures other { IfErr result (λ t. (t ≡ term) × (as_some term ≡ None)) }
-{
-    match term.node {
-        Node::Or(parts) => Ok(parts),
-        node => Err(Term::new(node)),
-    }
-}
-
-// One more part of an Or: a nested Or is taken in, and false drops.
-fn push_disjunct(parts: Vec<Term>, term: Term) -> Result<Vec<Term>, AllocError>
-    ensures { IfOk result (λ v. (us : Trees) → before tree_before v.items us ≡ before tree_before parts.items (with_disjunct term us)) }
-{
-    if term.is_truth(false) {
-        return Ok(parts);
-    }
-    let parts = match into_disjuncts(term) {
-        Ok(nested) => append_terms(parts, nested)?,
-        Err(term) => push_term(parts, term)?,
-    };
-    Ok(parts)
-}
-
-// The parts of an Or, those of nested ones among them, without false.
-fn disjuncts(alloc: Global, terms: Vec<Term>) -> Result<Vec<Term>, AllocError>
-    ensures { IfOk result (λ v. trees_of v.items ≡ disjuncts (trees_of terms.items)) }
-{
-    let mut parts = Vec::new(alloc);
-    for term in terms {
-        parts = push_disjunct(parts, term)?;
-    }
-    Ok(parts)
-}
-
-// One part alone is the result, and none is false.
-fn some_of(parts: Vec<Term>) -> Term
-    ensures { result ≡ some_of (trees_of parts.items) }
-{
-    if parts.len() > 1 {
-        return Term::new(Node::Or(parts));
-    }
-    let mut parts = parts;
-    match parts.pop() {
-        Some(alone) => alone,
-        None => Term::new(Node::Truth(false)),
-    }
-}
-
-/// The Or of normal formulas: nested ones are taken in, false drops, and beside true it is true.
-pub fn disjunction(alloc: Global, terms: Vec<Term>) -> Result<Term, AllocError>
-    ensures { IfOk result (λ t. t ≡ disjunction (trees_of terms.items)) }
-{
-    let parts = disjuncts(alloc, terms)?;
-    if has_truth(true, &parts) {
-        return Ok(Term::new(Node::Truth(true)));
-    }
-    Ok(some_of(parts))
+    Ok(joined_or_alone(connective, parts))
 }

@@ -8,7 +8,7 @@ ghost use Rattle.logic_core.specs.Junction.{negated, negated_each};
 
 use crate::copy::{copy_patterns, copy_sorts};
 use crate::fault::NormalFault;
-use crate::junction::{conjunction, disjunction};
+use crate::junction::{Connective, junction};
 use crate::sum::affine;
 use crate::term::{Node, Term};
 use std::alloc::{AllocError, Global};
@@ -47,11 +47,11 @@ pub fn negated(alloc: Global, term: &Term) -> Result<Term, NormalFault>
         Node::Not(a) => Ok(a.copy(alloc)?),
         Node::And(terms) => {
             let parts = negated_each(alloc, terms)?;
-            Ok(disjunction(alloc, parts)?)
+            Ok(junction(alloc, Connective::Or, parts)?)
         }
         Node::Or(terms) => {
             let parts = negated_each(alloc, terms)?;
-            Ok(conjunction(alloc, parts)?)
+            Ok(junction(alloc, Connective::And, parts)?)
         }
         Node::Le(low, high) => negated_inequality(alloc, low, high),
         Node::ForAll(sorts, patterns, body) => {

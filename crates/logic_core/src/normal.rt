@@ -23,7 +23,7 @@ ghost use Rattle.logic_core.specs.Normal.{choice, quantified, has_negative_lead,
 use crate::copy::copy_sorts;
 use crate::def::{Def, Signature};
 use crate::fault::NormalFault;
-use crate::junction::{conjunction, disjunction};
+use crate::junction::{Connective, junction};
 use crate::negation::negated;
 use crate::sort::{Sort, SortKind};
 use crate::sorts::within_binder;
@@ -261,11 +261,11 @@ impl Term {
             }
             Node::And(terms) => {
                 let terms = normal_each(alloc, vars, defs, bound, terms)?;
-                Ok(conjunction(alloc, terms)?)
+                Ok(junction(alloc, Connective::And, terms)?)
             }
             Node::Or(terms) => {
                 let terms = normal_each(alloc, vars, defs, bound, terms)?;
-                Ok(disjunction(alloc, terms)?)
+                Ok(junction(alloc, Connective::Or, terms)?)
             }
             Node::Eq(a, b) => {
                 let sort = a.sort_over(alloc, vars, defs, bound)?;

@@ -7,7 +7,9 @@ use Rattle.logic_core.specs.Wide.{◌>>=◌, when}
 use Rattle.logic_core.specs.Same.{same_term}
 use Rattle.logic_core.specs.Sorts.{is, sort_of, are_formulas, have_sorts_in}
 use Rattle.logic_core.specs.Sum.{affine, difference, in_order}
-use Rattle.logic_core.specs.Junction.{append, with_conjunct, conjuncts, all_of, conjunction, has_truth, with_disjunct, disjuncts, some_of, disjunction, is_zero, negated, negated_each}
+use Rattle.logic_core.specs.declared.junction.Connective.{Connective}
+use Rattle.logic_core.specs.declared.junction.Connective.TheVariants.{And, Or}
+use Rattle.logic_core.specs.Junction.{append, has_truth, neutral, joined, with_operand, operands, joined_or_alone, junction, conjunction, disjunction, is_zero, negated, negated_each}
 use Rattle.logic_core.specs.Normal.{choice, has_negative_lead, equals_zero, zero_at_most, equivalence_with, equivalence, equation_of, equation, inequality, quantified}
 use Rattle.logic_laws.proofs.Options.{both_true, all_true, some_has, bind_some, map_some, when_some, when_true, cond_has, cond_some}
 use Rattle.logic_laws.proofs.SortTests.{is_sort, sort_is}
@@ -27,39 +29,29 @@ module _ (vars : List Kind) (defs : List Def) where
   pub parts_of_all : (ts : Trees) (b : List Kind) → sort_of vars defs b (all ts) ≡ Some boolean → are_formulas vars defs b ts ≡ true
   parts_of_all ts b s = (when_some (are_formulas vars defs b ts) boolean boolean s).0
 
-  pub with_conjunct_formulas : (t : Tree) (ts : Trees) (b : List Kind) → sort_of vars defs b t ≡ Some boolean → are_formulas vars defs b ts ≡ true → are_formulas vars defs b (with_conjunct t ts) ≡ true
-  with_conjunct_formulas (all us) ts b s h = append_formulas us ts b (parts_of_all us b s) h
-  with_conjunct_formulas (truth true) ts b s h = h
-  with_conjunct_formulas t ts b s h = one_more_formula t ts b s h
+  pub with_operand_formulas : (c : Connective) (t : Tree) (ts : Trees) (b : List Kind) → sort_of vars defs b t ≡ Some boolean → are_formulas vars defs b ts ≡ true → are_formulas vars defs b (with_operand c t ts) ≡ true
+  with_operand_formulas And (all us) ts b s h = append_formulas us ts b (parts_of_all us b s) h
+  with_operand_formulas And (truth true) ts b s h = h
+  with_operand_formulas Or (some us) ts b s h = append_formulas us ts b (parts_of_all us b s) h
+  with_operand_formulas Or (truth false) ts b s h = h
+  with_operand_formulas And t ts b s h = one_more_formula t ts b s h
+  with_operand_formulas Or t ts b s h = one_more_formula t ts b s h
 
-  pub conjuncts_formulas : (ts : Trees) (b : List Kind) → are_formulas vars defs b ts ≡ true → are_formulas vars defs b (conjuncts ts) ≡ true
-  conjuncts_formulas no_trees b h = refl
-  conjuncts_formulas (tree t ts) b h = let f = first_formula t ts b h in with_conjunct_formulas t (conjuncts ts) b f.0 (conjuncts_formulas ts b f.1)
+  pub operands_formulas : (c : Connective) (ts : Trees) (b : List Kind) → are_formulas vars defs b ts ≡ true → are_formulas vars defs b (operands c ts) ≡ true
+  operands_formulas c no_trees b h = refl
+  operands_formulas c (tree t ts) b h = let f = first_formula t ts b h in with_operand_formulas c t (operands c ts) b f.0 (operands_formulas c ts b f.1)
 
-  pub all_of_sort : (ts : Trees) (b : List Kind) → are_formulas vars defs b ts ≡ true → sort_of vars defs b (all_of ts) ≡ Some boolean
-  all_of_sort no_trees b h = refl
-  all_of_sort (tree t no_trees) b h = (first_formula t no_trees b h).0
-  all_of_sort (tree t (tree u us)) b h = when_true (are_formulas vars defs b (tree t (tree u us))) (Some boolean) h
+  joined_sort : (c : Connective) (ts : Trees) (b : List Kind) → are_formulas vars defs b ts ≡ true → sort_of vars defs b (joined c ts) ≡ Some boolean
+  joined_sort And ts b h = when_true (are_formulas vars defs b ts) (Some boolean) h
+  joined_sort Or ts b h = when_true (are_formulas vars defs b ts) (Some boolean) h
 
-  pub conjunction_sort : (ts : Trees) (b : List Kind) → are_formulas vars defs b ts ≡ true → sort_of vars defs b (conjunction ts) ≡ Some boolean
-  conjunction_sort ts b h = cond_has (λ u. sort_of vars defs b u ≡ Some boolean) (has_truth false (conjuncts ts)) (truth false) (all_of (conjuncts ts)) (λ _. refl) (λ _. all_of_sort (conjuncts ts) b (conjuncts_formulas ts b h))
+  pub joined_or_alone_sort : (c : Connective) (ts : Trees) (b : List Kind) → are_formulas vars defs b ts ≡ true → sort_of vars defs b (joined_or_alone c ts) ≡ Some boolean
+  joined_or_alone_sort c no_trees b h = refl
+  joined_or_alone_sort c (tree t no_trees) b h = (first_formula t no_trees b h).0
+  joined_or_alone_sort c (tree t (tree u us)) b h = joined_sort c (tree t (tree u us)) b h
 
-  pub with_disjunct_formulas : (t : Tree) (ts : Trees) (b : List Kind) → sort_of vars defs b t ≡ Some boolean → are_formulas vars defs b ts ≡ true → are_formulas vars defs b (with_disjunct t ts) ≡ true
-  with_disjunct_formulas (some us) ts b s h = append_formulas us ts b (parts_of_all us b s) h
-  with_disjunct_formulas (truth false) ts b s h = h
-  with_disjunct_formulas t ts b s h = one_more_formula t ts b s h
-
-  pub disjuncts_formulas : (ts : Trees) (b : List Kind) → are_formulas vars defs b ts ≡ true → are_formulas vars defs b (disjuncts ts) ≡ true
-  disjuncts_formulas no_trees b h = refl
-  disjuncts_formulas (tree t ts) b h = let f = first_formula t ts b h in with_disjunct_formulas t (disjuncts ts) b f.0 (disjuncts_formulas ts b f.1)
-
-  pub some_of_sort : (ts : Trees) (b : List Kind) → are_formulas vars defs b ts ≡ true → sort_of vars defs b (some_of ts) ≡ Some boolean
-  some_of_sort no_trees b h = refl
-  some_of_sort (tree t no_trees) b h = (first_formula t no_trees b h).0
-  some_of_sort (tree t (tree u us)) b h = when_true (are_formulas vars defs b (tree t (tree u us))) (Some boolean) h
-
-  pub disjunction_sort : (ts : Trees) (b : List Kind) → are_formulas vars defs b ts ≡ true → sort_of vars defs b (disjunction ts) ≡ Some boolean
-  disjunction_sort ts b h = cond_has (λ u. sort_of vars defs b u ≡ Some boolean) (has_truth true (disjuncts ts)) (truth true) (some_of (disjuncts ts)) (λ _. refl) (λ _. some_of_sort (disjuncts ts) b (disjuncts_formulas ts b h))
+  pub junction_sort : (c : Connective) (ts : Trees) (b : List Kind) → are_formulas vars defs b ts ≡ true → sort_of vars defs b (junction c ts) ≡ Some boolean
+  junction_sort c ts b h = cond_has (λ u. sort_of vars defs b u ≡ Some boolean) (has_truth (not (neutral c)) (operands c ts)) (truth (not (neutral c))) (joined_or_alone c (operands c ts)) (λ _. refl) (λ _. joined_or_alone_sort c (operands c ts) b (operands_formulas c ts b h))
 
   pub negation_sort : (t : Tree) (b : List Kind) → sort_of vars defs b t ≡ Some boolean → sort_of vars defs b (negation t) ≡ Some boolean
   negation_sort t b s = when_true (is boolean (sort_of vars defs b t)) (Some boolean) (sort_is boolean (sort_of vars defs b t) s)
@@ -93,8 +85,8 @@ module _ (vars : List Kind) (defs : List Def) where
     pub negated_sort : (t u : Tree) (b : List Kind) → sort_of vars defs b t ≡ Some boolean → negated t ≡ Some u → sort_of vars defs b u ≡ Some boolean
     negated_sort (truth x) u b s e = some_has (λ x. sort_of vars defs b x ≡ Some boolean) (truth (not x)) u e refl
     negated_sort (negation t) u b s e = some_has (λ x. sort_of vars defs b x ≡ Some boolean) t u e (part_of_negation t b boolean s)
-    negated_sort (all ts) u b s e = let p = map_some disjunction (negated_each ts) u e in subst (λ x. sort_of vars defs b x ≡ Some boolean) p.2 (disjunction_sort p.0 b (negated_formulas ts p.0 b (parts_of_all ts b s) p.1))
-    negated_sort (some ts) u b s e = let p = map_some conjunction (negated_each ts) u e in subst (λ x. sort_of vars defs b x ≡ Some boolean) p.2 (conjunction_sort p.0 b (negated_formulas ts p.0 b (parts_of_all ts b s) p.1))
+    negated_sort (all ts) u b s e = let p = map_some disjunction (negated_each ts) u e in subst (λ x. sort_of vars defs b x ≡ Some boolean) p.2 (junction_sort Or p.0 b (negated_formulas ts p.0 b (parts_of_all ts b s) p.1))
+    negated_sort (some ts) u b s e = let p = map_some conjunction (negated_each ts) u e in subst (λ x. sort_of vars defs b x ≡ Some boolean) p.2 (junction_sort And p.0 b (negated_formulas ts p.0 b (parts_of_all ts b s) p.1))
     negated_sort (at_most z d) u b s e = not_at_most_sort z d u b s e
     negated_sort (for_all ss ps t) u b s e = let f = parts_of_quantifier ss ps t b boolean s in let p = map_some (λ v. exists ss ps v) (negated t) u e in
         subst (λ x. sort_of vars defs b x ≡ Some boolean) p.2 (quantifier_sort ss ps p.0 b f.0 (negated_sort t p.0 (reverse ss ++ b) f.1 p.1))

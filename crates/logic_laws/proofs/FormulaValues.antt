@@ -11,7 +11,8 @@ use Rattle.logic_core.specs.Wide.{◌>>=◌}
 use Rattle.logic_core.specs.Same.{same_term}
 use Rattle.logic_core.specs.Sorts.{sort_of, are_formulas}
 use Rattle.logic_core.specs.Sum.{affine, difference, in_order}
-use Rattle.logic_core.specs.Junction.{append, is_truth, has_truth, with_conjunct, conjuncts, all_of, conjunction, with_disjunct, disjuncts, some_of, disjunction, is_zero, negated, negated_each}
+use Rattle.logic_core.specs.declared.junction.Connective.TheVariants.{And, Or}
+use Rattle.logic_core.specs.Junction.{append, is_truth, has_truth, with_operand, operands, joined_or_alone, conjunction, disjunction, is_zero, negated, negated_each}
 use Rattle.logic_core.specs.Normal.{choice, has_negative_lead, equals_zero, zero_at_most, equivalence_with, equivalence, equation_of, equation, inequality, quantified}
 use Rattle.logic_core.proofs.Values.{HasOne}
 use Rattle.logic_core.proofs.Kept.{Keeps, keeps, true_stable}
@@ -20,7 +21,7 @@ use Rattle.logic_laws.proofs.Integers as Z
 use Rattle.logic_laws.proofs.Booleans as B
 use Rattle.logic_laws.proofs.Options.{some_has, bind_some, map_some, cond_has, cond_some}
 use Rattle.logic_laws.proofs.SumSorts.{in_order_has, difference_sort}
-use Rattle.logic_laws.proofs.FormulaSorts.{first_formula, parts_of_all, conjuncts_formulas, disjuncts_formulas, negated_formulas, part_of_negation, parts_of_at_most, parts_of_quantifier}
+use Rattle.logic_laws.proofs.FormulaSorts.{first_formula, parts_of_all, operands_formulas, negated_formulas, part_of_negation, parts_of_at_most, parts_of_quantifier}
 use Rattle.logic_laws.proofs.SameValue.{equal_same, same_swap}
 use Rattle.logic_laws.proofs.Tables.{of_int, of_boolean, are_of_bound, some_values, some_values_sort}
 use Rattle.logic_laws.proofs.Gives.{Decided, AllHold, NoneHolds, Gives, GivesEvery, GivesAny, said, gives, gives_one}
@@ -56,14 +57,14 @@ module _ (vars : List Kind) (defs : List Def) (frees : List Value) (calls : Call
   append_every no_trees us b h g e k = subst (GivesEvery frees calls us b) (sym (ap (λ x. x && g) e)) k
   append_every (tree t ts) us b h g e k = (e.0, e.1 && g, e.2, append_every ts us b e.1 g e.3 k, ap (λ x. x && g) e.4 ∙ B.and_assoc (holds e.0) e.1 g)
 
-  with_conjunct_gives : (t : Tree) (ts : Trees) (b : List Value) (v : Value) (g : Bool) → Gives frees calls t b v → GivesEvery frees calls ts b g → GivesEvery frees calls (with_conjunct t ts) b (holds v && g)
+  with_conjunct_gives : (t : Tree) (ts : Trees) (b : List Value) (v : Value) (g : Bool) → Gives frees calls t b v → GivesEvery frees calls ts b g → GivesEvery frees calls (with_operand And t ts) b (holds v && g)
   with_conjunct_gives (all us) ts b v g e k = subst (λ x. GivesEvery frees calls (append us ts) b (holds x && g)) (sym e.2) (append_every us ts b e.0 g e.1 k)
   with_conjunct_gives (truth true) ts b v g e k = subst (λ x. GivesEvery frees calls ts b (holds x && g)) (sym e) k
   with_conjunct_gives t ts b v g e k = (v, g, e, k, refl)
 
-  pub conjuncts_gives : (ts : Trees) (b : List Value) (h : Bool) → GivesEvery frees calls ts b h → GivesEvery frees calls (conjuncts ts) b h
+  pub conjuncts_gives : (ts : Trees) (b : List Value) (h : Bool) → GivesEvery frees calls ts b h → GivesEvery frees calls (operands And ts) b h
   conjuncts_gives no_trees b h e = e
-  conjuncts_gives (tree t ts) b h e = subst (GivesEvery frees calls (with_conjunct t (conjuncts ts)) b) (sym e.4) (with_conjunct_gives t (conjuncts ts) b e.0 e.1 e.2 (conjuncts_gives ts b e.1 e.3))
+  conjuncts_gives (tree t ts) b h e = subst (GivesEvery frees calls (with_operand And t (operands And ts)) b) (sym e.4) (with_conjunct_gives t (operands And ts) b e.0 e.1 e.2 (conjuncts_gives ts b e.1 e.3))
 
   false_found : (ts : Trees) (b : List Value) (h : Bool) → has_truth false ts ≡ true → GivesEvery frees calls ts b h → h ≡ false
   false_found no_trees b h e g = absurd (cc)
@@ -72,27 +73,27 @@ module _ (vars : List Kind) (defs : List Def) (frees : List Value) (calls : Call
     | inr p ↦ g.4 ∙ ap (λ x. holds g.0 && x) (false_found ts b g.1 p g.3) ∙ B.and_false (holds g.0)
   ]
 
-  all_of_gives : (ts : Trees) (bs : List Kind) (b : List Value) (h : Bool) → are_formulas vars defs bs ts ≡ true → are_of bs b ≡ true → GivesEvery frees calls ts b h → Gives frees calls (all_of ts) b (flag h)
+  all_of_gives : (ts : Trees) (bs : List Kind) (b : List Value) (h : Bool) → are_formulas vars defs bs ts ≡ true → are_of bs b ≡ true → GivesEvery frees calls ts b h → Gives frees calls (joined_or_alone And ts) b (flag h)
   all_of_gives no_trees bs b h s f g = ap flag g
   all_of_gives (tree t no_trees) bs b h s f g = subst (Gives frees calls t b) (sym (is_flag t bs b g.0 (first_formula vars defs t no_trees bs s).0 f g.2) ∙ ap flag (sym (B.and_true (holds g.0))) ∙ ap (λ x. flag (holds g.0 && x)) (sym g.3) ∙ ap flag (sym g.4)) g.2
   all_of_gives (tree t (tree u us)) bs b h s f g = (h, g, refl)
 
   pub conjunction_gives : (ts : Trees) (bs : List Kind) (b : List Value) (h : Bool) → are_formulas vars defs bs ts ≡ true → are_of bs b ≡ true → GivesEvery frees calls ts b h → Gives frees calls (conjunction ts) b (flag h)
-  conjunction_gives ts bs b h s f g = cond_has (λ u. Gives frees calls u b (flag h)) (has_truth false (conjuncts ts)) (truth false) (all_of (conjuncts ts))
-      (λ e. ap flag (false_found (conjuncts ts) b h e (conjuncts_gives ts b h g))) (λ _. all_of_gives (conjuncts ts) bs b h (conjuncts_formulas vars defs ts bs s) f (conjuncts_gives ts b h g))
+  conjunction_gives ts bs b h s f g = cond_has (λ u. Gives frees calls u b (flag h)) (has_truth false (operands And ts)) (truth false) (joined_or_alone And (operands And ts))
+      (λ e. ap flag (false_found (operands And ts) b h e (conjuncts_gives ts b h g))) (λ _. all_of_gives (operands And ts) bs b h (operands_formulas vars defs And ts bs s) f (conjuncts_gives ts b h g))
 
   append_any : (ts us : Trees) (b : List Value) (h g : Bool) → GivesAny frees calls ts b h → GivesAny frees calls us b g → GivesAny frees calls (append ts us) b (h || g)
   append_any no_trees us b h g e k = subst (GivesAny frees calls us b) (sym (ap (λ x. x || g) e)) k
   append_any (tree t ts) us b h g e k = (e.0, e.1 || g, e.2, append_any ts us b e.1 g e.3 k, ap (λ x. x || g) e.4 ∙ B.or_assoc (holds e.0) e.1 g)
 
-  with_disjunct_gives : (t : Tree) (ts : Trees) (b : List Value) (v : Value) (g : Bool) → Gives frees calls t b v → GivesAny frees calls ts b g → GivesAny frees calls (with_disjunct t ts) b (holds v || g)
+  with_disjunct_gives : (t : Tree) (ts : Trees) (b : List Value) (v : Value) (g : Bool) → Gives frees calls t b v → GivesAny frees calls ts b g → GivesAny frees calls (with_operand Or t ts) b (holds v || g)
   with_disjunct_gives (some us) ts b v g e k = subst (λ x. GivesAny frees calls (append us ts) b (holds x || g)) (sym e.2) (append_any us ts b e.0 g e.1 k)
   with_disjunct_gives (truth false) ts b v g e k = subst (λ x. GivesAny frees calls ts b (holds x || g)) (sym e) k
   with_disjunct_gives t ts b v g e k = (v, g, e, k, refl)
 
-  pub disjuncts_gives : (ts : Trees) (b : List Value) (h : Bool) → GivesAny frees calls ts b h → GivesAny frees calls (disjuncts ts) b h
+  pub disjuncts_gives : (ts : Trees) (b : List Value) (h : Bool) → GivesAny frees calls ts b h → GivesAny frees calls (operands Or ts) b h
   disjuncts_gives no_trees b h e = e
-  disjuncts_gives (tree t ts) b h e = subst (GivesAny frees calls (with_disjunct t (disjuncts ts)) b) (sym e.4) (with_disjunct_gives t (disjuncts ts) b e.0 e.1 e.2 (disjuncts_gives ts b e.1 e.3))
+  disjuncts_gives (tree t ts) b h e = subst (GivesAny frees calls (with_operand Or t (operands Or ts)) b) (sym e.4) (with_disjunct_gives t (operands Or ts) b e.0 e.1 e.2 (disjuncts_gives ts b e.1 e.3))
 
   true_found : (ts : Trees) (b : List Value) (h : Bool) → has_truth true ts ≡ true → GivesAny frees calls ts b h → h ≡ true
   true_found no_trees b h e g = absurd (cc)
@@ -101,14 +102,14 @@ module _ (vars : List Kind) (defs : List Def) (frees : List Value) (calls : Call
     | inr p ↦ g.4 ∙ ap (λ x. holds g.0 || x) (true_found ts b g.1 p g.3) ∙ B.or_true (holds g.0)
   ]
 
-  some_of_gives : (ts : Trees) (bs : List Kind) (b : List Value) (h : Bool) → are_formulas vars defs bs ts ≡ true → are_of bs b ≡ true → GivesAny frees calls ts b h → Gives frees calls (some_of ts) b (flag h)
+  some_of_gives : (ts : Trees) (bs : List Kind) (b : List Value) (h : Bool) → are_formulas vars defs bs ts ≡ true → are_of bs b ≡ true → GivesAny frees calls ts b h → Gives frees calls (joined_or_alone Or ts) b (flag h)
   some_of_gives no_trees bs b h s f g = ap flag g
   some_of_gives (tree t no_trees) bs b h s f g = subst (Gives frees calls t b) (sym (is_flag t bs b g.0 (first_formula vars defs t no_trees bs s).0 f g.2) ∙ ap flag (sym (B.or_false (holds g.0))) ∙ ap (λ x. flag (holds g.0 || x)) (sym g.3) ∙ ap flag (sym g.4)) g.2
   some_of_gives (tree t (tree u us)) bs b h s f g = (h, g, refl)
 
   pub disjunction_gives : (ts : Trees) (bs : List Kind) (b : List Value) (h : Bool) → are_formulas vars defs bs ts ≡ true → are_of bs b ≡ true → GivesAny frees calls ts b h → Gives frees calls (disjunction ts) b (flag h)
-  disjunction_gives ts bs b h s f g = cond_has (λ u. Gives frees calls u b (flag h)) (has_truth true (disjuncts ts)) (truth true) (some_of (disjuncts ts))
-      (λ e. ap flag (true_found (disjuncts ts) b h e (disjuncts_gives ts b h g))) (λ _. some_of_gives (disjuncts ts) bs b h (disjuncts_formulas vars defs ts bs s) f (disjuncts_gives ts b h g))
+  disjunction_gives ts bs b h s f g = cond_has (λ u. Gives frees calls u b (flag h)) (has_truth true (operands Or ts)) (truth true) (joined_or_alone Or (operands Or ts))
+      (λ e. ap flag (true_found (operands Or ts) b h e (disjuncts_gives ts b h g))) (λ _. some_of_gives (operands Or ts) bs b h (operands_formulas vars defs Or ts bs s) f (disjuncts_gives ts b h g))
 
   -- a formula holds where its value is true
   pub holds_from : (t : Tree) (b : List Value) (v : Value) → Gives frees calls t b v → holds v ≡ true → Holds frees calls t b

@@ -7,12 +7,13 @@ use Rattle.logic_core.specs.Wide.{◌>>=◌, when}
 use Rattle.logic_core.specs.Same.{is_some_and}
 use Rattle.logic_core.specs.Sorts.{is, range, sort_of, are, are_formulas, are_ints, have_sorts, have_sorts_in}
 use Rattle.logic_core.specs.Sum.{Linear, constant, term_of, add_term, product}
+use Rattle.logic_core.specs.declared.junction.Connective.TheVariants.{And, Or}
 use Rattle.logic_core.specs.Junction.{conjunction, disjunction, negated}
 use Rattle.logic_core.specs.Normal.{choice, equation, inequality, quantified, normal, normal_each, normal_sum, normal_patterns}
 use Rattle.logic_laws.proofs.Options.{both_true, all_true, some_has, bind_some, map_some, when_some, when_true}
 use Rattle.logic_laws.proofs.SortTests.{is_sort, sort_is}
 use Rattle.logic_laws.proofs.SumSorts.{first_int, sum_sort, term_ints, product_sort}
-use Rattle.logic_laws.proofs.FormulaSorts.{first_formula, one_more_formula, conjunction_sort, disjunction_sort, part_of_negation, negated_sort, parts_of_at_most, inequality_sort, parts_of_equal, equation_sort, choice_sort, parts_of_quantifier, quantifier_sort, quantified_sort}
+use Rattle.logic_laws.proofs.FormulaSorts.{first_formula, one_more_formula, junction_sort, part_of_negation, negated_sort, parts_of_at_most, inequality_sort, parts_of_equal, equation_sort, choice_sort, parts_of_quantifier, quantifier_sort, quantified_sort}
 
 module _ (vars : List Kind) (defs : List Def) where
   pub parts_of_mul : (x y : Tree) (b : List Kind) (k : Kind) → sort_of vars defs b (mul x y) ≡ Some k → (sort_of vars defs b x ≡ Some int) × (sort_of vars defs b y ≡ Some int) × (int ≡ k)
@@ -126,11 +127,11 @@ module _ (vars : List Kind) (defs : List Def) where
     normal_sort (all ts) u b k e s =
         let p = map_some conjunction (normal_each vars defs b ts) u e in
         let w = when_some (are_formulas vars defs b ts) boolean k s in
-        subst (λ x. sort_of vars defs b x ≡ Some k) p.2 (subst (λ j. sort_of vars defs b (conjunction p.0) ≡ Some j) w.1 (conjunction_sort vars defs p.0 b (normal_formulas ts p.0 b p.1 w.0)))
+        subst (λ x. sort_of vars defs b x ≡ Some k) p.2 (subst (λ j. sort_of vars defs b (conjunction p.0) ≡ Some j) w.1 (junction_sort vars defs And p.0 b (normal_formulas ts p.0 b p.1 w.0)))
     normal_sort (some ts) u b k e s =
         let p = map_some disjunction (normal_each vars defs b ts) u e in
         let w = when_some (are_formulas vars defs b ts) boolean k s in
-        subst (λ x. sort_of vars defs b x ≡ Some k) p.2 (subst (λ j. sort_of vars defs b (disjunction p.0) ≡ Some j) w.1 (disjunction_sort vars defs p.0 b (normal_formulas ts p.0 b p.1 w.0)))
+        subst (λ x. sort_of vars defs b x ≡ Some k) p.2 (subst (λ j. sort_of vars defs b (disjunction p.0) ≡ Some j) w.1 (junction_sort vars defs Or p.0 b (normal_formulas ts p.0 b p.1 w.0)))
     normal_sort (equal x y) u b k e s =
         let p = bind_some (normal vars defs b x) (λ u. normal vars defs b y >>= λ v. equation (sort_of vars defs b x) u v) u e in
         let q = bind_some (normal vars defs b y) (λ v. equation (sort_of vars defs b x) p.0 v) u p.2 in
