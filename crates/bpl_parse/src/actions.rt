@@ -1,5 +1,5 @@
 // Statements without statements in them, and the parts of all statements.
-ghost use Rattle.std.specs.Prelude.{◌≡◌, ◌&&◌, ◌||◌, suc, drop, codes};
+ghost use Rattle.std.specs.Prelude.{◌≡◌, ◌&&◌, ◌||◌, suc, drop, codes, IsErrOf};
 ghost use Rattle.bpl_lex.specs.Token.{id};
 ghost use Rattle.bpl_grammar.specs.Terminal.{kind, fixed, sees};
 ghost use Rattle.bpl_ast.specs.StmtView.{action_of};
@@ -81,7 +81,8 @@ impl<'a> Cursor<'a> {
     /// "return" ";"
     #[tactic(auto, unfolding(bpl_grammar::specs::ReadStatements::read_return))]
     pub(crate) fn return_(&mut self) -> Result<StmtForm, Stop>
-        ensures { GivesAs action_of (read_return self.old) result self.new }
+        ensures gives { GivesAs action_of (read_return self.old) result self.new }
+        ensures memory { ¬ IsErrOf result Stop.Memory }
     {
         self.expect(b"return")?;
         self.expect(b";")?;

@@ -1,5 +1,5 @@
 // Atoms, from indices down to numbers and names.
-ghost use Rattle.std.specs.Prelude.{◌≡◌, ◌^◌, cond, nat_lt, IfOk};
+ghost use Rattle.std.specs.Prelude.{◌≡◌, ◌^◌, cond, nat_lt, IfOk, IsErrOf};
 ghost use Rattle.bpl_grammar.specs.Nesting.{value};
 ghost use Rattle.bpl_grammar.specs.Reading.{listed};
 ghost use Rattle.bpl_grammar.specs.ReadExpressions.{whole, indexed_by, read_number, args_with, named_with, old_with, choose_with, enclosed_with, atom_with, index_with, indices_with, post_with, read_inner};
@@ -45,7 +45,8 @@ impl<'a> Cursor<'a> {
     /// A number below 2^127.
     #[tactic(auto, unfolding(bpl_grammar::specs::ReadExpressions::read_number))]
     fn number(&mut self) -> Result<Numeral, Stop>
-        ensures { Gives (read_number self.old) result self.new }
+        ensures gives { Gives (read_number self.old) result self.new }
+        ensures memory { ¬ IsErrOf result Stop.Memory }
     {
         if !self.sees_number() {
             return Err(Stop::Syntax);

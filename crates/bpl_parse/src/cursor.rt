@@ -1,5 +1,5 @@
 // The tokens of a text that are left to be read, taken from the front.
-ghost use Rattle.std.specs.Prelude.{◌≡◌, ◌<◌, ◌-◌, ◌^◌, length, drop, true, false, MatchOption};
+ghost use Rattle.std.specs.Prelude.{◌≡◌, ◌<◌, ◌-◌, ◌^◌, length, drop, true, false, MatchOption, IsErrOf};
 ghost use Rattle.bpl_lex.specs.Token.{id, number, text};
 ghost use Rattle.bpl_grammar.specs.Lexeme.{lexemes};
 ghost use Rattle.bpl_grammar.specs.Terminal.{kind, fixed, sees};
@@ -193,7 +193,8 @@ impl<'a> Cursor<'a> {
 
     /// Passes over the next token, which has to be this word or sign.
     pub(crate) fn expect(&mut self, wanted: &[u8]) -> Result<(), Stop>
-        ensures { Gives (read_fixed wanted.now self.old) result self.new }
+        ensures gives { Gives (read_fixed wanted.now self.old) result self.new }
+        ensures memory { ¬ IsErrOf result Stop.Memory }
     {
         if self.sees(wanted) {
             self.skip();

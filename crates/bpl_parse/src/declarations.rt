@@ -1,5 +1,5 @@
 // Declarations.
-ghost use Rattle.std.specs.Prelude.{◌≡◌};
+ghost use Rattle.std.specs.Prelude.{◌≡◌, IsErrOf};
 ghost use Rattle.bpl_ast.specs.DeclView.{body_of};
 ghost use Rattle.bpl_grammar.specs.ReadDeclarations.{read_unique, synonym_with, contract_with, const_with, function_with, type_decl_with, procedure_with, implementation_with, read_decl};
 ghost use Rattle.bpl_parse.specs.Answer.{Gives, GivesAs};
@@ -45,7 +45,8 @@ impl<'a> Cursor<'a> {
     /// ["unique"]: its place
     #[tactic(auto, unfolding(bpl_grammar::specs::ReadDeclarations::read_unique))]
     fn unique(&mut self) -> Result<Option<Place>, Stop>
-        ensures { Gives (read_unique self.old) result self.new }
+        ensures gives { Gives (read_unique self.old) result self.new }
+        ensures memory { ¬ IsErrOf result Stop.Memory }
     {
         if !self.sees(b"unique") {
             return Ok(None);

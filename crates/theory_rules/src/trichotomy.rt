@@ -1,5 +1,5 @@
 // The rule trichotomy.
-ghost use Rattle.std.specs.Prelude.{◌≡◌, [], ◌∷◌, IfOk};
+ghost use Rattle.std.specs.Prelude.{◌≡◌, [], ◌∷◌, IfOk, IsErrOf};
 ghost use Rattle.std.specs.List.{list_any};
 ghost use Rattle.std.specs.Option.{option_copied};
 ghost use Rattle.logic_core.specs.Gives.{GivesAs};
@@ -158,7 +158,8 @@ fn all_ways(
     zero: Option<Term>,
     above: Option<Term>,
 ) -> Result<Ways, NormalFault>
-    ensures { GivesAs ways_of result (each (λ o. o) (below ∷ zero ∷ above ∷ [])) }
+    ensures gives { GivesAs ways_of result (each (λ o. o) (below ∷ zero ∷ above ∷ [])) }
+    ensures memory { ¬ IsErrOf result NormalFault.Memory }
 {
     let Some(below) = below else {
         return Err(NormalFault::Wide);

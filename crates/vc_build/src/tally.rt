@@ -1,5 +1,5 @@
 // Goals, within the limits on their number and on the bytes of their texts.
-ghost use Rattle.std.specs.Prelude.{◌≡◌, ◌+◌, ◌^◌, ◌<◌, ◌≤◌, [], ◌∷◌, ◌++◌, None, IfErr, IfOk, OnErr, OnOk, length};
+ghost use Rattle.std.specs.Prelude.{◌≡◌, ◌+◌, ◌^◌, ◌<◌, ◌≤◌, [], ◌∷◌, ◌++◌, None, IfErr, IfOk, IsErrOf, OnErr, OnOk, length};
 ghost use Rattle.vc_build.specs.Large.{count_limit, byte_limit, large_after, large};
 ghost use Rattle.vc_build.specs.Exceeds.{IsFaultBy, IsFaultOf};
 
@@ -23,6 +23,7 @@ fn bytes_within(count: u64, bytes: u64, size: u64) -> Result<u64, BuildFault>
     ensures within { IfOk result (λ b. large_after count bytes (size ∷ []) ≡ None) }
     ensures room { IfOk result (λ b. (count < count_limit) × (b ≤ byte_limit)) }
     ensures fault { IfErr result (IsFaultBy (large_after count bytes (size ∷ []))) }
+    ensures memory { ¬ IsErrOf result BuildFault.Memory }
 {
     if count >= COUNT_LIMIT {
         return Err(BuildFault::Large {

@@ -22,11 +22,11 @@ pub if_branch-returns-in_err-body : goal.if_branch-returns-in_err-body
 unfolding branch_with
 if_branch-returns-in_err-body t c = refused_as {C = Vec Stmt Global} (λ v. v.items) branch_seen (block_with c.args.room (read_stmts c.args.room) c.guarded.new.self) (branch_with c.args.room (read_stmts c.args.room) c.args.self.now) c.from_residual-in_err-body.result c.in_err-body.field-0.0 c.block.new.self c.block.new.self
     c.from_residual-in_err-body.ensures.1 c.in_err-body.ensures refl
-    (λ x h. (goes _ _ tt c.expect.new.self _ c.in_ok-expect.ensures (goes _ _ c.in_ok-guard.guard c.guarded.new.self _ c.in_ok-guard.ensures (stops_as _ _ x h))))
+    (λ x h. (goes _ _ tt c.expect.new.self _ c.in_ok-expect.ensures.gives (goes _ _ c.in_ok-guard.guard c.guarded.new.self _ c.in_ok-guard.ensures (stops_as _ _ x h))))
 
 pub if_branch-returns : goal.if_branch-returns
 unfolding branch_with
-if_branch-returns t c = (goes _ _ tt c.expect.new.self _ c.in_ok-expect.ensures (goes _ _ c.in_ok-guard.guard c.guarded.new.self _ c.in_ok-guard.ensures (goes_as _ _ c.in_ok-body.body.items c.block.new.self c.in_ok-body.ensures)))
+if_branch-returns t c = (goes _ _ tt c.expect.new.self _ c.in_ok-expect.ensures.gives (goes _ _ c.in_ok-guard.guard c.guarded.new.self _ c.in_ok-guard.ensures (goes_as _ _ c.in_ok-body.body.items c.block.new.self c.in_ok-body.ensures)))
     ∙ ap (λ p. Ok ((p, (c.in_ok-guard.guard, c.in_ok-body.body.items)), c.block.new.self)) (sym c.place-at.ensures)
 
 pub branches-returns-in_err-further : goal.branches-returns-in_err-further
@@ -80,8 +80,8 @@ pub while_-returns-in_err-body : goal.while_-returns-in_err-body
 unfolding while_with
 while_-returns-in_err-body t c = refused_as {C = Vec Stmt Global} (λ v. v.items) action_of (block_with c.args.room (read_stmts c.args.room) c.invariants.new.self) (while_with c.args.room (read_stmts c.args.room) c.args.self.now) c.from_residual-in_err-body.result c.in_err-body.field-0.0 c.block.new.self c.block.new.self
     c.from_residual-in_err-body.ensures.1 c.in_err-body.ensures refl
-    (λ x h. (goes _ _ tt c.expect.new.self _ c.in_ok-expect.ensures (goes _ _ c.in_ok-guard.guard c.guarded.new.self _ c.in_ok-guard.ensures (goes _ _ c.in_ok-invariants.invariants.items c.invariants.new.self _ c.in_ok-invariants.ensures (stops_as _ _ x h)))))
+    (λ x h. (goes _ _ tt c.expect.new.self _ c.in_ok-expect.ensures.gives (goes _ _ c.in_ok-guard.guard c.guarded.new.self _ c.in_ok-guard.ensures (goes _ _ c.in_ok-invariants.invariants.items c.invariants.new.self _ c.in_ok-invariants.ensures (stops_as _ _ x h)))))
 
 pub while_-returns : goal.while_-returns
 unfolding while_with
-while_-returns t c = (goes _ _ tt c.expect.new.self _ c.in_ok-expect.ensures (goes _ _ c.in_ok-guard.guard c.guarded.new.self _ c.in_ok-guard.ensures (goes _ _ c.in_ok-invariants.invariants.items c.invariants.new.self _ c.in_ok-invariants.ensures (goes_as _ _ c.in_ok-body.body.items c.block.new.self c.in_ok-body.ensures))))
+while_-returns t c = (goes _ _ tt c.expect.new.self _ c.in_ok-expect.ensures.gives (goes _ _ c.in_ok-guard.guard c.guarded.new.self _ c.in_ok-guard.ensures (goes _ _ c.in_ok-invariants.invariants.items c.invariants.new.self _ c.in_ok-invariants.ensures (goes_as _ _ c.in_ok-body.body.items c.block.new.self c.in_ok-body.ensures))))
