@@ -11,8 +11,8 @@ use crate::request::{BadRequest, Request};
 use serde_json::Value;
 use std::alloc::Global;
 
-// The longest line that is read.
-const LONGEST: usize = 1_048_576;
+/// The longest line that is read.
+pub const LONGEST: usize = 1_048_576;
 
 // The whole program that these fields have.
 fn open(alloc: Global, fields: &Value) -> Result<Request, BadRequest>

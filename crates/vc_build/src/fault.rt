@@ -1,6 +1,12 @@
 // Why goals aren't built.
 use std::alloc::{AllocError, AllocFailed};
 
+/// The most goals of a program.
+pub const COUNT_LIMIT: u64 = 65_536;
+
+/// The most bytes of the texts of a program's obligations.
+pub const BYTE_LIMIT: u64 = 67_108_864;
+
 /// What of a program's goals has a limit.
 #[derive(Clone, Copy, PartialEq, Eq, Debug)]
 pub enum Measure {

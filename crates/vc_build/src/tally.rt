@@ -3,16 +3,12 @@ ghost use Rattle.std.specs.Prelude.{◌≡◌, ◌+◌, ◌^◌, ◌<◌, ◌≤
 ghost use Rattle.vc_build.specs.Large.{count_limit, byte_limit, large_after, large};
 ghost use Rattle.vc_build.specs.Exceeds.{IsFaultBy, IsFaultOf};
 
-use crate::fault::{BuildFault, Measure};
+use crate::fault::{BYTE_LIMIT, BuildFault, COUNT_LIMIT, Measure};
 use crate::goal::Goal;
 use logic_core::Sequence;
 use obligation_text::printing::text;
 use std::alloc::Global;
 use std::marker::Model;
-
-const COUNT_LIMIT: u64 = 65_536;
-
-const BYTE_LIMIT: u64 = 67_108_864;
 
 // The bytes with those of one goal more, where neither limit is exceeded at it.
 fn bytes_within(count: u64, bytes: u64, size: u64) -> Result<u64, BuildFault>

@@ -9,10 +9,7 @@ use crate::kept::BuiltProc;
 use crate::shared::SharedGoal;
 use std::alloc::{AllocError, Global};
 use std::marker::Model;
-
-const COUNT_LIMIT: u64 = 65_536;
-
-const BYTE_LIMIT: u64 = 67_108_864;
+use vc_build::fault::{BYTE_LIMIT, COUNT_LIMIT};
 
 // The bytes of the texts of the goals' obligations, or 2^64 - 1 where these are more.
 #[tactic(auto, using(crate::proofs::WithinLimits::size_first))]
