@@ -1,6 +1,7 @@
 -- An Or of negations and a last formula fails where the negated formulas hold and the last fails; an And fails where one of its formulas fails.
 use Rattle.std.specs.Prelude.{◌≡◌, refl, ◌⊎◌, ℕ, Bool, true, false, ◌&&◌, ◌||◌, not, IsTrue, List, [], ◌∷◌, ◌++◌, map}
 use Rattle.std.specs.List.{AllByRecursion}
+use Rattle.logic_core.proofs.Booleans.{both_true}
 use mathlib.Core.Path.{subst}
 use mathlib.Core.Logic.{inl, inr}
 use Rattle.logic_core.specs.Tree.{Tree, Trees, tree}
@@ -22,10 +23,6 @@ no_or false h = h
 not_or : (a b : Bool) → (not a || b) ≡ true → a ≡ true → b ≡ true
 not_or true b h e = h
 not_or false b h e = let c : false ≡ true = e in absurd cc
-
-both_true : (a b : Bool) → (a && b) ≡ true → (a ≡ true) × (b ≡ true)
-both_true true b h = (refl, h)
-both_true false b h = let c : false ≡ true = h in absurd cc
 
 module _ (frees : List Value) (calls : ℕ → List Value → Said → Type 0) (has_call : (f : ℕ) (vs : List Value) → HasOne (calls f vs)) where
   abbrev HoldsHere : Tree → Type 0

@@ -3,6 +3,7 @@ use Rattle.std.specs.Prelude.{◌≡◌, refl, ◌⊎◌, ℕ, zero, suc, ◌+�
 use Rattle.std.specs.List.{list_any, position_or_len}
 use Rattle.std.proofs.Common.{arith, ap, ◌∙◌}
 use Rattle.std.proofs.lemmas.Bool.{eq-eqb, ne_eqb, eqb-true, eqb-false, or_left, or_right, or_cases, lt-ltb, le-ltb, cases_lt, cases_order}
+use Rattle.logic_core.proofs.Booleans.{same_test as same_truth}
 use mathlib.Core.Path.{subst, sym}
 use mathlib.Core.Logic.{inl, inr}
 use Rattle.passive_form.specs.declared.passive.Passive.{Passive}
@@ -206,12 +207,6 @@ has_number r h c = ap is_some (h.numbers c) ∙ (elim (cases_lt (place c r.block
 -- those that have a number are those that are among the blocks
 pub have_numbers : (r : Reached) → IsNumbered r → (λ c. is_some (number_in r c)) ≡ among r.blocks
 have_numbers r h = λ j c. has_number r h c j
-
--- some number of the one list is in the other, either way round
-same_truth : (a b : Bool) → (a ≡ true → b ≡ true) → (b ≡ true → a ≡ true) → a ≡ b
-same_truth true b f g = sym (f refl)
-same_truth false true f g = g refl
-same_truth false false f g = refl
 
 some_passing : (p : ℕ → Bool) (xs : List ℕ) → list_any p xs ≡ true → (x : ℕ) × In x xs × (p x ≡ true)
 some_passing p [] h = let c : false ≡ true = h in absurd cc

@@ -2,6 +2,7 @@
 use Rattle.std.proofs.Common.{◌≡◌, refl, sym, ap, ◌∙◌, ℕ, zero, suc, Bool, true, false, true≢false, ◌||◌, List, [], ◌∷◌, length, slice_get, Some, None, bytes_eq}
 use Rattle.std.specs.List.{list_any}
 use Rattle.std.proofs.lemmas.Slice.Eq.{bytes_eq-Decides}
+use Rattle.logic_core.proofs.Booleans.{or_second as or_right}
 use Rattle.bpl_scopes.specs.Positions.{or_other}
 use Rattle.bpl_scopes.specs.Scopes.{Text, Table, entity_of}
 use Rattle.bpl_scopes.specs.KnownSorts.{names_in}
@@ -25,10 +26,6 @@ no_way t (suc k) n m h = ap (λ e. list_any (λ c. elim (bytes_eq c m) [ true �
 pub absent_leads : (t : Table) (n : Text) → first_position t n ≡ None → leads_to_itself t n ≡ false
 unfolding leads_to_itself
 absent_leads t n h = no_way t (length t) n n (entity_first t n ∙ ap (entity_at t) h)
-
-or_right : (a b : Bool) → b ≡ true → (a || b) ≡ true
-or_right true b h = refl
-or_right false b h = h
 
 list_any-of : (p q : Text → Bool) (ns : List Text) → ((n : Text) → p n ≡ true → q n ≡ true) → list_any p ns ≡ true → list_any q ns ≡ true
 list_any-of p q [] each h = h

@@ -4,6 +4,7 @@ use Rattle.std.specs.Prelude.{bytes_eq, cond, option_map, flat_map, slice_get}
 use Rattle.std.specs.List.{list_any}
 use Rattle.std.proofs.lemmas.List.{length-replicate}
 use Rattle.std.proofs.lemmas.Option.{slice_get_within, slice_get_past}
+use Rattle.logic_core.proofs.Booleans.{one_is_true as either_of}
 use Rattle.bpl_ast.specs.Statement.{Decl}
 use Rattle.bpl_model.specs.Module.{Function}
 use Rattle.bpl_scopes.specs.Positions.{first_at}
@@ -11,7 +12,7 @@ use Rattle.bpl_scopes.specs.Scopes.{Text, Entity, a_constant, a_global, a_functi
 use Rattle.bpl_scopes.specs.Functions.{is_function, function_in, in_number_order}
 use Rattle.bpl_declaration_faults.specs.DeclFaults.{fault_of}
 use Rattle.module_laws.specs.Elaborate.{function_def, typed_module}
-use Rattle.module_laws.proofs.Ways.{same_text, either_of}
+use Rattle.module_laws.proofs.Ways.{same_text}
 use Rattle.module_laws.proofs.EntriesFine.{synonyms_fine}
 use Rattle.module_laws.proofs.ModuleSorts.{fine, acyclic}
 use Rattle.bpl_elaborate.specs.Places.{function_name, put_at, place, places_from, places, named_function, function_at}

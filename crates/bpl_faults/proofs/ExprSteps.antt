@@ -1,5 +1,6 @@
 -- The faults of lists of expressions begin with those of the first, and the sorts too.
 use Rattle.std.proofs.Common.{◌≡◌, refl, sym, ap, ◌∙◌, Bool, true, false, ◌&&◌, List, [], ◌∷◌, ◌++◌, Option, Some, None}
+use Rattle.logic_core.proofs.Booleans.{and_assoc}
 use Rattle.bv_base.specs.declared.place.Place.{Place}
 use Rattle.logic_core.specs.Tree.{Kind, int}
 use Rattle.logic_core.specs.Sorts.{is}
@@ -80,7 +81,3 @@ triggers_next found s vs t ts = joins found (unless (is_trigger vs (exprs_of t.p
 
 pub all_next : (s : Scope) (k : Kind) (x : Expr) (xs : List Expr) → all_are k (sorts_in s (exprs_of (x ∷ xs))) ≡ (is k (sort_in s x) && all_are k (sorts_in s (exprs_of xs)))
 all_next s k x xs = refl
-
-pub and_assoc : (a b c : Bool) → ((a && b) && c) ≡ (a && (b && c))
-and_assoc true b c = refl
-and_assoc false b c = refl

@@ -1,6 +1,7 @@
 -- Statements and bodies that lexemes spell are those that are read.
 use Rattle.std.specs.Prelude.{◌≡◌, ℕ, zero, suc, ◌+◌, Bool, false, ◌&&◌, ◌||◌, cond, List, [], ◌∷◌, drop, codes, IsTrue, Ok, Err}
 use Rattle.std.proofs.Common.{refl, inl, ap, sym, ◌∙◌, arith}
+use Rattle.bpl_grammar.proofs.Booleans.{no_and_first as and_none, no_and_second as and_false, and_both}
 use Rattle.bv_base.specs.declared.place.Place.{Place}
 use Rattle.bpl_lex.specs.Token.{id}
 use Rattle.bpl_ast.specs.Place.{Name}
@@ -15,9 +16,6 @@ use Rattle.bpl_grammar.specs.Reading.{Read, read_as, place_of, sees_one, read_fi
 use Rattle.bpl_grammar.specs.ReadStatements.{stmt_firsts, read_label, read_labels, read_havoc, read_break, read_return, read_goto, formula_with, assign_with, call_with, vars_with, if_with, while_with, action_with, stmt_with, stmts_with, read_stmts, body_with}
 use Rattle.bpl_grammar.specs.Types.{Is, IsId, name}
 use Rattle.bpl_grammar.specs.Statements as s
-use Rattle.bpl_grammar.proofs.Decisions.{and_none}
-use Rattle.bpl_grammar.proofs.Firsts.{and_false}
-use Rattle.bpl_grammar.proofs.Complete.{and_both}
 use Rattle.bpl_grammar.proofs.AgreeStatements as agree
 use Rattle.bpl_grammar.proofs.First.{takes_begins}
 use Rattle.bpl_grammar.proofs.Operations.{any_apart}

@@ -1,6 +1,7 @@
 -- What becomes of statements and bodies that are read.
 use Rattle.std.specs.Prelude.{◌≡◌, ℕ, zero, suc, ◌+◌, ◌≤◌, Bool, true, false, ◌&&◌, ◌||◌, List, [], ◌∷◌, drop, length, codes, IsTrue, Ok, Err}
 use Rattle.std.proofs.Common.{refl, sym, ◌∙◌, arith}
+use Rattle.bpl_grammar.proofs.Booleans.{and_first, and_second, none_of as neither_two}
 use Rattle.bpl_lex.specs.Token.{id}
 use Rattle.bpl_ast.specs.Statement.{Stmt}
 use Rattle.bpl_grammar.specs.Lexeme.{Lexeme}
@@ -13,13 +14,13 @@ use Rattle.bpl_grammar.specs.Follows.{Bars}
 use Rattle.bpl_grammar.specs.Reading.{Read, sees_one, read_name, repeated}
 use Rattle.bpl_grammar.specs.ReadStatements.{stmt_firsts, read_label, read_labels, formula_with, guarded_with, invs_with, vars_with, block_with, branch_with, branches_with, last_with, if_with, while_with, action_with, stmt_with, stmts_with, read_stmts, body_with}
 use Rattle.bpl_grammar.specs.Law.{fate}
-use Rattle.bpl_grammar.proofs.Firsts.{and_first, and_second, shut}
+use Rattle.bpl_grammar.proofs.Firsts.{shut}
 use Rattle.bpl_grammar.proofs.Sunk.{judge_rule, judge_order, alike}
 use Rattle.bpl_grammar.proofs.Decisions.{sinks, absent_at, present_at, done_at, more_at, left_at, right_at}
 use Rattle.bpl_grammar.proofs.Tails.{bars_then, bars_over}
 use Rattle.bpl_grammar.proofs.Fates.{AreFirsts, fate_as, chain, branch, opens_behind, seen_there, token_then, token_last}
 use Rattle.bpl_grammar.proofs.TypeLaws.{name_fate}
-use Rattle.bpl_grammar.proofs.ExprFates.{opens_two, neither_two}
+use Rattle.bpl_grammar.proofs.ExprFates.{opens_two}
 use Rattle.bpl_grammar.proofs.Lengths.{Most, less_behind}
 use Rattle.bpl_grammar.proofs.StatementParts.{target_rest, label_rest, named_stmt, from_check, plain_part, plain_havoc, plain_call, plain_if, plain_while, plain_break, plain_return, plain_goto, targets_part, check_part, havoc_part, call_part, while_part, break_part, return_part, goto_part, alike_stmt, alike_plain}
 use Rattle.bpl_grammar.proofs.StmtShrinks.{label_shrinks, branch_less, stmt_less, stmts_most}

@@ -1,6 +1,7 @@
 -- What becomes of attributes, triggers, groups of names and quantifiers that are read.
 use Rattle.std.specs.Prelude.{◌≡◌, ℕ, zero, suc, ◌+◌, ◌≤◌, false, ◌||◌, List, [], ◌∷◌, drop, length, codes, IsTrue, Ok}
 use Rattle.std.proofs.Common.{refl, ap, sym, ◌∙◌, arith}
+use Rattle.bpl_grammar.proofs.Booleans.{none_of as neither_two}
 use Rattle.bv_base.specs.declared.place.Place.{Place}
 use Rattle.bpl_lex.specs.Token.{id, text}
 use Rattle.bpl_ast.specs.Tree.{Quantifier, for_all, exists, Expr}
@@ -26,7 +27,7 @@ use Rattle.bpl_grammar.proofs.Fates.{fate_as, chain, chain_by, branch, opens_tok
 use Rattle.bpl_grammar.proofs.TypeTrees.{comma}
 use Rattle.bpl_grammar.proofs.TypeLaws.{name_fate, listed_fate, ids_fate, params_fate, type_fate}
 use Rattle.bpl_grammar.proofs.ExprParts.{bound_part, after_over}
-use Rattle.bpl_grammar.proofs.ExprFates.{repeated_fate, opens_two, neither_two}
+use Rattle.bpl_grammar.proofs.ExprFates.{repeated_fate, opens_two}
 use Rattle.bpl_grammar.proofs.MarkParts.{attr_body, mark_part, alike_marks}
 
 brace : Terminal

@@ -1,5 +1,6 @@
 -- Blocks and branches that are read are the trees that the lexemes spell.
 use Rattle.std.specs.Prelude.{◌≡◌, ℕ, ◌+◌, Bool, ◌&&◌, List, [], ◌∷◌, drop, codes, Ok}
+use Rattle.bpl_grammar.proofs.Booleans.{and_first}
 use Rattle.bv_base.specs.declared.place.Place.{Place}
 use Rattle.bpl_ast.specs.Statement.{Guard, Stmt, Action, Branches, branch, otherwise, no_branch, Stmts}
 use Rattle.bpl_ast.specs.StmtView.{stmts_of, branches_from}
@@ -9,7 +10,6 @@ use Rattle.bpl_grammar.specs.Reading.{Read, place_of, read_fixed}
 use Rattle.bpl_grammar.specs.ReadStatements.{guarded_with, block_with, branch_with, branches_with, last_with, if_with}
 use Rattle.bpl_grammar.specs.Types.{Is}
 use Rattle.bpl_grammar.specs.Statements as s
-use Rattle.bpl_grammar.proofs.Firsts.{and_first}
 use Rattle.bpl_grammar.proofs.Found.{same_found, followed_ok, read_as_ok, token_ok, seen_ok}
 use Rattle.bpl_grammar.proofs.TypeTrees.{placed}
 use Rattle.bpl_grammar.proofs.Items.{by_cond, Items, none, next, items_ok}

@@ -1,6 +1,7 @@
 -- Blocks, `if` and `while` that lexemes spell are those that are read.
 use Rattle.std.specs.Prelude.{◌≡◌, ℕ, ◌+◌, Bool, false, ◌&&◌, cond, List, [], ◌∷◌, drop, codes, IsTrue, Ok}
 use Rattle.std.proofs.Common.{refl, ap, sym, ◌∙◌}
+use Rattle.bpl_grammar.proofs.Booleans.{none_of as neither_two, no_and_first as and_none, no_and_second as and_false, and_both}
 use Rattle.bv_base.specs.declared.place.Place.{Place}
 use Rattle.bpl_ast.specs.Statement.{Guard, Invariant, Stmt, Action, branches, loop, Branches, branch, otherwise, no_branch, Stmts}
 use Rattle.bpl_ast.specs.StmtView.{stmts_of, branches_from}
@@ -10,10 +11,6 @@ use Rattle.bpl_grammar.specs.Terminal.{Terminal, fixed, is, sees, sees_any, apar
 use Rattle.bpl_grammar.specs.Reading.{Read, read_as, read_fixed, repeated}
 use Rattle.bpl_grammar.specs.ReadStatements.{stmt_firsts, guarded_with, invs_with, block_with, branch_with, branches_with, last_with, if_with, while_with}
 use Rattle.bpl_grammar.specs.Statements as s
-use Rattle.bpl_grammar.proofs.ExprFates.{neither_two}
-use Rattle.bpl_grammar.proofs.Decisions.{and_none}
-use Rattle.bpl_grammar.proofs.Firsts.{and_false}
-use Rattle.bpl_grammar.proofs.Complete.{and_both}
 use Rattle.bpl_grammar.proofs.AgreeStatements as agree
 use Rattle.bpl_grammar.proofs.Found.{same_found, followed_ok, read_as_ok}
 use Rattle.bpl_grammar.proofs.TypeTrees.{placed}

@@ -1,12 +1,13 @@
 -- A part's spellings and beginnings go on in what is left after their first token.
 use Rattle.std.specs.Prelude.{◌≡◌, ℕ, zero, suc, Bool, true, false, ◌&&◌, ◌||◌, List, [], ◌∷◌, IsTrue, Option, Some, None, ◌⊎◌}
 use Rattle.std.proofs.Common.{refl, inl, inr, ◌∙◌}
+use Rattle.bpl_grammar.proofs.Booleans.{and_both, and_parts as and_true}
 use Rattle.bpl_lex.specs.Token.{Kind}
 use Rattle.bpl_grammar.specs.Lexeme.{Lexeme, is_kind, reads}
 use Rattle.bpl_grammar.specs.Part.{Part, inside, nothing, ◌⨟◌, ◌∣◌, maybe, many}
 use Rattle.bpl_grammar.specs.Spelling.{Takes, of_kind, of_text, empty, both, left, right, absent, present, no_more, again, deeper, whole, by, Begins, none, first, later, once}
 use Rattle.bpl_grammar.specs.Derivative.{within, empties, either, onto, left_after, enough}
-use Rattle.bpl_grammar.proofs.Sound.{TakesLeft, BeginsLeft, and_true}
+use Rattle.bpl_grammar.proofs.Sound.{TakesLeft, BeginsLeft}
 
 -- into either and onto
 
@@ -35,10 +36,6 @@ in_order_front false l m q ts vs h = h
 in_order_back : (b : Bool) → IsTrue b → (l m : Option Part) (q : Part) (ts vs : List Lexeme) → TakesLeft m ts vs → TakesLeft (elim b [ true ↦ either (onto l q) m | false ↦ onto l q ]) ts vs
 in_order_back true e l m q ts vs h = takes_right (onto l q) m ts vs h
 in_order_back false e l m q ts vs h = absurd (cc)
-
-pub and_both : (a b : Bool) → IsTrue a → IsTrue b → IsTrue (a && b)
-and_both true b h k = k
-and_both false b h k = absurd (cc)
 
 pub or_left : (a b : Bool) → IsTrue a → IsTrue (a || b)
 or_left true b h = refl

@@ -1,12 +1,13 @@
 -- Which tokens begin and which spell a part is computed, token by token.
 use Rattle.std.specs.Prelude.{◌≡◌, Bool, true, false, ◌&&◌, List, [], ◌∷◌, IsTrue, Option, Some, None}
 use Rattle.std.proofs.Common.{refl, inl, inr}
+use Rattle.bpl_grammar.proofs.Booleans.{and_both}
 use Rattle.bpl_grammar.specs.Lexeme.{Lexeme}
 use Rattle.bpl_grammar.specs.Part.{Part, some, spelled, nothing, ◌⨟◌, ◌∣◌, maybe, many, inside, longest, Rule, rule, program, decl, var, groups, group, ids, farg, sig, spec, body, block, stmt, lhs, guard, if_stmt, inv, type, tpar, attr, arg, e, imp, log, rel, sum, prod, un, post, es, atom, trig}
 use Rattle.bpl_grammar.specs.Spelling.{Spells, Begins, none}
 use Rattle.bpl_grammar.specs.Derivative.{left_of, empties, enough, enough_rule, empties_rule}
 use Rattle.bpl_grammar.proofs.Sound.{TakesLeft, BeginsLeft, takes_sound, begins_sound, empty_sound, empty_rule_sound}
-use Rattle.bpl_grammar.proofs.Complete.{IsCut, IsBegun, takes_complete, begins_complete, and_both}
+use Rattle.bpl_grammar.proofs.Complete.{IsCut, IsBegun, takes_complete, begins_complete}
 
 -- twelve expansions come from every production to a first token
 pub ranked : (r : Rule) → IsTrue (enough_rule 12 r)

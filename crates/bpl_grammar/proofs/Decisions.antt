@@ -1,6 +1,7 @@
 -- The laws by which a reader goes on: what is left to read, by the first token.
 use Rattle.std.specs.Prelude.{◌≡◌, ℕ, ◌+◌, ◌<◌, ◌≤◌, nat_lt, Bool, true, false, ◌&&◌, List, [], ◌∷◌, drop, IsTrue, Option, Some, None, option_map}
 use Rattle.std.proofs.Common.{refl, ap, sym, ◌∙◌, arith, drop-drop}
+use Rattle.bpl_grammar.proofs.Booleans.{no_and_first as and_none}
 use Rattle.bpl_lex.specs.Token.{number}
 use Rattle.bpl_grammar.specs.Lexeme.{Lexeme, is_kind}
 use Rattle.bpl_grammar.specs.Part.{Part, some, spelled, nothing, ◌⨟◌, ◌∣◌, maybe, many}
@@ -111,9 +112,6 @@ took_wide n c k t ts b h w =
     (left_front n t (token c) k (token_empty c) ∙ ap (λ o. onto (option_map (sunk n) o) k) (left_token c t h))
     (ap too_deep (depth_front n t (token c) k (token_empty c) ∙ ap (λ o. option_map (λ m. n + m) o) (depth_token c t h)) ∙ not_below n b)
     w
-
-pub and_none : (a b : Bool) → a ≡ false → (a && b) ≡ false
-and_none a b h = rw h refl
 
 pub narrow : (c : Terminal) (t : Lexeme) → IsTrue (is c t) → IsTrue (apart c (kind number)) → too_wide t ≡ false
 narrow c t h a = and_none (is_kind number t) _ (are_apart c (kind number) t h a)

@@ -1,6 +1,7 @@
 -- What becomes of declarations that are read.
 use Rattle.std.specs.Prelude.{◌≡◌, ℕ, suc, ◌+◌, ◌≤◌, Bool, true, false, ◌&&◌, ◌||◌, cond, List, [], ◌∷◌, drop, codes, IsTrue}
 use Rattle.std.proofs.Common.{refl, sym, ◌∙◌, arith}
+use Rattle.bpl_grammar.proofs.Booleans.{and_first, and_second}
 use Rattle.bpl_lex.specs.Token.{id}
 use Rattle.bpl_grammar.specs.Lexeme.{Lexeme}
 use Rattle.bpl_grammar.specs.Part.{Part, some, ◌⨟◌, ◌∣◌, maybe, many, inside, rule, groups, ids, farg, sig, spec, type, e as expression}
@@ -15,7 +16,7 @@ use Rattle.bpl_grammar.specs.ReadExpressions.{e_with, groups_with, read_inner}
 use Rattle.bpl_grammar.specs.ReadStatements.{formula_with}
 use Rattle.bpl_grammar.specs.ReadDeclarations.{read_unique, read_some_ids, read_modifies, read_arg_name, farg_with, fargs_with, inputs_with, result_with, output_with, value_with, params_with, results_with, sig_with, clause_with, spec_with, specs_with}
 use Rattle.bpl_grammar.specs.Law.{fate}
-use Rattle.bpl_grammar.proofs.Firsts.{and_first, and_second, shut}
+use Rattle.bpl_grammar.proofs.Firsts.{shut}
 use Rattle.bpl_grammar.proofs.Sunk.{judge_rule, judge_order, alike}
 use Rattle.bpl_grammar.proofs.Choices.{opens_sunk, empties_then}
 use Rattle.bpl_grammar.proofs.Decisions.{absent_at, present_at, present_else, left_at, right_at}

@@ -1,6 +1,7 @@
 -- The parts of declarations that lexemes spell are those that are read.
 use Rattle.std.specs.Prelude.{◌≡◌, ℕ, suc, ◌+◌, Bool, false, ◌&&◌, List, [], ◌∷◌, drop, codes, Ok, Option, Some, None}
 use Rattle.std.proofs.Common.{refl, inl, ap, ◌∙◌, arith}
+use Rattle.bpl_grammar.proofs.Booleans.{no_and_first as no_first, and_both, no_and_second as and_false}
 use Rattle.bpl_lex.specs.Token.{id}
 use Rattle.bpl_ast.specs.Place.{Ty}
 use Rattle.bpl_ast.specs.Tree.{Expr, Groups}
@@ -20,8 +21,6 @@ use Rattle.bpl_grammar.specs.Expressions.{E}
 use Rattle.bpl_grammar.specs.Programs as p
 use Rattle.bpl_grammar.proofs.Agree.{takes_tpar, groups_listed}
 use Rattle.bpl_grammar.proofs.AgreeDeclarations as agree
-use Rattle.bpl_grammar.proofs.Complete.{and_both}
-use Rattle.bpl_grammar.proofs.Firsts.{and_false}
 use Rattle.bpl_grammar.proofs.Found.{same_found, followed_ok, read_as_ok}
 use Rattle.bpl_grammar.proofs.TypeTrees.{comma, placed}
 use Rattle.bpl_grammar.proofs.Suffixes.{takes_suffix, narrow_suffix}
@@ -41,9 +40,6 @@ pub type_sure : (room : ℕ) → IsSure [] (Type' placed) (read_type room)
 type_sure room = one_sure [] (Type' placed) (read_type room) (type_one room)
 
 -- FArg = [Id ":"] Type
-
-no_first : (a b : Bool) → a ≡ false → (a && b) ≡ false
-no_first a b h = rw h refl
 
 abbrev begins_name : List Lexeme → Bool
 begins_name ls = sees (kind id) ls && sees colon (drop 1 ls)

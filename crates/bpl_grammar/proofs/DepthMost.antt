@@ -1,12 +1,13 @@
 -- No reading of some tokens has the last of them deeper than is computed.
 use Rattle.std.specs.Prelude.{◌≡◌, ℕ, zero, suc, Bool, true, false, ◌≤◌, List, [], ◌∷◌, IsTrue, Option, Some, None, option_map, ◌⊎◌}
 use Rattle.std.proofs.Common.{refl, inl, inr, ◌∙◌, arith}
+use Rattle.bpl_grammar.proofs.Booleans.{and_parts as and_true}
 use Rattle.bpl_grammar.specs.Lexeme.{Lexeme, is_kind, reads}
 use Rattle.bpl_grammar.specs.Part.{Part, ◌⨟◌, ◌∣◌, many, inside}
 use Rattle.bpl_grammar.specs.Nesting.{Lies, of_kind, of_text, first, later, left, right, present, once, again, deeper, whole, by}
 use Rattle.bpl_grammar.specs.Derivative.{empties_rule, empties, either, onto, within, left_after, left_of, enough}
 use Rattle.bpl_grammar.specs.Depth.{most, depth_with, depth_rule, depth_of, deepest}
-use Rattle.bpl_grammar.proofs.Sound.{TakesLeft, and_true}
+use Rattle.bpl_grammar.proofs.Sound.{TakesLeft}
 use Rattle.bpl_grammar.proofs.Complete.{IsCut, takes_complete, enough_first, enough_next}
 use Rattle.bpl_grammar.proofs.Decide.{always}
 use Rattle.bpl_grammar.proofs.DepthFound.{LiesLeft}

@@ -1,6 +1,7 @@
 -- What becomes of expressions that are read, production by production.
 use Rattle.std.specs.Prelude.{◌≡◌, ℕ, zero, suc, ◌<◌, ◌≤◌, Bool, true, false, ◌||◌, cond, List, [], ◌∷◌, drop, length, codes, IsTrue, Some, None, Option}
 use Rattle.std.proofs.Common.{refl, ap, ◌∙◌, arith}
+use Rattle.bpl_grammar.proofs.Booleans.{none_of as neither_two}
 use Rattle.bpl_lex.specs.Token.{number as number_kind}
 use Rattle.bpl_ast.specs.Tree.{Relation, eq, ne, lt, le, gt, ge, Expr}
 use Rattle.bpl_grammar.specs.Lexeme.{Lexeme}
@@ -61,9 +62,6 @@ two_any c d (t ∷ ts) = or_last (is c t) (is d t)
 
 pub opens_two : (c d : Terminal) (p : Part) (ls : List Lexeme) → firsts ((token c ∣ token d) ⨟ p) ≡ c ∷ d ∷ [] → opens ((token c ∣ token d) ⨟ p) ls ≡ (sees c ls || sees d ls)
 opens_two c d p ls h = opens_firsts ls ((token c ∣ token d) ⨟ p) ∙ (ap (λ cs. sees_any cs ls) h ∙ two_any c d ls)
-
-pub neither_two : (a b : Bool) → a ≡ false → b ≡ false → (a || b) ≡ false
-neither_two a b h g = rw (h, g) refl
 
 pub other_two : (a b : Bool) → IsTrue (a || b) → a ≡ false → IsTrue b
 other_two true b h g = absurd (cc)

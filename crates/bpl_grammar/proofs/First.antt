@@ -1,6 +1,7 @@
 -- The first token of a part: what is left after it, how deep it lies, and what it spells.
 use Rattle.std.specs.Prelude.{◌≡◌, ℕ, zero, suc, Bool, true, false, ◌||◌, List, [], ◌∷◌, IsTrue, Option, Some, None, option_map, ◌⊎◌}
 use Rattle.std.proofs.Common.{refl, inl, inr, sym, ◌∙◌}
+use Rattle.bpl_grammar.proofs.Booleans.{or_same}
 use Rattle.bpl_grammar.specs.Lexeme.{Lexeme, is_kind, reads}
 use Rattle.bpl_grammar.specs.Part.{Part, some, spelled, nothing, ◌⨟◌, ◌∣◌, maybe, many, inside, longest, Rule, rule}
 use Rattle.bpl_grammar.specs.Grammar.{grammar}
@@ -42,9 +43,6 @@ suc_there (Some n) = refl
 token_there : (b : Bool) → is_there {A = Part} (elim b [ true ↦ Some nothing | false ↦ None ]) ≡ is_there {A = ℕ} (elim b [ true ↦ Some 0 | false ↦ None ])
 token_there true = refl
 token_there false = refl
-
-or_same : (a b c d : Bool) → a ≡ c → b ≡ d → (a || b) ≡ (c || d)
-or_same a b c d e f = cc
 
 order_there : (b : Bool) (l m : Option Part) (q : Part) (x y : Option ℕ) → is_there l ≡ is_there x → is_there m ≡ is_there y
     → is_there {A = Part} (elim b [ true ↦ either (onto l q) m | false ↦ onto l q ]) ≡ is_there {A = ℕ} (elim b [ true ↦ most x y | false ↦ x ])

@@ -2,6 +2,7 @@
 use Rattle.std.specs.Prelude.{◌≡◌, ℕ, zero, suc, bytes_eq, Bool, true, false, not, ◌&&◌, ◌||◌, List, [], ◌∷◌, ◌++◌, IsTrue, Option, Some, None}
 use Rattle.std.proofs.Common.{refl, ap, sym, ◌∙◌}
 use Rattle.std.proofs.lemmas.Slice.Eq.{bytes_eq-Decides}
+use Rattle.bpl_grammar.proofs.Booleans.{or_none, or_same as join, and_first, and_second, no_and_second as and_false, no_not as not_false, none_of as neither}
 use Rattle.bpl_lex.specs.Token.{Kind, id, number, text, sign, word}
 use Rattle.bpl_grammar.specs.Lexeme.{Lexeme, same_kind, is_fixed, is_kind, reads}
 use Rattle.bpl_grammar.specs.Part.{Part, some, spelled, nothing, ◌⨟◌, ◌∣◌, maybe, many, inside, longest, Rule, rule}
@@ -19,16 +20,9 @@ pub any_append : (cs ds : List Terminal) (t : Lexeme) → is_any (cs ++ ds) t �
 any_append [] ds t = refl
 any_append (c ∷ cs) ds t = ap (λ b. is c t || b) (any_append cs ds t) ∙ sym (or_over (is c t) (is_any cs t) (is_any ds t))
 
-or_none : (a : Bool) → a ≡ (a || false)
-or_none true = refl
-or_none false = refl
-
 one_there : (a : Bool) → is_there {A = Part} (elim a [ true ↦ Some nothing | false ↦ None ]) ≡ (a || false)
 one_there true = refl
 one_there false = refl
-
-join : (a b c d : Bool) → a ≡ c → b ≡ d → (a || b) ≡ (c || d)
-join a b c d e f = cc
 
 order_there : (b : Bool) (l m : Option Part) (q : Part) (cs ds : List Terminal) (t : Lexeme) → is_there l ≡ is_any cs t → is_there m ≡ is_any ds t
     → is_there {A = Part} (elim b [ true ↦ either (onto l q) m | false ↦ onto l q ]) ≡ is_any (cs ++ and_more b ds) t
@@ -62,18 +56,6 @@ opens_firsts (t ∷ ts) p = starts_firsts t p
 
 -- tokens that are one thing aren't another
 
-pub and_first : (a b : Bool) → IsTrue (a && b) → IsTrue a
-and_first true b h = refl
-and_first false b h = absurd (cc)
-
-pub and_second : (a b : Bool) → IsTrue (a && b) → IsTrue b
-and_second true b h = h
-and_second false b h = absurd (cc)
-
-pub and_false : (a b : Bool) → b ≡ false → (a && b) ≡ false
-and_false true b h = h
-and_false false b h = refl
-
 kind_is : (k m : Kind) → IsTrue (same_kind k m) → k ≡ m
 kind_is id id h = refl
 kind_is number number h = refl
@@ -81,10 +63,6 @@ kind_is text text h = refl
 kind_is sign sign h = refl
 kind_is word word h = refl
 kind_is k m h = absurd (cc)
-
-not_false : (b : Bool) → IsTrue (not b) → b ≡ false
-not_false true h = absurd (cc)
-not_false false h = refl
 
 turned : (k l : Kind) → same_kind l k ≡ same_kind k l
 turned id id = refl
@@ -144,10 +122,6 @@ are_apart (kind k) (fixed w) t h a = not_fixed k t.kind (bytes_eq w t.spelling) 
 are_apart (fixed w) (kind l) t h a = fixed_kind l t.kind (and_first (is_fixed t.kind) (bytes_eq w t.spelling) h) a
 are_apart (fixed v) (fixed w) t h a = and_false (is_fixed t.kind) (bytes_eq w t.spelling)
     (texts_apart v w t.spelling (bytes_same v t.spelling (and_second (is_fixed t.kind) (bytes_eq v t.spelling) h)) a)
-
-neither : (a b : Bool) → a ≡ false → b ≡ false → (a || b) ≡ false
-neither true b e f = absurd (cc)
-neither false b e f = f
 
 pub none_apart : (c : Terminal) (ds : List Terminal) (t : Lexeme) → IsTrue (is c t) → IsTrue (apart_from c ds) → is_any ds t ≡ false
 none_apart c [] t h a = refl

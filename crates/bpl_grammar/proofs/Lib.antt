@@ -1,3 +1,4 @@
+pub mod Booleans
 pub mod Sound
 pub mod Complete
 pub mod Decide

@@ -1,12 +1,13 @@
 -- No token goes on with an expression in two ways.
 use Rattle.std.specs.Prelude.{◌≡◌, Bool, true, false, ◌||◌, List, [], ◌∷◌, IsTrue, ◌⊎◌}
 use Rattle.std.proofs.Common.{refl, inl, inr, sym, ◌∙◌}
+use Rattle.bpl_grammar.proofs.Booleans.{and_first, and_second}
 use Rattle.bpl_grammar.specs.Lexeme.{Lexeme}
 use Rattle.bpl_grammar.specs.Derivative.{empties}
 use Rattle.bpl_grammar.specs.Reads.{starts}
 use Rattle.bpl_grammar.specs.Terminal.{Terminal, is, is_any, firsts, apart_from}
 use Rattle.bpl_grammar.specs.Follows.{Operation, index, factor, term, relation, conjunct, disjunct, consequent, equivalent, operation, all_apart}
-use Rattle.bpl_grammar.proofs.Firsts.{and_first, and_second, starts_firsts, none_apart}
+use Rattle.bpl_grammar.proofs.Firsts.{starts_firsts, none_apart}
 
 -- a token that is one of these is none of those
 pub any_apart : (cs ds : List Terminal) (t : Lexeme) → IsTrue (is_any cs t) → IsTrue (all_apart cs ds) → is_any ds t ≡ false

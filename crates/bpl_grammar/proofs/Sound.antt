@@ -1,6 +1,7 @@
 -- What spells what is left after a token spells the part, with the token before it; beginnings likewise.
 use Rattle.std.specs.Prelude.{◌≡◌, ℕ, zero, suc, Bool, true, false, ◌&&◌, ◌||◌, List, ◌∷◌, IsTrue, Option, Some, None, ◌⊎◌}
 use Rattle.std.proofs.Common.{refl, inl, inr, ⊎_elim}
+use Rattle.bpl_grammar.proofs.Booleans.{and_parts as and_true}
 use Rattle.bpl_lex.specs.Token.{Kind}
 use Rattle.bpl_grammar.specs.Lexeme.{Lexeme, is_kind, reads}
 use Rattle.bpl_grammar.specs.Part.{Part, some, spelled, nothing, ◌⨟◌, ◌∣◌, maybe, many, inside, longest, Rule, rule}
@@ -15,10 +16,6 @@ TakesLeft (Some p) ts us = Takes p ts us
 abbrev pub BeginsLeft : Option Part → List Lexeme → Type 0
 BeginsLeft None ts = ⊥
 BeginsLeft (Some p) ts = Begins p ts
-
-pub and_true : (a b : Bool) → IsTrue (a && b) → IsTrue a × IsTrue b
-and_true true b h = (refl, h)
-and_true false b h = absurd (cc)
 
 pub or_true : (a b : Bool) → IsTrue (a || b) → IsTrue a ⊎ IsTrue b
 or_true true b h = inl refl

@@ -1,6 +1,7 @@
 -- Expressions that lexemes spell are those that are read, from operands on.
 use Rattle.std.specs.Prelude.{◌≡◌, ℕ, ◌<◌, ◌≤◌, ◌||◌, Bool, true, false, cond, List, [], ◌∷◌, drop, length, codes, IsTrue, Ok, Some, None, Option, ◌⊎◌}
 use Rattle.std.proofs.Common.{refl, inl, inr, ap, sym, ◌∙◌, arith}
+use Rattle.bpl_grammar.proofs.Booleans.{none_of as neither_two}
 use Rattle.bpl_ast.specs.Tree.{Relation, Expr, expr, iffs, implies, ands, ors, related, products, negation, minus, first_place}
 use Rattle.bpl_ast.specs.ExprView.{exprs_of}
 use Rattle.bpl_ast.specs.declared.expr.Term.{Term}
@@ -17,7 +18,6 @@ use Rattle.bpl_grammar.proofs.Loops.{Shrinks}
 use Rattle.bpl_grammar.proofs.Lengths.{less_behind}
 use Rattle.bpl_grammar.proofs.Found.{same_found, followed_ok, read_as_ok}
 use Rattle.bpl_grammar.proofs.TypeTrees.{placed}
-use Rattle.bpl_grammar.proofs.ExprFates.{neither_two}
 use Rattle.bpl_grammar.proofs.ExprShrinks.{un_less, term_less, sum_less, rel_less, log_less, imp_less}
 use Rattle.bpl_grammar.proofs.Items.{by_cond, items_ok}
 use Rattle.bpl_grammar.proofs.TermTrees.{TermAt, by_plus, by_less, a_term}

@@ -1,6 +1,7 @@
 -- What becomes of items that are read as long as one begins.
 use Rattle.std.specs.Prelude.{◌≡◌, ℕ, zero, suc, ◌<◌, ◌≤◌, Bool, true, false, ◌&&◌, ◌||◌, List, [], ◌∷◌, drop, length, codes, IsTrue}
 use Rattle.std.proofs.Common.{refl, ap, sym, ◌∙◌, arith}
+use Rattle.bpl_grammar.proofs.Booleans.{or_none as or_last}
 use Rattle.bpl_lex.specs.Token.{id}
 use Rattle.bpl_grammar.specs.Lexeme.{Lexeme}
 use Rattle.bpl_grammar.specs.Part.{Part, some, ◌⨟◌, many}
@@ -64,10 +65,6 @@ one_seen (c ∷ cs) t ts = ap (λ b. is c t || b) (one_seen cs t ts)
 pub seen_any : (cs : List Terminal) (ls : List Lexeme) → sees_one cs ls ≡ sees_any cs ls
 seen_any cs [] = none_seen cs
 seen_any cs (t ∷ ts) = one_seen cs t ts
-
-or_last : (b : Bool) → b ≡ (b || false)
-or_last true = refl
-or_last false = refl
 
 pub any_one : (c : Terminal) (ls : List Lexeme) → sees c ls ≡ sees_any (c ∷ []) ls
 any_one c ls = or_last (sees c ls) ∙ seen_any (c ∷ []) ls

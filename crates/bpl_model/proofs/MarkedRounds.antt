@@ -4,9 +4,10 @@ use Rattle.std.specs.List.{list_any, flat_map, range_with_len}
 use Rattle.std.proofs.Common.{arith, sym, ap, ◌∙◌, subst}
 use Rattle.std.proofs.lemmas.Bool.{or_cases, or_left, or_right, and_parts, and_from, false_from_ne_true}
 use Rattle.std.proofs.lemmas.List.{append-nil}
+use Rattle.logic_core.proofs.Booleans.{same_test as agree}
 use mathlib.Core.Logic.{inl, inr}
 use Rattle.bpl_model.specs.Marking.{Marking, is_marked, mark_all, settled, follow, follow_on}
-use Rattle.bpl_model.proofs.Members.{In, agree, none_in, in_either, in_left, in_right, one_passes, passes_one, in_flat, flat_in, among_filter, range_in, in_range, filter_alike}
+use Rattle.bpl_model.proofs.Members.{In, none_in, in_either, in_left, in_right, one_passes, passes_one, in_flat, flat_in, among_filter, range_in, in_range, filter_alike}
 use Rattle.bpl_model.proofs.Marks.{within_marks, marks_length, marks_after, marks_kept, marks_given, fresh_marked, marked_before}
 
 abbrev among : List ℕ → ℕ → Bool

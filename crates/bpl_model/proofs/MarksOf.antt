@@ -6,10 +6,11 @@ use Rattle.std.proofs.lemmas.Bool.{eqb-true, eq-eqb}
 use Rattle.std.proofs.lemmas.List.{get_or-map, get_or_past, ext_get_or}
 use Rattle.std.proofs.lemmas.List.Folds.{list_any-append}
 use Rattle.std.proofs.lemmas.List.FromFn.{get_or-range_with_len, length-range_with_len, length-map-range_with_len}
+use Rattle.logic_core.proofs.Booleans.{same_test as agree, or_false}
 use lib.ListN.{replicate}
 use Rattle.bpl_model.specs.Rising.{inside}
 use Rattle.bpl_model.specs.Marking.{Marking, marks_of, is_marked, mark}
-use Rattle.bpl_model.proofs.Members.{agree, filter_alike, range_in}
+use Rattle.bpl_model.proofs.Members.{filter_alike, range_in}
 use Rattle.bpl_model.proofs.Marks.{set_at}
 
 abbrev has : List ℕ → ℕ → Bool
@@ -37,10 +38,6 @@ either_way a b = agree (a == b) (b == a) (λ h. eq-eqb b a (sym (eqb-true a b h)
 turned : (v : ℕ) (ks : List ℕ) → has ks v ≡ list_any (λ x. x == v) ks
 turned v [] = refl
 turned v (k ∷ ks) = λ i. either_way v k i || turned v ks i
-
-or_false : (b : Bool) → (b || false) ≡ b
-or_false true = refl
-or_false false = refl
 
 -- one more
 more_are : (n : ℕ) (ks : List ℕ) (d : ℕ) → marks_of n (ks ++ d ∷ []) ≡ slice_set (marks_of n ks) d true

@@ -4,6 +4,7 @@ use Rattle.std.specs.List.{list_any, range_with_len, flat_map}
 use Rattle.std.proofs.Common.{arith, sym, ap, ◌∙◌, subst}
 use Rattle.std.proofs.lemmas.Bool.{eqb-true, eq-eqb, or_cases, or_left, or_right}
 use Rattle.std.proofs.lemmas.List.Folds.{list_any-append}
+use Rattle.logic_core.proofs.Booleans.{same_test as agree}
 use mathlib.Core.Logic.{inl, inr}
 
 abbrev pub In : List ℕ → ℕ → Type 0
@@ -11,12 +12,6 @@ In xs x = list_any (λ y. y == x) xs ≡ true
 
 pub none_in : (x : ℕ) → In [] x → ⊥
 none_in x h = let e : false ≡ true = h in absurd cc
-
--- two tests agree where each of the two implies the other
-pub agree : (a b : Bool) → (a ≡ true → b ≡ true) → (b ≡ true → a ≡ true) → a ≡ b
-agree true b f g = sym (f refl)
-agree false true f g = g refl
-agree false false f g = refl
 
 pub in_either : (xs ys : List ℕ) (x : ℕ) → In (xs ++ ys) x → In xs x ⊎ In ys x
 in_either xs ys x h = or_cases (list_any (λ y. y == x) xs) (list_any (λ y. y == x) ys) (sym (list_any-append (λ y. y == x) xs ys) ∙ h)

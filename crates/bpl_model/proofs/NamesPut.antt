@@ -10,17 +10,10 @@ use Rattle.std.proofs.lemmas.List.Recursion.{is_position_or_len}
 use Rattle.std.proofs.lemmas.List.Folds.{list_any-append}
 use Rattle.std.proofs.lemmas.List.{map_push}
 use Rattle.std.proofs.lemmas.Slice.Eq.{bytes_eq-Decides}
+use Rattle.logic_core.proofs.Booleans.{or_false, or_assoc}
 use Rattle.indexmap.specs.IndexSet.{insert_key}
 use Rattle.bpl_model.specs.Module.{Name}
 use Rattle.bpl_model.specs.Names.{names_seen, with_name, with_names, place}
-
-or_false : (b : Bool) → (b || false) ≡ b
-or_false true = refl
-or_false false = refl
-
-or_assoc : (a b c : Bool) → ((a || b) || c) ≡ (a || (b || c))
-or_assoc true b c = refl
-or_assoc false b c = refl
 
 pub any_seen : (t : Name → Bool) (ks : List (Bor Name)) → list_any (λ k. t k.now) ks ≡ list_any t (names_seen ks)
 any_seen t [] = refl

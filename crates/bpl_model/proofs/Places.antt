@@ -5,6 +5,7 @@ use Rattle.std.proofs.Common.{arith, sym, ap, ◌∙◌, subst, get_or, length-s
 use Rattle.std.proofs.lemmas.Bool.{eqb-true, eqb-false, eq-eqb, or_parts, cases_lt}
 use Rattle.std.proofs.lemmas.List.{length-replicate, append-nil, get_or_past}
 use Rattle.std.proofs.lemmas.Slice.Eq.{bytes_eq-Decides}
+use Rattle.logic_core.proofs.Booleans.{same_test as agree}
 use mathlib.Core.Logic.{inl, inr}
 use lib.ListN.{replicate}
 use Rattle.bpl_model.specs.Module.{Name, DeclText, Module}
@@ -12,7 +13,6 @@ use Rattle.bpl_model.specs.Names.{place}
 use Rattle.bpl_model.specs.Reach.{is_named, positions}
 use Rattle.bpl_model.specs.Walk.{text_at, row, with_entry}
 use Rattle.bpl_model.specs.Links.{with_places, named_rows, declared}
-use Rattle.bpl_model.proofs.Members.{agree}
 use Rattle.bpl_model.proofs.NamedAt.{named_at}
 use Rattle.bpl_model.proofs.Rows.{empty_row}
 

@@ -5,20 +5,13 @@ use Rattle.std.specs.Str.{IsAscii, IsUtf8}
 use Rattle.std.proofs.Common.{refl, arith, ap}
 use Rattle.std.proofs.lemmas.Str.{IsUtf8-from_ascii}
 use Rattle.std.proofs.lemmas.Grind.{common_steps}
+use Rattle.bpl_grammar.proofs.Booleans.{and_first, and_second}
 use Rattle.bpl_lex.specs.Token.{Kind, id, number, text, sign, Token}
 use Rattle.bpl_parse.specs.InText.{LiesIn, LieIn}
 use Rattle.bpl_lex.specs.Shape.{kind_of, is_identifier, is_letter, is_digit, is_number, is_string, is_sign}
 
 is_ascii_letter : (b : ℕ) → IsTrue (is_letter b || is_digit b) → b < 128
 is_ascii_letter b h = grind (arith, common_steps)
-
-and_first : (a b : Bool) → IsTrue (a && b) → IsTrue a
-and_first true b h = refl
-and_first false b h = absurd (cc)
-
-and_second : (a b : Bool) → IsTrue (a && b) → IsTrue b
-and_second true b h = h
-and_second false b h = absurd (cc)
 
 all_ascii : (bs : List ℕ) → IsTrue (list_all (λ c. is_letter c || is_digit c) bs) → IsAscii bs
 all_ascii [] h = λ i. omega arith

@@ -2,11 +2,11 @@
 use Rattle.std.proofs.Common.{◌≡◌, ◌∙◌, refl, sym, ap, subst, ℕ, zero, suc, ℤ, int_eq, int_lt, nat_eq, Bool, true, false, ◌&&◌, not, cond, Some, List, [], ◌∷◌, ◌++◌, reverse, slice_get}
 use Rattle.std.proofs.lemmas.Bool.Decides.{Decides-int_eq}
 use Rattle.std.proofs.lemmas.List.{map-append}
+use Rattle.logic_core.proofs.Booleans.{both_true, same_test}
 use mathlib.Core.List.{reverse-cons}
 use Rattle.logic_core.specs.Tree.{Kind, int, map as map_of}
 use Rattle.logic_core.specs.Value.{Value, whole, flag, table, Entries, no_entries, entry, same, look_in, look, kept, put_in, put, above, is_of, are_entries, are_of, at}
-use Rattle.logic_laws.proofs.Options.{both_true, cond_has}
-use Rattle.logic_laws.proofs.Integers.{same_test}
+use Rattle.logic_laws.proofs.Options.{cond_has}
 use Rattle.logic_laws.proofs.SameValue.{same_equal, equal_same}
 use Rattle.logic_laws.proofs.Tables.{at_next, are_of_reverse, are_of_bound}
 use Rattle.bpl_sorts.specs.Types.{Ty, integers, truths, carriers, maps, kind_of, kinds_of}

@@ -1,9 +1,10 @@
 -- What two readings of a sort say of a type, and what the sorts of constructs say of those of their parts.
 use Rattle.std.proofs.Common.{◌≡◌, ◌∙◌, refl, sym, ap, subst, ℕ, zero, suc, Bool, true, ◌&&◌, Option, Some}
+use Rattle.logic_core.proofs.Booleans.{both_true}
 use Rattle.logic_core.specs.Tree.{Kind, int, boolean, map as map_of}
 use Rattle.logic_core.specs.Wide.{when, ◌>>=◌}
 use Rattle.logic_core.specs.Sorts.{is, range, read_sort, write_sort, choice_sort, equation_sort}
-use Rattle.logic_laws.proofs.Options.{both_true, bind_some, when_some}
+use Rattle.logic_laws.proofs.Options.{bind_some, when_some}
 use Rattle.logic_laws.proofs.SortTests.{is_sort}
 use Rattle.bpl_sorts.specs.Types.{Ty, integers, truths, carriers, maps, kind_of}
 use Rattle.bpl_sorts.specs.Apart.{deep, apart}

@@ -1,12 +1,13 @@
 -- A term with a type is well sorted, and its sort is that of the type's values.
 use Rattle.std.proofs.Common.{◌≡◌, ◌∙◌, refl, sym, ap, subst, ℕ, Bool, true, ◌&&◌, Option, Some, List, [], ◌∷◌, ◌++◌, reverse, slice_get, option_map}
 use Rattle.std.proofs.lemmas.Option.{slice_get-map}
+use Rattle.logic_core.proofs.Booleans.{all_true}
 use Rattle.logic_core.specs.Tree.{Kind, int, boolean, Tree, num, truth, free, bound, linear, mul, read, write, choose, call, negation, all, some, equal, at_most, for_all, exists, Trees, no_trees, tree, Parts, no_parts, part, Patterns, no_patterns, pattern}
 use Rattle.logic_core.specs.Def.{Def}
 use Rattle.logic_core.specs.Wide.{when, ◌>>=◌}
 use Rattle.logic_core.specs.Same.{is_some_and}
 use Rattle.logic_core.specs.Sorts.{is, range, sort_of, are, are_formulas, are_ints, have_sorts, have_sorts_in}
-use Rattle.logic_laws.proofs.Options.{all_true, when_true}
+use Rattle.logic_laws.proofs.Options.{when_true}
 use Rattle.logic_laws.proofs.SortTests.{sort_is}
 use Rattle.bpl_sorts.specs.Types.{Ty, integers, truths, maps, kind_of, kinds_of, Head}
 use Rattle.bpl_sorts.specs.Typed.{HasType, HaveTypes, AreTruths, AreIntegers, AreTyped, ArePatterns}

@@ -2,10 +2,10 @@
 -- Here h is what is known of the two scopes, g of their bound variables.
 use Rattle.std.proofs.Common.{◌≡◌, ◌∙◌, refl, sym, ap, subst, ℕ, suc, ◌+◌, arith, Bool, true, false, ◌&&◌, pos, Option, Some, None, List, [], ◌∷◌, ◌++◌, reverse, map, slice_get, append_assoc}
 use Rattle.std.proofs.lemmas.Grind.{reverse_onto}
+use Rattle.logic_core.proofs.Booleans.{both_true}
 use Rattle.logic_core.specs.Tree.{Kind, int, boolean, map as map_of, Tree, num, truth as truth_term, mul, read, write, call as call_term, equal, negation as negation_term, Trees, no_trees, tree}
 use Rattle.logic_core.specs.Wide.{when}
 use Rattle.logic_core.specs.Sorts.{is, read_sort, write_sort, choice_sort, equation_sort}
-use Rattle.logic_laws.proofs.Options.{both_true}
 use Rattle.logic_laws.proofs.SortTests.{is_sort}
 use Rattle.bpl_ast.specs.Place.{Name, Ty as Written}
 use Rattle.bpl_ast.specs.Tree.{Relation, eq, ne, lt, le, gt, ge, for_all, exists, Expr, expr, Node, number, truth, variable, apply, old, choose, quantified, iffs, implies, ands, ors, related, sums, products, negation, minus, indexed, Exprs, no_exprs, item, Terms, no_terms, plus, less, Indices, no_indices, at_index, update, Triggers, no_triggers, trigger, Groups}

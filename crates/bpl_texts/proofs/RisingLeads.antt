@@ -7,6 +7,7 @@ use Rattle.std.proofs.lemmas.Bool.{cases_eq, eq-eqb, ne_eqb}
 use Rattle.std.proofs.lemmas.Cmp.{nat_list_eq_equiv}
 use Rattle.std.proofs.lemmas.List.Folds.{list_any-append}
 use Rattle.std.proofs.lemmas.Option.{slice_get-map}
+use Rattle.logic_core.proofs.Booleans.{and_false}
 use mathlib.Core.Logic.{inl, inr}
 use Rattle.bpl_scopes.specs.Positions.{first_at}
 use Rattle.bpl_scopes.specs.Scopes.{Text, Entry, Table, entry_of}
@@ -43,10 +44,6 @@ decl_seen es (Some i) = ap (option_map (λ (e : Entry). e.decl)) (slice_get-map 
 
 pub decl_looked : (es : List kept) (n : Text) → option_map (λ (e : Entry). e.decl) (entry_of (entries_seen es) n) ≡ looked_decl es (first_at n (map (λ (e : Entry). e.name) (entries_seen es)))
 decl_looked es n = ap (option_map (λ (e : Entry). e.decl)) (entry_first (entries_seen es) n) ∙ decl_seen es (first_at n (map (λ (e : Entry). e.name) (entries_seen es)))
-
-and_false : (b : Bool) → (b && false) ≡ false
-and_false true = refl
-and_false false = refl
 
 spread : (a b c : Bool) → ((a && b) || (a && c)) ≡ (a && (b || c))
 spread true b c = refl

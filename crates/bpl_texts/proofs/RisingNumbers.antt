@@ -10,6 +10,7 @@ use Rattle.std.proofs.lemmas.List.Kept.{Contains-dedup_nat, Contains-from_dedup}
 use Rattle.std.proofs.lemmas.List.Sorted.{list_any-IsPermutation}
 use Rattle.std.proofs.lemmas.Map.Keys.{IsStrictlyIncreasing-dedup, sorted_from_strictly_increasing}
 use Rattle.std.proofs.lemmas.Map.Views.{list_any-from_Contains, Contains-from_any}
+use Rattle.logic_core.proofs.Booleans.{same_test}
 use mathlib.Core.Logic.{inl, inr}
 
 abbrev pub has : ℕ → List ℕ → Bool
@@ -85,13 +86,6 @@ sorted_rises a (x ∷ xs) l h = (l.0, sorted_rises (x + 1) xs (all_from x xs h.0
 from_nothing : (xs : List ℕ) → AllByRecursion (λ y. 0 ≤ y) xs
 from_nothing [] = tt
 from_nothing (x ∷ xs) = (omega arith, from_nothing xs)
-
--- a test that is true where another is, both ways
-same_test : (a b : Bool) → (a ≡ true → b ≡ true) → (b ≡ true → a ≡ true) → a ≡ b
-same_test true true f g = refl
-same_test true false f g = absurd (true≢false (sym (f refl)))
-same_test false true f g = absurd (true≢false (sym (g refl)))
-same_test false false f g = refl
 
 once : (d : ℕ) (xs : List ℕ) → has d (dedup eqb xs) ≡ has d xs
 once d xs = same_test (has d (dedup eqb xs)) (has d xs)

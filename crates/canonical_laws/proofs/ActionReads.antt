@@ -1,6 +1,7 @@
 -- Statements without blocks are read back.
 use Rattle.std.specs.Prelude.{◌≡◌, ℕ, ◌<◌, ◌≤◌, Bool, true, false, ◌&&◌, codes, List, [], ◌∷◌, ◌++◌, drop, length, IsTrue, Ok, Option, Some, None}
 use Rattle.std.proofs.Common.{refl, ◌∙◌, arith}
+use Rattle.bpl_grammar.proofs.Booleans.{no_and_second as and_no}
 use Rattle.bv_base.specs.declared.place.Place.{Place}
 use Rattle.bpl_lex.specs.Token.{id}
 use Rattle.bpl_ast.specs.Place.{Name}
@@ -25,7 +26,7 @@ use Rattle.canonical_laws.specs.Tokens.{action_tokens}
 use Rattle.canonical_laws.specs.Spelled.{token, Spelled, done, next}
 use Rattle.canonical_laws.specs.Ahead.{sees_text}
 use Rattle.canonical_laws.proofs.Parts.{split, spelled_length}
-use Rattle.canonical_laws.proofs.Levels.{and_no, is_unbarred}
+use Rattle.canonical_laws.proofs.Levels.{is_unbarred}
 use Rattle.canonical_laws.proofs.TypeReads.{no_word, name_seen, name_read, names_read}
 use Rattle.canonical_laws.proofs.AtomReads.{list_reads, no_args, some_args}
 use Rattle.canonical_laws.proofs.ExpressionReads.{each_reads}

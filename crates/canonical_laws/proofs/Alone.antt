@@ -3,6 +3,7 @@ use Rattle.std.specs.Prelude.{◌≡◌, ℕ, ◌<◌, ◌^◌, Bool, true, fals
 use Rattle.std.specs.List.{list_all}
 use Rattle.std.proofs.Common.{refl, ap, sym, ◌∙◌, arith}
 use Rattle.std.proofs.lemmas.List.Folds.{list_all-append}
+use Rattle.bpl_grammar.proofs.Booleans.{no_and_second as and_no}
 use Rattle.bpl_lex.specs.Token.{Kind, id, number as number_kind, text, sign, word as word_kind}
 use Rattle.bpl_lex.specs.Shape.{is_letter, is_digit, is_identifier, is_number, is_string, is_sign, among, words, is_blank, is_line_comment, is_block_comment, opens_comment, kind_of, Piece, token, piece_of}
 use Rattle.bpl_lex.proofs.FirstBytes.{differs'}
@@ -13,7 +14,6 @@ use Rattle.canonical_laws.specs.Spelled.{kind_in}
 use Rattle.canonical_laws.specs.Lexed.{IsAlone, IsEnd, space, feed, round, square, comma, semicolon, colon, index as index_end, IsTight, IsNarrow}
 use Rattle.canonical_laws.proofs.LexLines.{alone_by}
 use Prim.Native.String.{String}
-use Rattle.canonical_laws.proofs.Levels.{and_no}
 
 -- a token, before a byte with which no longer one is a piece
 apart_from : (w : List ℕ) (k : Kind) (c : ℕ) (ys : List ℕ) → 0 < length w → kind_of w ≡ Some k → piece_of w ≡ Some (token k) → opens_comment (w ++ c ∷ ys) ≡ false → ((xs : List ℕ) → piece_of (w ++ c ∷ xs) ≡ None) → IsAlone w (c ∷ ys)

@@ -2,6 +2,7 @@
 use Rattle.std.specs.Prelude.{◌≡◌, ℕ, zero, suc, ◌≤◌, nat_lt, Bool, true, false, not, ◌||◌, codes, List, [], ◌∷◌, ◌++◌, drop, IsTrue, Ok, Option, Some, None}
 use Rattle.std.proofs.Common.{refl, ◌∙◌, arith}
 use Rattle.std.proofs.lemmas.Bool.Decides.{nat_tests}
+use Rattle.bpl_grammar.proofs.Booleans.{none_of as no_two, no_not, neither as either_no}
 use Rattle.bv_base.specs.declared.place.Place.{Place}
 use Rattle.bpl_lex.specs.Token.{number as number_kind}
 use Rattle.bpl_ast.specs.Place.{Name}
@@ -22,7 +23,7 @@ use Rattle.canonical_laws.specs.Nestings.{operand_depth, enclosed_depth}
 use Rattle.canonical_laws.specs.Spelled.{token, Spelled, done, next}
 use Rattle.canonical_laws.specs.Ahead.{weight, sees_text, ahead, stops_operand}
 use Rattle.canonical_laws.proofs.Parts.{split, spelled_length, Items, stop, step, items_repeated}
-use Rattle.canonical_laws.proofs.Levels.{no_two, is_barred, is_signed, ReadsAt, no_not, either_no, is_unbarred}
+use Rattle.canonical_laws.proofs.Levels.{is_barred, is_signed, ReadsAt, is_unbarred}
 use Rattle.canonical_laws.proofs.Stopping.{is_ahead}
 use Rattle.canonical_laws.proofs.Operands.{OperandReads, NodeReads}
 use Rattle.canonical_laws.proofs.RunReads.{EachReads}

@@ -1,6 +1,7 @@
 -- Expressions fit the grammar, and one of their tokens lies as deep as is computed.
 use Rattle.std.specs.Prelude.{◌≡◌, ℕ, zero, suc, max, ◌+◌, ◌-◌, ◌≤◌, nat_lt, Bool, true, false, List, [], ◌∷◌, ◌++◌, IsTrue, Option, Some, None, codes}
 use Rattle.std.proofs.Common.{refl, subst, sym, arith, append_assoc}
+use Rattle.bpl_grammar.proofs.Booleans.{neither as either_no}
 use Rattle.bv_base.specs.declared.place.Place.{Place}
 use Rattle.bpl_lex.specs.Token.{id, number as number_kind}
 use Rattle.bpl_ast.specs.Tree.{Relation, eq, ne, lt, le, gt, ge, Expr, expr, Node, related, negation, minus, indexed, Exprs, no_exprs, item, Terms, no_terms, plus, less, Indices, no_indices, at_index, update}
@@ -18,7 +19,6 @@ use Rattle.canonical_laws.specs.Spelled.{token}
 use Rattle.canonical_laws.proofs.Stopping.{lt_false}
 use Rattle.canonical_laws.proofs.Fitting.{Fit, Slack, slack_none, slack_absent, slack_empty_inside, fit_less, slack_less, fit_alone, fit_left, fit_right, slack_left, fit_present, fit_inside, fit_by, fit_text, seq, seq_fits, slack_fits, once_more, loosely}
 use Rattle.canonical_laws.proofs.FitTypes.{fit_bracketed, fit_round, round_then}
-use Rattle.canonical_laws.proofs.Levels.{either_no}
 
 -- levels
 

@@ -1,6 +1,7 @@
 -- Arguments, signatures, specifications and bodies are read back.
 use Rattle.std.specs.Prelude.{◌≡◌, ℕ, zero, suc, max, ◌<◌, ◌≤◌, Bool, true, false, ◌&&◌, ◌||◌, codes, List, [], ◌∷◌, ◌++◌, map, drop, length, IsTrue, Ok, Option, Some, None}
 use Rattle.std.proofs.Common.{refl, arith}
+use Rattle.bpl_grammar.proofs.Booleans.{no_and_second as and_no}
 use Rattle.bv_base.specs.declared.place.Place.{Place}
 use Rattle.bpl_lex.specs.Token.{id}
 use Rattle.bpl_ast.specs.Place.{Name, Ty, integer, boolean, named, map_type}
@@ -32,7 +33,6 @@ use Rattle.canonical_laws.proofs.QuantifiedReads.{groups_read}
 use Rattle.canonical_laws.proofs.ExpressionReads.{each_group}
 use Rattle.canonical_laws.proofs.SimpleReads.{no_attrs, formula_reads}
 use Rattle.canonical_laws.proofs.BlockReads.{EachStmt, stmt_items, stmts_ok}
-use Rattle.canonical_laws.proofs.Levels.{and_no}
 
 -- room for what is inside brackets
 pub raised_fits : (n m : ℕ) → raised n ≤ suc m → n ≤ m

@@ -1,6 +1,7 @@
 -- Reading at each level, and from one level down to another.
 use Rattle.std.specs.Prelude.{◌≡◌, ℕ, zero, suc, ◌+◌, ◌<◌, ◌≤◌, Bool, true, false, not, ◌&&◌, ◌||◌, codes, List, IsTrue, Ok, None}
 use Rattle.std.proofs.Common.{refl, sym, subst, arith}
+use Rattle.bpl_grammar.proofs.Booleans.{no_not, and_parts as both_true, none_of as no_two, no_and_second as and_no, neither as either_no}
 use Rattle.bpl_ast.specs.Tree.{Expr}
 use Rattle.bpl_ast.specs.declared.sign.Sign.TheVariants.{IffSign, ImpliesSign, AndSign, OrSign, RelationSign, TermSign, FactorSign, IndexSign}
 use Rattle.bpl_grammar.specs.Lexeme.{Lexeme}
@@ -49,25 +50,6 @@ pub record ReadsAt (w room : ℕ) (ls us : List Lexeme) (x : Expr) : Type 0 wher
   pub same : bare value ≡ bare x
   pub unsigned : 6 < w → is_signed ls ≡ false
   pub unbarred : is_barred ls ≡ false
-
-pub no_not : (b : Bool) → IsTrue (not b) → b ≡ false
-no_not true h = absurd (cc)
-no_not false h = refl
-
-pub both_true : (a b : Bool) → IsTrue (a && b) → IsTrue a × IsTrue b
-both_true true b h = (refl, h)
-both_true false b h = absurd (cc)
-
-pub no_two : (a b : Bool) → a ≡ false → b ≡ false → (a || b) ≡ false
-no_two a b h k = rw (h, k) refl
-
-pub and_no : (a b : Bool) → b ≡ false → (a && b) ≡ false
-and_no true b h = h
-and_no false b h = refl
-
-pub either_no : (a b : Bool) → (a || b) ≡ false → (a ≡ false) × (b ≡ false)
-either_no true b h = absurd (cc)
-either_no false b h = (refl, h)
 
 pub record IsUnbarred (ls : List Lexeme) : Type 0 where
   pub all : sees_text "forall" ls ≡ false

@@ -10,6 +10,7 @@ use Rattle.std.proofs.lemmas.Fmt.{decimal_is_IsNumeral_wide}
 use Rattle.std.proofs.lemmas.Int.Digits.{digits_value_is}
 use Rattle.std.proofs.lemmas.Str.{digit_value_digit}
 use Rattle.std.proofs.lemmas.Str.Parse.{digit_from_value}
+use Rattle.bpl_grammar.proofs.Booleans.{none_of as no_two}
 use Rattle.bv_base.specs.declared.place.Place.{Place}
 use Rattle.bpl_lex.specs.Token.{number as number_kind}
 use Rattle.bpl_lex.specs.Shape.{is_digit, kind_of}
@@ -22,7 +23,6 @@ use Rattle.bpl_grammar.specs.Terminal.{kind, fixed, sees}
 use Rattle.bpl_grammar.specs.ReadExpressions.{read_inner, read_number, atom_with}
 use Rattle.canonical_laws.specs.Spelled.{token, done, next}
 use Rattle.canonical_laws.proofs.Operands.{NodeReads}
-use Rattle.canonical_laws.proofs.Levels.{no_two}
 
 digit_is : (c : ℕ) → digit_value c < 10 → is_digit c ≡ true
 digit_is c h = grind (arith, nat_tests, digit_from_value c h)

@@ -2,6 +2,7 @@
 use Rattle.std.specs.Prelude.{◌≡◌, ℕ, zero, suc, ◌<◌, ◌≤◌, nat_lt, Bool, true, false, not, ◌&&◌, ◌||◌, List, IsTrue, Option, Some, None}
 use Rattle.std.proofs.Common.{refl, subst, arith}
 use Rattle.std.proofs.lemmas.Bool.Decides.{nat_tests}
+use Rattle.bpl_grammar.proofs.Booleans.{and_both as both_too, neither as either_no, and_parts as both_true, no_not}
 use Rattle.bv_base.specs.declared.place.Place.{Place}
 use Rattle.bpl_ast.specs.Tree.{expr, Node, number, truth, variable, apply, old, choose, quantified, iffs, implies, ands, ors, related, sums, products, negation, minus, indexed}
 use Rattle.bpl_ast.specs.Parens.{level, goes_on, chain_of, compared, is_caught, needs_parens}
@@ -11,7 +12,7 @@ use Rattle.bpl_ast.specs.declared.sign.Chain.{Chain}
 use Rattle.bpl_ast.specs.declared.sign.Chain.TheVariants.{NoChain}
 use Rattle.bpl_grammar.specs.Lexeme.{Lexeme}
 use Rattle.canonical_laws.specs.Ahead.{weight, sees_text, sees_sign, is_sign, only, ahead, stops, stops_operand}
-use Rattle.canonical_laws.proofs.Levels.{either_no, is_passed, both_true, no_not}
+use Rattle.canonical_laws.proofs.Levels.{is_passed}
 
 -- not a sign of this level
 abbrev pub Differs : ℕ → Option Sign → Type 0
@@ -48,10 +49,6 @@ only_no false c e h = h
 
 pub unseen : (b c : Bool) → b ≡ false → IsTrue (only b c) → c ≡ false
 unseen b c e h = no_not c (only_no b c e h)
-
-both_too : (a b : Bool) → IsTrue a → IsTrue b → IsTrue (a && b)
-both_too true b h k = k
-both_too false b h k = absurd (cc)
 
 -- a sign of another level isn't next
 no_sign : (q : Sign) (s : Option Sign) → Differs (weight q) s → is_sign q s ≡ false

@@ -3,6 +3,7 @@ use Rattle.std.proofs.Common.{◌≡◌, ◌∙◌, refl, sym, ap, subst, arith,
 use Rattle.std.proofs.lemmas.Grind.{flat_map-append}
 use Rattle.std.specs.List.{AllByRecursion, list_all}
 use Rattle.std.proofs.lemmas.List.Elements.{recursion_from_All}
+use Rattle.logic_core.proofs.Booleans.{both_true}
 use Rattle.bv_base.specs.declared.place.Place.{Place}
 use Rattle.bpl_lex.specs.Token.{Kind, id, number, text, sign, word, Token, text_of}
 use Rattle.bpl_lex.specs.Shape.{is_letter, is_digit, is_identifier, is_number, is_string, is_sign, among, words, kind_of}
@@ -26,10 +27,6 @@ use Rattle.report_text.specs.Lines.{line_feed, count, IsWithout}
 use Rattle.report_text.specs.Called.{colon, IsName}
 
 -- ---- an identifier is a name
-
-both_true : (a b : Bool) → (a && b) ≡ true → (a ≡ true) × (b ≡ true)
-both_true true b e = (refl, e)
-both_true false b e = absurd (cc)
 
 abbrev one_if : Bool → ℕ
 one_if b = cond b 1 0

@@ -3,6 +3,7 @@
 use Rattle.std.proofs.Common.{◌≡◌, ◌∙◌, refl, sym, ap, subst, ℕ, ◌*◌, ℤ, pos, negsuc, ◌+ℤ◌, ◌*ℤ◌, int_lt, int_le, int_eq, Bool, true, false, not, ◌&&◌, IsTrue, Some, List, arith}
 use Rattle.std.proofs.Math.IntN.{pos-*ℤ-pos}
 use Rattle.std.proofs.lemmas.Int.{ints}
+use Rattle.logic_core.proofs.Booleans.{both_true}
 use Rattle.logic_core.specs.Tree.{Kind, int, boolean, Tree, num, equal, at_most}
 use Rattle.logic_core.specs.Def.{Def}
 use Rattle.logic_core.specs.Value.{Value, whole, flag, int_of, holds, same, are_of}
@@ -16,7 +17,7 @@ use Rattle.logic_core.proofs.Kept.{Keeps, keeps, true_stable}
 use Rattle.logic_core.proofs.Defined.{has_defined, keeps_defined}
 use Rattle.logic_laws.specs.Assignment.{IsAssignment, ValueIs, HoldsThere}
 use Rattle.logic_laws.proofs.Integers as Z
-use Rattle.logic_laws.proofs.Options.{both_true, when_some}
+use Rattle.logic_laws.proofs.Options.{when_some}
 use Rattle.logic_laws.proofs.SameValue.{same_equal, value_stable}
 use Rattle.logic_laws.proofs.Gives.{Gives, said, gives}
 use Rattle.logic_laws.proofs.ValueSorts.{CallsHaveSorts}

@@ -3,6 +3,7 @@
 use Rattle.std.proofs.Common.{◌≡◌, ◌∙◌, refl, sym, ap, ℕ, ℤ, pos, ◌+ℤ◌, ◌*ℤ◌, true, ◌&&◌, Some, List, int_eq, arith}
 use Rattle.std.proofs.lemmas.Int.{ints}
 use Rattle.std.proofs.lemmas.Bool.Decides.{Decides-int_eq}
+use Rattle.logic_core.proofs.Booleans.{both_true}
 use Rattle.logic_core.specs.Tree.{Kind, Tree, num, linear, Parts, no_parts, part}
 use Rattle.logic_core.specs.Def.{Def}
 use Rattle.logic_core.specs.Value.{Value, whole, int_of, are_of}
@@ -12,7 +13,7 @@ use Rattle.logic_core.specs.Combine.{sum_of, add_multiple, combined}
 use Rattle.logic_core.proofs.Values.{HasOne}
 use Rattle.logic_core.proofs.Kept.{Keeps}
 use Rattle.logic_laws.proofs.Integers as Z
-use Rattle.logic_laws.proofs.Options.{both_true, bind_some, cond_has}
+use Rattle.logic_laws.proofs.Options.{bind_some, cond_has}
 use Rattle.logic_laws.proofs.Gives.{Gives, GivesSum}
 use Rattle.logic_laws.proofs.ValueSorts.{CallsHaveSorts}
 use Rattle.logic_laws.proofs.SumValues.{GivesLinear, constant_gives, term_gives}

@@ -1,9 +1,9 @@
 -- A definition's body has the definition's sort over all definitions, and over more variables.
 use Rattle.std.proofs.Common.{◌≡◌, refl, subst, ℕ, zero, suc, true, Some, List, [], ◌∷◌, ◌++◌, reverse, slice_get, append_assoc}
+use Rattle.logic_core.proofs.Booleans.{both_true, all_true}
 use Rattle.logic_core.specs.Tree.{Kind}
 use Rattle.logic_core.specs.Def.{Def}
 use Rattle.logic_core.specs.Sorts.{is, sort_of, bodies_sorted}
-use Rattle.logic_laws.proofs.Options.{both_true, all_true}
 use Rattle.logic_laws.proofs.SortTests.{is_sort, sort_is}
 use Rattle.logic_laws.proofs.SortFrame.{Within, within_more, within_itself, sort_over}
 

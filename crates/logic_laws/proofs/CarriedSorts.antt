@@ -1,10 +1,11 @@
 -- Where the parts of a term are changed and keep their sorts, the term keeps its own; also over other variables, definitions and binders.
 -- Here f, g and h carry the sorts of the parts, s is the sort of the term, p the sorts of its parts.
 use Rattle.std.proofs.Common.{◌≡◌, refl, sym, subst, ℕ, ℤ, true, ◌&&◌, Some, List, [], ◌∷◌, ◌++◌, reverse, slice_get}
+use Rattle.logic_core.proofs.Booleans.{both_true, all_true}
 use Rattle.logic_core.specs.Tree.{Kind, int, boolean, map, Tree, linear, mul, read, write, choose, call, negation, all, some, equal, at_most, for_all, Trees, no_trees, tree, Parts, part, Patterns, pattern}
 use Rattle.logic_core.specs.Def.{Def}
 use Rattle.logic_core.specs.Sorts.{is, sort_of, are, are_formulas, are_ints, have_sorts, have_sorts_in}
-use Rattle.logic_laws.proofs.Options.{both_true, all_true, when_some, when_true}
+use Rattle.logic_laws.proofs.Options.{when_some, when_true}
 use Rattle.logic_laws.proofs.SortTests.{sort_is}
 use Rattle.logic_laws.proofs.SumSorts.{first_int, mul_sort, at_most_sort}
 use Rattle.logic_laws.proofs.FormulaSorts.{first_formula, one_more_formula, part_of_negation, negation_sort, parts_of_at_most, parts_of_equal, equal_sort, choose_sort, parts_of_quantifier, quantifier_sort}

@@ -1,6 +1,7 @@
 -- Calls of well-sorted definitions have values of their sorts.
 use Rattle.std.proofs.Common.{◌≡◌, refl, sym, ap, subst, ℕ, zero, suc, ◌+◌, pos, nat_eq, eqb-true, eq-eqb, Bool, true, false, Some, IsTrue, List, [], ◌∷◌, ◌++◌, reverse, slice_get, length, length-append, ◌⊎◌, inl, inr, ⊎_elim, arith, append_assoc, append-nil}
 use Rattle.std.proofs.lemmas.Option.{slice_get_within}
+use Rattle.logic_core.proofs.Booleans.{both_true}
 use Rattle.logic_core.specs.Tree.{Kind, Tree}
 use Rattle.logic_core.specs.Def.{Def}
 use Rattle.logic_core.specs.Value.{Value, whole, is_of, are_of}
@@ -9,7 +10,6 @@ use Rattle.logic_core.specs.Valid.{Calls, with_def, calls_from, calls_of}
 use Rattle.logic_core.specs.Sorts.{is, sort_of, bodies_sorted}
 use Rattle.logic_core.proofs.Values.{HasOne, one, chosen, has_value}
 use Rattle.logic_core.proofs.Kept.{Keeps, true_stable, keeps_if, keeps}
-use Rattle.logic_laws.proofs.Options.{both_true}
 use Rattle.logic_laws.proofs.SortTests.{is_sort}
 use Rattle.logic_laws.proofs.Tables.{are_of_reverse}
 use Rattle.logic_laws.proofs.Gives.{said, gives}

@@ -3,11 +3,12 @@ use Rattle.std.proofs.Common.{◌≡◌, ◌∙◌, refl, sym, ap, subst, ℕ, z
 use Rattle.std.proofs.lemmas.Int.{ints, unsigned_abs-mul}
 use Rattle.std.proofs.Math.Nat.{mod-eq-sub-mul-div, mul-sub}
 use Rattle.std.proofs.lemmas.Bool.Decides.{Decides-int_eq}
+use Rattle.logic_core.proofs.Booleans.{same_test}
 use Rattle.logic_core.specs.Tree.{Parts, no_parts, part}
 use Rattle.logic_core.specs.Tighten.{gcd_within, gcd, parts_gcd, floor_div}
 use Rattle.logic_laws.specs.Divisors.{Divides, DividesInt, DividesParts, PartsGcdIsGreatest}
 use Rattle.logic_laws.proofs.Options.{cond_has}
-use Rattle.logic_laws.proofs.Integers.{times_plus, times_minus, plus_zero, same_test}
+use Rattle.logic_laws.proofs.Integers.{times_plus, times_minus, plus_zero}
 
 divides_itself : (n : ℕ) → Divides n n
 divides_itself n = (1, omega arith)

@@ -1,6 +1,7 @@
 -- Junctions, negations and equations of well-sorted terms are formulas.
 -- Here s is the sort of a term, h that the terms of a list are formulas, e what the computation gives; p and q are its steps, f the sorts of the parts.
 use Rattle.std.proofs.Common.{◌≡◌, refl, sym, subst, pos, negsuc, Bool, true, false, ◌&&◌, not, if◌then◌else◌, Some, option_map, List, ◌++◌, reverse, int_eq}
+use Rattle.logic_core.proofs.Booleans.{both_true, all_true}
 use Rattle.logic_core.specs.Tree.{Kind, int, boolean, map, Tree, num, truth, choose, negation, all, some, equal, at_most, for_all, exists, Trees, no_trees, tree, Patterns}
 use Rattle.logic_core.specs.Def.{Def}
 use Rattle.logic_core.specs.Wide.{◌>>=◌, when}
@@ -11,7 +12,7 @@ use Rattle.logic_core.specs.declared.junction.Connective.{Connective}
 use Rattle.logic_core.specs.declared.junction.Connective.TheVariants.{And, Or}
 use Rattle.logic_core.specs.Junction.{append, has_truth, neutral, joined, with_operand, operands, joined_or_alone, junction, conjunction, disjunction, is_zero, negated, negated_each}
 use Rattle.logic_core.specs.Normal.{choice, has_negative_lead, equals_zero, zero_at_most, equivalence_with, equivalence, equation_of, equation, inequality, quantified}
-use Rattle.logic_laws.proofs.Options.{both_true, all_true, some_has, bind_some, map_some, when_some, when_true, cond_has, cond_some}
+use Rattle.logic_laws.proofs.Options.{some_has, bind_some, map_some, when_some, when_true, cond_has, cond_some}
 use Rattle.logic_laws.proofs.SortTests.{is_sort, sort_is}
 use Rattle.logic_laws.proofs.SumSorts.{in_order_has, affine_sort, difference_sort, at_most_sort}
 

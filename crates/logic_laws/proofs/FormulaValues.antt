@@ -18,7 +18,7 @@ use Rattle.logic_core.proofs.Values.{HasOne}
 use Rattle.logic_core.proofs.Kept.{Keeps, keeps, true_stable}
 use Rattle.logic_core.proofs.SameTerm.{same_is_equal}
 use Rattle.logic_laws.proofs.Integers as Z
-use Rattle.logic_laws.proofs.Booleans as B
+use Rattle.logic_core.proofs.Booleans as B
 use Rattle.logic_laws.proofs.Options.{some_has, bind_some, map_some, cond_has, cond_some}
 use Rattle.logic_laws.proofs.SumSorts.{in_order_has, difference_sort}
 use Rattle.logic_laws.proofs.FormulaSorts.{first_formula, parts_of_all, operands_formulas, negated_formulas, part_of_negation, parts_of_at_most, parts_of_quantifier}

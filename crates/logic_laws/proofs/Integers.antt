@@ -3,6 +3,7 @@ use Rattle.std.proofs.Common.{◌≡◌, ◌∙◌, sym, ap, refl, ℕ, zero, su
 use lib.IntN.{suc_ℤ-*ℤ, pred_ℤ-*ℤ, zero-*ℤ, +ℤ_invr}
 use Rattle.std.proofs.lemmas.Int.{ints}
 use Rattle.std.proofs.lemmas.Bool.Decides.{Decides-int_eq}
+use Rattle.logic_core.proofs.Booleans.{same_test}
 
 pos_times_plus : (n : ℕ) (a b : ℤ) → pos n *ℤ (a +ℤ b) ≡ (pos n *ℤ a) +ℤ (pos n *ℤ b)
 pos_times_plus zero a b = omega (arith, ints)
@@ -39,13 +40,6 @@ neg_times_times (suc n) a b = omega (arith, ints, ap (λ x. x *ℤ b) (pred_ℤ-
 pub times_times : (k a b : ℤ) → (k *ℤ a) *ℤ b ≡ k *ℤ (a *ℤ b)
 times_times (pos n) a b = pos_times_times n a b
 times_times (negsuc n) a b = neg_times_times n a b
-
--- tests that pass alike are equal
-pub same_test : (p q : Bool) → (p ≡ true → q ≡ true) → (q ≡ true → p ≡ true) → p ≡ q
-same_test true true f g = refl
-same_test true false f g = sym (f refl)
-same_test false true f g = g refl
-same_test false false f g = refl
 
 -- a = b where a - b is zero
 pub difference_zero : (a b : ℤ) → int_eq (a +ℤ (negsuc 0 *ℤ b)) (pos 0) ≡ int_eq a b

@@ -9,7 +9,6 @@ pub mod Gives
 pub mod Tables
 pub mod ValueSorts
 pub mod SumValues
-pub mod Booleans
 pub mod FormulaValues
 pub mod NormalValues
 pub mod DefinedSorts

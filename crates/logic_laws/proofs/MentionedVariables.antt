@@ -1,6 +1,7 @@
 -- A term has one value for all values of the variables that neither it nor a definition mentions.
 use Rattle.std.proofs.Common.{◌≡◌, ◌∙◌, refl, ℕ, ◌+◌, pos, ℤ, nat_eq, eq-eqb, Bool, true, false, ◌||◌, IsTrue, List, [], ◌∷◌, ◌++◌, reverse}
 use Rattle.std.specs.List.{list_any}
+use Rattle.logic_core.proofs.Booleans.{or_first, or_second}
 use Rattle.logic_core.specs.Tree.{Tree, num, truth, free, bound, linear, mul, read, write, choose, call, negation, all, some, equal, at_most, for_all, exists, Trees, no_trees, tree, Parts, no_parts, part, Patterns}
 use Rattle.logic_core.specs.Def.{Def}
 use Rattle.logic_core.specs.Value.{Value, whole, holds, at}
@@ -15,14 +16,6 @@ use Rattle.logic_core.proofs.Defined.{has_defined, keeps_defined}
 use Rattle.logic_laws.specs.VariableLaws.{mentions}
 use Rattle.logic_laws.proofs.SameValue.{value_stable}
 use Rattle.logic_laws.proofs.Gives.{decided_every, decided_some, if_map, Gives, GivesEach, GivesEvery, GivesAny, GivesSum, same_values}
-
-or_first : (a b : Bool) → a ≡ true → (a || b) ≡ true
-or_first true b e = refl
-or_first false b e = absurd (cc)
-
-or_second : (a b : Bool) → b ≡ true → (a || b) ≡ true
-or_second true b e = refl
-or_second false b e = e
 
 -- each value that a call has here, it has there
 abbrev AllCalls : Calls → Calls → Type 0

@@ -1,6 +1,7 @@
 -- A normal form has the sort of its term.
 -- Here e is what the normal form is made of, s the sort of the term; p, q, o are the steps of the normal form, f and g the sorts of the parts.
 use Rattle.std.proofs.Common.{◌≡◌, ℕ, refl, sym, subst, Bool, true, ◌&&◌, Option, Some, None, option_map, List, [], ◌∷◌, ◌++◌, reverse, slice_get}
+use Rattle.logic_core.proofs.Booleans.{both_true, all_true}
 use Rattle.logic_core.specs.Tree.{Kind, int, boolean, map, Tree, num, truth, free, bound, linear, mul, read, write, choose, call, negation, all, some, equal, at_most, for_all, exists, Trees, no_trees, tree, Parts, no_parts, part, Patterns, no_patterns, pattern}
 use Rattle.logic_core.specs.Def.{Def}
 use Rattle.logic_core.specs.Wide.{◌>>=◌, when}
@@ -10,7 +11,7 @@ use Rattle.logic_core.specs.Sum.{Linear, constant, term_of, add_term, product}
 use Rattle.logic_core.specs.declared.junction.Connective.TheVariants.{And, Or}
 use Rattle.logic_core.specs.Junction.{conjunction, disjunction, negated}
 use Rattle.logic_core.specs.Normal.{choice, equation, inequality, quantified, normal, normal_each, normal_sum, normal_patterns}
-use Rattle.logic_laws.proofs.Options.{both_true, all_true, some_has, bind_some, map_some, when_some, when_true}
+use Rattle.logic_laws.proofs.Options.{some_has, bind_some, map_some, when_some, when_true}
 use Rattle.logic_laws.proofs.SortTests.{is_sort, sort_is}
 use Rattle.logic_laws.proofs.SumSorts.{first_int, sum_sort, term_ints, product_sort}
 use Rattle.logic_laws.proofs.FormulaSorts.{first_formula, one_more_formula, junction_sort, part_of_negation, negated_sort, parts_of_at_most, inequality_sort, parts_of_equal, equation_sort, choice_sort, parts_of_quantifier, quantifier_sort, quantified_sort}

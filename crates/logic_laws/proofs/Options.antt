@@ -1,14 +1,7 @@
 -- What tests and computations that may give nothing say of their parts.
 use Rattle.std.proofs.Common.{◌≡◌, refl, subst, Bool, true, false, ◌&&◌, cond, Option, Some, None, option_map}
+use Rattle.logic_core.proofs.Booleans.{both_true, all_true}
 use Rattle.logic_core.specs.Wide.{◌>>=◌, when}
-
-pub both_true : (a b : Bool) → (a && b) ≡ true → (a ≡ true) × (b ≡ true)
-both_true true b h = (refl, h)
-both_true false b h = absurd (cc)
-
-pub all_true : (a b : Bool) → a ≡ true → b ≡ true → (a && b) ≡ true
-all_true true b h k = k
-all_true false b h k = absurd (cc)
 
 pub some_has : {A : Type 0} (P : A → Type 0) (x y : A) → Some x ≡ Some y → P x → P y
 some_has P x y e h = let q : x ≡ y = cc in subst P q h

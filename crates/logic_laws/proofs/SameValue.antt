@@ -1,20 +1,9 @@
 -- The test of values is equality, and equations of values can be shown by contradiction.
 use Rattle.std.proofs.Common.{◌≡◌, refl, sym, ap, subst, Bool, true, false, ◌&&◌, int_eq}
 use Rattle.std.proofs.lemmas.Bool.Decides.{Decides-int_eq}
+use Rattle.logic_core.proofs.Booleans.{both_true, all_true, same_test, bool_equal, bool_itself}
 use Rattle.logic_core.specs.Value.{Value, whole, flag, table, Entries, no_entries, entry, bool_eq, same, same_entries}
 use Rattle.logic_core.proofs.Kept.{Stable}
-use Rattle.logic_laws.proofs.Options.{both_true, all_true}
-use Rattle.logic_laws.proofs.Integers.{same_test}
-
-bool_equal : (b c : Bool) → bool_eq b c ≡ true → b ≡ c
-bool_equal true true h = refl
-bool_equal false false h = refl
-bool_equal true false h = absurd (cc)
-bool_equal false true h = absurd (cc)
-
-bool_itself : (b : Bool) → bool_eq b b ≡ true
-bool_itself true = refl
-bool_itself false = refl
 
 mutual
   pub same_equal : (v w : Value) → same v w ≡ true → v ≡ w

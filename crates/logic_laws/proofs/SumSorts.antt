@@ -1,13 +1,14 @@
 -- Sums and products of numbers are numbers.
 -- Here s is a sort, h that the atoms so far are numbers, e what the computation gives; p and q are its steps, f the sorts of the first part and of the rest.
 use Rattle.std.proofs.Common.{◌≡◌, refl, sym, subst, ℤ, pos, negsuc, ◌+ℤ◌, ◌*ℤ◌, true, ◌&&◌, Some, None, option_map, List, int_eq, Ordering, Less, Equal, Greater}
+use Rattle.logic_core.proofs.Booleans.{both_true, all_true}
 use Rattle.logic_core.specs.Tree.{Kind, int, boolean, Tree, num, linear, mul, at_most, Parts, no_parts, part}
 use Rattle.logic_core.specs.Def.{Def}
 use Rattle.logic_core.specs.Order.{order}
 use Rattle.logic_core.specs.Wide.{◌>>=◌, checked_add, checked_mul, checked}
 use Rattle.logic_core.specs.Sorts.{is, sort_of, are_ints}
 use Rattle.logic_core.specs.Sum.{Linear, constant, with_part, add_atom, add_number, add_parts, add_term, sum_term, term_of, affine, difference, in_order, product_with, product}
-use Rattle.logic_laws.proofs.Options.{both_true, all_true, some_has, bind_some, map_some, when_some, when_true, cond_has, cond_some}
+use Rattle.logic_laws.proofs.Options.{some_has, bind_some, map_some, when_some, when_true, cond_has, cond_some}
 use Rattle.logic_laws.proofs.SortTests.{is_sort, sort_is}
 
 -- what a pair put in order has, where both orders have it

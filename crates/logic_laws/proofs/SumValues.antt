@@ -2,6 +2,7 @@
 -- Here i is a sort, f that the values for the bound variables fit, g and h the values of terms and sums, e what the computation gives; p and q are its steps.
 use Rattle.std.proofs.Common.{◌≡◌, ◌∙◌, refl, sym, ap, subst, ℕ, ℤ, pos, negsuc, ◌+ℤ◌, ◌*ℤ◌, true, ◌&&◌, Some, option_map, List, int_eq, Ordering, Less, Equal, Greater}
 use Rattle.std.proofs.lemmas.Bool.Decides.{Decides-int_eq}
+use Rattle.logic_core.proofs.Booleans.{both_true}
 use Rattle.logic_core.specs.Tree.{Kind, int, Tree, num, linear, mul, Parts, no_parts, part}
 use Rattle.logic_core.specs.Def.{Def}
 use Rattle.logic_core.specs.Order.{order}
@@ -14,7 +15,7 @@ use Rattle.logic_core.proofs.OrderEqual.{order_is_equal}
 use Rattle.logic_core.proofs.Values.{HasOne}
 use Rattle.logic_core.proofs.Kept.{Keeps}
 use Rattle.logic_laws.proofs.Integers as Z
-use Rattle.logic_laws.proofs.Options.{both_true, some_has, bind_some, map_some, cond_has}
+use Rattle.logic_laws.proofs.Options.{some_has, bind_some, map_some, cond_has}
 use Rattle.logic_laws.proofs.SumSorts.{in_order_has, checked_is, number_is, first_int, term_ints}
 use Rattle.logic_laws.proofs.Tables.{of_int}
 use Rattle.logic_laws.proofs.Gives.{Gives, GivesSum, gives_one}

@@ -3,9 +3,10 @@ use Rattle.std.proofs.Common.{◌≡◌, refl, sym, ap, subst, ℕ, zero, suc, �
 use mathlib.Core.List.{reverse-cons}
 use Rattle.std.proofs.lemmas.Bool.Decides.{Decides-int_eq}
 use Rattle.std.proofs.lemmas.Int.{ints}
+use Rattle.logic_core.proofs.Booleans.{both_true, all_true}
 use Rattle.logic_core.specs.Tree.{Kind, int, boolean, map}
 use Rattle.logic_core.specs.Value.{Value, whole, flag, table, Entries, no_entries, entry, same, look_in, look, kept, put_in, put, above, is_of, are_entries, are_of, at}
-use Rattle.logic_laws.proofs.Options.{both_true, all_true, cond_has}
+use Rattle.logic_laws.proofs.Options.{cond_has}
 
 pub at_next : (v : Value) (vs : List Value) (n : ℕ) → at (v ∷ vs) (suc n) ≡ at vs n
 at_next v vs n = cond_has (λ x. x ≡ at vs n) (nat_eq (suc n) 0) v (at vs (suc n - 1)) (λ e. absurd (let q : suc n ≡ 0 = eqb-true (suc n) 0 e in omega arith)) (λ _. let q : suc n - 1 ≡ n = omega arith in ap (at vs) q)

@@ -1,6 +1,7 @@
 -- Tightening keeps sorts and values.
 -- Here s is the sort of a term, f that the values for the bound variables fit, g the values of its parts, l that the divisor is above 0, r the divided sum with its value.
 use Rattle.std.proofs.Common.{◌≡◌, ◌∙◌, refl, sym, ap, subst, ℕ, ◌<◌, ◌%◌, nat_lt, nat_eq, eqb-true, false-eqb, ltb-true, ℤ, pos, ◌+ℤ◌, ◌*ℤ◌, unsigned_abs, int_le, int_eq, Bool, true, false, not, if◌then◌else◌, Some, List, arith}
+use Rattle.logic_core.proofs.Booleans.{all_true}
 use Rattle.logic_core.specs.Tree.{Kind, int, boolean, Tree, num, truth, linear, negation, equal, at_most, Parts, no_parts, part}
 use Rattle.logic_core.specs.Def.{Def}
 use Rattle.logic_core.specs.Value.{Value, whole, flag, int_of, holds, same, are_of}
@@ -11,7 +12,7 @@ use Rattle.logic_core.specs.Tighten.{parts_gcd, floor_div, divided, tight_sum, t
 use Rattle.logic_core.proofs.Values.{HasOne}
 use Rattle.logic_core.proofs.Kept.{Keeps}
 use Rattle.logic_laws.proofs.Integers as Z
-use Rattle.logic_laws.proofs.Options.{all_true, when_some, cond_has}
+use Rattle.logic_laws.proofs.Options.{when_some, cond_has}
 use Rattle.logic_laws.proofs.SortTests.{sort_is}
 use Rattle.logic_laws.proofs.SumSorts.{first_int, sum_sort, at_most_sort}
 use Rattle.logic_laws.proofs.FormulaSorts.{negation_sort, part_of_negation, parts_of_at_most, parts_of_equal, equal_sort}

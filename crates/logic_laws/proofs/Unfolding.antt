@@ -2,6 +2,7 @@
 -- Here e is that the definitions below are n, s that the bodies are well sorted.
 use Rattle.std.proofs.Common.{◌≡◌, ◌∙◌, refl, sym, subst, ℕ, ◌+◌, ◌<◌, ◌≤◌, pos, nat_eq, eqb-true, eq-eqb, Bool, true, false, Some, List, [], ◌∷◌, ◌++◌, reverse, slice_get, length, length-append, ◌⊎◌, inl, inr, ⊎_elim, arith, append_assoc, append-nil}
 use Rattle.std.proofs.lemmas.Option.{slice_get_within}
+use Rattle.logic_core.proofs.Booleans.{both_true}
 use Rattle.logic_core.specs.Tree.{Kind}
 use Rattle.logic_core.specs.Def.{Def}
 use Rattle.logic_core.specs.Value.{Value, whole}
@@ -11,7 +12,6 @@ use Rattle.logic_core.specs.Sorts.{is, sort_of, bodies_sorted}
 use Rattle.logic_core.proofs.Values.{HasOne, one, chosen, has_value}
 use Rattle.logic_core.proofs.Kept.{Keeps, keeps_if, keeps}
 use Rattle.logic_core.proofs.Replaced.{Same}
-use Rattle.logic_laws.proofs.Options.{both_true}
 use Rattle.logic_laws.proofs.SortTests.{is_sort}
 use Rattle.logic_laws.proofs.SameValue.{value_stable}
 use Rattle.logic_laws.proofs.ValueFrame.{Agree, agree_itself, SameCalls, same_over}

@@ -1,6 +1,7 @@
 -- What a term doesn't mention doesn't matter: variables, binders and definitions beyond those over which it is well sorted.
 -- Here a is that the values for the bound variables agree, s the sort of the term, g the values of the parts, p their sorts.
 use Rattle.std.proofs.Common.{◌≡◌, ◌∙◌, refl, sym, ap, ℕ, zero, suc, ◌-◌, ◌<◌, ◌≤◌, ℤ, Bool, true, Some, IsTrue, List, [], ◌∷◌, ◌++◌, reverse, slice_get, length, arith}
+use Rattle.logic_core.proofs.Booleans.{both_true}
 use Rattle.logic_core.specs.Tree.{Kind, int, boolean, map, Tree, num, truth, free, bound, linear, mul, read, write, choose, call, negation, all, some, equal, at_most, for_all, exists, Trees, no_trees, tree, Parts, no_parts, part}
 use Rattle.logic_core.specs.Def.{Def}
 use Rattle.logic_core.specs.Value.{Value, holds, is_of, are_of, at}
@@ -10,7 +11,7 @@ use Rattle.logic_core.specs.Sorts.{sort_of, are, are_formulas, are_ints}
 use Rattle.logic_core.proofs.Values.{HasOne}
 use Rattle.logic_core.proofs.Kept.{Keeps, true_stable}
 use Rattle.logic_core.proofs.Replaced.{Same}
-use Rattle.logic_laws.proofs.Options.{both_true, when_some}
+use Rattle.logic_laws.proofs.Options.{when_some}
 use Rattle.logic_laws.proofs.SumSorts.{first_int}
 use Rattle.logic_laws.proofs.FormulaSorts.{first_formula, part_of_negation, parts_of_at_most, parts_of_equal, parts_of_quantifier}
 use Rattle.logic_laws.proofs.NormalSorts.{parts_of_mul, parts_of_read, parts_of_write, parts_of_choose, parts_of_call, first_of_sort}

@@ -1,6 +1,7 @@
 -- A term's value is of its sort.
 -- Here s is the sort of the term, h that the values for the bound variables fit, g the values of the parts, f their sorts.
 use Rattle.std.proofs.Common.{◌≡◌, refl, sym, subst, ℕ, ◌+ℤ◌, ◌*ℤ◌, int_le, Bool, true, false, ◌&&◌, not, Some, IsTrue, List, [], ◌∷◌, ◌++◌, reverse, slice_get, inl, inr}
+use Rattle.logic_core.proofs.Booleans.{all_true}
 use Rattle.logic_core.specs.Tree.{Kind, int, boolean, map, Tree, num, truth, free, bound, linear, mul, read, write, choose, call, negation, all, some, equal, at_most, for_all, exists, Trees, no_trees, tree}
 use Rattle.logic_core.specs.Def.{Def}
 use Rattle.logic_core.specs.Value.{Value, whole, flag, int_of, holds, same, look, put, is_of, are_of, at}
@@ -9,7 +10,7 @@ use Rattle.logic_core.specs.Valid.{Calls}
 use Rattle.logic_core.specs.Sorts.{is, sort_of, are, are_formulas, are_ints, have_sorts_in}
 use Rattle.logic_core.proofs.Values.{HasOne}
 use Rattle.logic_core.proofs.Kept.{true_stable}
-use Rattle.logic_laws.proofs.Options.{all_true, when_some}
+use Rattle.logic_laws.proofs.Options.{when_some}
 use Rattle.logic_laws.proofs.FormulaSorts.{parts_of_equal}
 use Rattle.logic_laws.proofs.NormalSorts.{parts_of_mul, parts_of_read, parts_of_write, parts_of_choose, parts_of_call, first_of_sort}
 use Rattle.logic_laws.proofs.Tables.{at_sort, look_sort, put_sort}

@@ -2,9 +2,10 @@
 use Rattle.std.proofs.Common.{◌≡◌, ◌∙◌, refl, sym, ap, subst, ℤ, pos, negsuc, ◌+ℤ◌, int_lt, int_eq, Bool, true, false, not, cond, arith, ◌⊎◌, inl, inr}
 use Rattle.std.proofs.lemmas.Bool.Decides.{Decides-int_eq}
 use Rattle.std.proofs.lemmas.Int.{ints}
+use Rattle.logic_core.proofs.Booleans.{both_true}
 use Rattle.logic_core.specs.Tree.{Kind, map}
 use Rattle.logic_core.specs.Value.{Value, whole, flag, table, Entries, no_entries, entry, same, look_in, look, kept, put_in, put, above, is_of, are_entries}
-use Rattle.logic_laws.proofs.Options.{both_true, cond_has}
+use Rattle.logic_laws.proofs.Options.{cond_has}
 use Rattle.logic_laws.proofs.SameValue.{same_equal, equal_same}
 use Rattle.logic_laws.proofs.Tables.{parts_of_entry, above_less, above_other}
 

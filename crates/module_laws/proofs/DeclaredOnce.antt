@@ -2,6 +2,7 @@
 use Rattle.std.proofs.Common.{◌≡◌, refl, ap, sym, ◌∙◌, subst, ℕ, ◌+◌, true, false, ◌||◌, List, [], ◌∷◌, ◌++◌, append_assoc, Some, option_map}
 use Rattle.std.specs.Prelude.{⊤, bytes_eq, cond}
 use Rattle.std.specs.List.{AllByRecursion}
+use Rattle.logic_core.proofs.Booleans.{neither as either_false}
 use Rattle.bpl_ast.specs.Place.{Name, Ty}
 use Rattle.bpl_ast.specs.Statement.{DeclBody, constant, function, axiom_of, variables, synonym, procedure, implementation, Decl}
 use Rattle.bpl_scopes.specs.declared.fault.TypeKind.TheVariants.{Twice as twice}
@@ -9,7 +10,7 @@ use Rattle.bpl_scopes.specs.Fault.{again, is_among}
 use Rattle.bpl_scopes.specs.Scopes.{Text, Entity, a_constant, a_global, a_procedure, Entry, Table, Counts, counts_with, declared_names, typed_names, names_of, only_names, texts_of, entries_from, entries_of, entries_after, entry_of, entity_of}
 use Rattle.bpl_declaration_faults.specs.DeclFaults.{decl_faults, Before, before_with}
 use Rattle.module_laws.proofs.HasSort.{first_empty}
-use Rattle.module_laws.proofs.GoesForward.{either_false, not_equal, if_so_empty}
+use Rattle.module_laws.proofs.GoesForward.{not_equal, if_so_empty}
 use Rattle.module_laws.proofs.Ways.{text_itself}
 use Rattle.module_laws.proofs.EntriesFine.{NoFaults}
 

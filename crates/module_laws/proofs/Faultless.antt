@@ -2,6 +2,7 @@
 use Rattle.std.proofs.Common.{◌≡◌, refl, ap, sym, ◌∙◌, subst, Bool, true, false, ℕ, suc, pred, arith, nat_eq, length, List, [], ◌∷◌, ◌++◌, map, Option, Some, None}
 use Rattle.std.specs.Prelude.{⊤}
 use Rattle.std.proofs.lemmas.Bool.{eqb-true}
+use Rattle.logic_core.proofs.Booleans.{all_true as both_true}
 use Rattle.module_laws.proofs.Below.{back_onto}
 use Rattle.bv_base.specs.declared.place.Place.{Place}
 use Rattle.logic_core.specs.Tree.{Kind, int, boolean, map as map_of}
@@ -16,7 +17,7 @@ use Rattle.bpl_scopes.specs.Sorts.{sort_of_type, argument_sorts, sorts_of_names,
 use Rattle.bpl_scopes.specs.TypeFaults.{type_faults, group_type_faults, group_where_faults, params_faults}
 use Rattle.bpl_faults.specs.NameFaults.{variable_faults, application_faults, old_faults, sort_faults, same_sort_faults, map_faults, entry_sort}
 use Rattle.bpl_faults.specs.ExprFaults.{is_trigger, comparison_faults, parameter_sorts, count, expr_faults, node_faults, operand_faults, argument_faults, term_faults, index_faults, trigger_faults, pattern_faults}
-use Rattle.module_laws.proofs.HasSort.{Known, first_empty, second_empty, unless_empty, has_sort, has_same, is_map, choice_known, equation_known, read_known, write_known, when_known, both_true, is_wanted}
+use Rattle.module_laws.proofs.HasSort.{Known, first_empty, second_empty, unless_empty, has_sort, has_same, is_map, choice_known, equation_known, read_known, write_known, when_known, is_wanted}
 
 abbrev pub KnownBounds : List BoundVar → Type 0
 KnownBounds [] = ⊤

@@ -2,6 +2,7 @@
 use Rattle.std.proofs.Common.{◌≡◌, refl, ap, sym, ◌∙◌, inl, inr, subst, ℕ, ◌+◌, Bool, true, false, List, [], ◌∷◌, ◌++◌, append_assoc, append-nil, map, reverse, Option, Some, None}
 use Rattle.std.specs.Prelude.{⊤, bytes_eq, slice_get}
 use Rattle.std.proofs.lemmas.List.{map-append}
+use Rattle.logic_core.proofs.Booleans.{all_true as both_true}
 use Rattle.logic_core.specs.Tree.{Kind}
 use Rattle.logic_core.specs.Def.{Def}
 use Rattle.logic_core.specs.Renamed.{EachHas}
@@ -21,7 +22,7 @@ use Rattle.bpl_terms.specs.Terms.{sort_or_int, meaning_term, term_of}
 use Rattle.module_laws.specs.Elaborate.{value_term, function_def}
 use Rattle.module_laws.proofs.Below.{Below, back_onto, is_itself}
 use Rattle.module_laws.proofs.TermSorts.{BoundsFit, sorted}
-use Rattle.module_laws.proofs.HasSort.{Known, first_empty, second_empty, both_true, has_same}
+use Rattle.module_laws.proofs.HasSort.{Known, first_empty, second_empty, has_same}
 use Rattle.module_laws.proofs.Faultless.{KnownBounds, EachKnown, has_known}
 use Rattle.module_laws.proofs.Ways.{Member, text_itself}
 use Rattle.module_laws.proofs.TypesKnown.{passes}

@@ -4,6 +4,7 @@ use Rattle.std.specs.Prelude.{⊤, flat_map, bytes_eq}
 use Rattle.std.specs.List.{list_any, AllByRecursion}
 use Rattle.std.proofs.lemmas.List.{map-append}
 use Rattle.std.proofs.lemmas.Slice.Eq.{bytes_eq-Decides}
+use Rattle.logic_core.proofs.Booleans.{all_true as both_true, neither as either_false, none_of}
 use Rattle.bv_base.specs.declared.place.Place.{Place}
 use Rattle.bpl_ast.specs.Place.{Name}
 use Rattle.bpl_ast.specs.Statement.{Invariant, Stmt as Statement, stmt as statement, Action, assert, assume, havoc, assign, call, branches, loop, «break», «return», goto, Branches, branch, otherwise, no_branch, Stmts as Statements, no_stmts as no_statements, next, Body, Signature, DeclBody, constant, function, axiom_of, variables, synonym, procedure, implementation, Decl}
@@ -21,7 +22,7 @@ use Rattle.bpl_faults.specs.ExprFaults.{formula_faults}
 use Rattle.bpl_declaration_faults.specs.Variables.{names_in_body}
 use Rattle.bpl_declaration_faults.specs.DeclFaults.{signature_faults, parameter_clause_faults, spec_faults, local_faults, body_faults, implemented_faults, implemented_modifies, decl_faults, Before, before_with, nothing_before, faults_after, in_decl, first_from, fault_of}
 use Rattle.module_laws.specs.Elaborate.{labelled_as, stmts_of, stmt_of, action_of, chain_of, others_of, Implemented, or_else, implements, implementation_of, proc_body, procs_in, module_of}
-use Rattle.module_laws.proofs.HasSort.{first_empty, second_empty, unless_empty, both_true}
+use Rattle.module_laws.proofs.HasSort.{first_empty, second_empty, unless_empty}
 
 -- labels of a list are those of its statements
 action_has_none : (s : Scope) (p : Place) (a : Action) → labels_of (action_of s p a) ≡ []
@@ -139,10 +140,6 @@ pub if_so_empty : (c : Bool) (k : TypeKind) (p : Place) → if_so c k p ≡ [] �
 if_so_empty true k p e = cc
 if_so_empty false k p e = refl
 
-pub either_false : (a b : Bool) → (a || b) ≡ false → (a ≡ false) × (b ≡ false)
-either_false true b h = cc
-either_false false b h = (refl, h)
-
 abbrev pub NoneAmong : List Text → List Name → Type 0
 NoneAmong before [] = ⊤
 NoneAmong before (n ∷ ns) = (is_among before n.text ≡ false) × NoneAmong before ns
@@ -157,9 +154,6 @@ different false q f h = refl
 
 pub not_equal : (m n : Text) → bytes_eq n m ≡ false → bytes_eq m n ≡ false
 not_equal m n h = different (bytes_eq m n) (bytes_eq n m) (λ e. (bytes_eq-Decides n m).1 (sym ((bytes_eq-Decides m n).0 e))) h
-
-none_of : (a b : Bool) → a ≡ false → b ≡ false → (a || b) ≡ false
-none_of a b h k = λ i. h i || k i
 
 not_among : (t : Text) (before : List Text) (ns : List Name) → NoneAmong (t ∷ before) ns → is_among (texts_of ns) t ≡ false
 not_among t before [] h = refl

@@ -1,5 +1,6 @@
 -- Where there is a sort and no fault, the sort is the one that is wanted.
 use Rattle.std.proofs.Common.{◌≡◌, refl, ap, sym, ◌∙◌, Bool, true, false, ◌&&◌, List, [], ◌∷◌, ◌++◌, Option, Some, None}
+use Rattle.logic_core.proofs.Booleans.{all_true as both_true}
 use Rattle.bv_base.specs.declared.place.Place.{Place}
 use Rattle.logic_core.specs.Tree.{Kind, int, boolean, map as map_of}
 use Rattle.logic_core.specs.Wide.{when}
@@ -54,9 +55,6 @@ write_known m i v r h g e = (map_of r, (λ j. write_sort (h j) (g j) (e j)) ∙ 
 
 pub when_known : (c : Bool) (o : Option Kind) → c ≡ true → Known o → Known (when c o)
 when_known c o h (k, e) = (k, λ i. when (h i) (e i))
-
-pub both_true : (a b : Bool) → a ≡ true → b ≡ true → (a && b) ≡ true
-both_true a b h g = λ i. h i && g i
 
 pub is_wanted : (k : Kind) (o : Option Kind) → o ≡ Some k → is k o ≡ true
 is_wanted k o e = ap (is k) e ∙ is_itself k

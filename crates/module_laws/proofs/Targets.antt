@@ -6,6 +6,7 @@ use Rattle.std.proofs.lemmas.Option.{get_or_from_slice_get}
 use Rattle.std.proofs.lemmas.List.Kept.{AllPairs-cons}
 use Rattle.std.proofs.lemmas.List.Elements.{All-cons}
 use Rattle.std.proofs.lemmas.Slice.Eq.{bytes_eq-Decides}
+use Rattle.logic_core.proofs.Booleans.{neither as either_false}
 use Rattle.bv_base.specs.declared.place.Place.{Place}
 use Rattle.logic_core.specs.Tree.{Kind, int, map as map_of, Tree, read, free}
 use Rattle.logic_core.specs.Wide.{when}
@@ -30,7 +31,7 @@ use Rattle.module_laws.proofs.Below.{Below, is_itself, second_true, first_true}
 use Rattle.module_laws.proofs.TermSorts.{BoundsFit, Fits, sorted}
 use Rattle.module_laws.proofs.HasSort.{Known, first_empty, second_empty, has_sort, is_map}
 use Rattle.module_laws.proofs.Faultless.{KnownBounds, NamesKnown, EachKnown, has_known}
-use Rattle.module_laws.proofs.GoesForward.{either_false, distinct}
+use Rattle.module_laws.proofs.GoesForward.{distinct}
 
 is_sorted : (k : Kind) (o q : Option Kind) → o ≡ Some k → Below o q → q ≡ Some k
 is_sorted k o q h (inl e) = let bad : None ≡ Some k = sym e ∙ h in cc

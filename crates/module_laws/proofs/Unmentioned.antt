@@ -1,6 +1,7 @@
 -- Where `old` may not stand, the term of an expression without faults mentions no variable but those that names stand for.
 use Rattle.std.proofs.Common.{◌≡◌, refl, ℕ, Bool, false, ◌||◌, List, []}
 use Rattle.std.specs.Prelude.{⊤, nat_eq}
+use Rattle.logic_core.proofs.Booleans.{none_of as two}
 use Rattle.logic_core.specs.Tree.{Tree, num, truth as truth_term, free, bound, linear, mul, read, write, choose, call, negation, all, some, equal, at_most, for_all, exists, Trees, no_trees, tree, Parts, no_parts, part, Patterns, no_patterns, pattern}
 use Rattle.logic_core.specs.Same.{same_term}
 use Rattle.logic_core.specs.Subterm.{has, has_any, has_part, has_pattern}
@@ -11,9 +12,6 @@ use Rattle.bpl_faults.specs.NameFaults.{reads_entry}
 use Rattle.bpl_faults.specs.ExprFaults.{expr_faults}
 use Rattle.bpl_terms.specs.Terms.{meaning_term, term_in}
 use Rattle.module_laws.proofs.Reached.{reached}
-
-two : (a b : Bool) → a ≡ false → b ≡ false → (a || b) ≡ false
-two a b h k = λ i. h i || k i
 
 module _ (v : ℕ) where
   abbrev pub Lacks : Tree → Type 0

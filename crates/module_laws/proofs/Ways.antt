@@ -3,6 +3,7 @@ use Rattle.std.proofs.Common.{◌≡◌, refl, ap, sym, ◌∙◌, inl, inr, ◌
 use Rattle.std.specs.Prelude.{bytes_eq}
 use Rattle.std.specs.List.{list_any}
 use Rattle.std.proofs.lemmas.Slice.Eq.{bytes_eq-Decides}
+use Rattle.logic_core.proofs.Booleans.{one_is_true as either_of}
 use Rattle.bpl_scopes.specs.Scopes.{Text, Table, entity_of}
 use Rattle.bpl_scopes.specs.Functions.{next_names, leads}
 
@@ -18,10 +19,6 @@ member_any p n (m ∷ ns) (inr h) g = either_true (p m) (list_any p ns) (member_
     either_true : (a b : Bool) → b ≡ true → (a || b) ≡ true
     either_true true b e = refl
     either_true false b e = e
-
-pub either_of : (a b : Bool) → (a || b) ≡ true → (a ≡ true) ⊎ (b ≡ true)
-either_of true b e = inl refl
-either_of false b e = inr e
 
 member_of : (p : Text → Bool) (m : Text) (ns : List Text) → (list_any p ns ≡ true → (n : Text) × Member n ns × (p n ≡ true))
     → (p m ≡ true) ⊎ (list_any p ns ≡ true) → (n : Text) × Member n (m ∷ ns) × (p n ≡ true)

@@ -5,6 +5,7 @@ use Rattle.std.proofs.Common.{arith, ap, ◌∙◌, sym, subst, eqb-true, eq-eqb
 use Rattle.std.proofs.lemmas.Bool.{cases_lt, lt-ltb}
 use Rattle.std.proofs.lemmas.List.{append_assoc, get_or_past, length-append}
 use Rattle.std.proofs.lemmas.List.FromFn.{get_or-map-range_with_len, length-map-range_with_len}
+use Rattle.logic_core.proofs.Booleans.{both_true, all_true as and_true}
 use mathlib.Core.Logic.{inl, inr}
 use Rattle.logic_core.specs.Tree.{Kind, int, free, equal}
 use Rattle.logic_core.specs.Def.{Def}
@@ -15,9 +16,8 @@ use Rattle.passive_form.specs.Passive.{formulas}
 use Rattle.passive_form.specs.declared.made.Made.{Made}
 use Rattle.passive_form.specs.Incarnations.{Incarnations, incarnation, anew, disagree, arriving, new_at_join}
 use Rattle.passive_form.proofs.Lists.{Prefix, contains_cases, contains_first, contains_later, contains_none, filter_has, of_filter, range_has, of_range}
-use Rattle.passive_form.proofs.Mentioned.{both_true}
 use Rattle.passive_form.proofs.Monotone.{same_itself}
-use Rattle.passive_form.proofs.Values.{and_true, at_kept, at_next}
+use Rattle.passive_form.proofs.Values.{at_kept, at_next}
 
 all_each : {A : Type 0} (p : A → Bool) (xs : List A) (x : A) → list_all p xs ≡ true → Contains xs x → p x ≡ true
 all_each p [] x h c = absurd (contains_none x c)

@@ -4,6 +4,7 @@ use Rattle.std.specs.List.{AllByRecursion}
 use Rattle.std.proofs.Common.{arith, ap, ◌∙◌, sym, subst}
 use Rattle.std.proofs.lemmas.Bool.{cases_eq}
 use Rattle.std.proofs.lemmas.List.{append_assoc, append-nil, map-append, length-append, length-set, get_or-set_same, get_or-set_other}
+use Rattle.logic_core.proofs.Booleans.{both_true, all_true as and_true}
 use mathlib.Core.Logic.{inl, inr}
 use Rattle.logic_core.specs.Tree.{Kind, int, Tree, free, equal}
 use Rattle.logic_core.specs.Def.{Def}
@@ -15,9 +16,8 @@ use Rattle.passive_form.specs.Passive.{formula_in, formulas}
 use Rattle.passive_form.specs.declared.made.Made.{Made}
 use Rattle.passive_form.specs.Incarnations.{incarnation, anew, also, assigned, havocked}
 use Rattle.passive_form.proofs.Lists.{Prefix, prefix_next, prefix_get, each_append, contains_cases}
-use Rattle.passive_form.proofs.Mentioned.{both_true}
 use Rattle.passive_form.proofs.Monotone.{weaker, same_itself}
-use Rattle.passive_form.proofs.Values.{and_true, at_kept, at_next, at_set_same, at_set_other, are_length, are_append, are_set}
+use Rattle.passive_form.proofs.Values.{at_kept, at_next, at_set_same, at_set_other, are_length, are_append, are_set}
 
 module _ (vars : List Kind) where
   -- of the variables with C

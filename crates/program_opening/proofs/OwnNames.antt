@@ -2,6 +2,7 @@
 use Rattle.std.proofs.Common.{◌≡◌, refl, ap, sym, ◌∙◌, subst, ℕ, zero, suc, true, false, List, [], ◌∷◌, ◌++◌, Some, None}
 use Rattle.std.specs.Prelude.{bytes_eq, flat_map, slice_get}
 use Rattle.std.specs.List.{AllByRecursion}
+use Rattle.logic_core.proofs.Booleans.{neither as either_false}
 use Rattle.bpl_ast.specs.Statement.{DeclBody, constant, function, axiom_of, variables, synonym, procedure, implementation, Decl}
 use Rattle.bpl_scopes.specs.declared.fault.TypeKind.TheVariants.{Twice as twice}
 use Rattle.bpl_scopes.specs.Fault.{again, is_among}
@@ -10,7 +11,7 @@ use Rattle.bpl_declaration_faults.specs.DeclFaults.{decl_faults, Before, before_
 use Rattle.bpl_model.specs.Module.{Proc}
 use Rattle.module_laws.specs.Elaborate.{procs_in, module_of}
 use Rattle.module_laws.proofs.HasSort.{first_empty}
-use Rattle.module_laws.proofs.GoesForward.{either_false, if_so_empty}
+use Rattle.module_laws.proofs.GoesForward.{if_so_empty}
 use Rattle.module_laws.proofs.Ways.{text_itself}
 use Rattle.module_laws.proofs.EntriesFine.{NoFaults, none_faulty}
 use Rattle.program_opening.specs.Laws.{HaveOwnNames}

@@ -2,6 +2,7 @@
 use Rattle.std.proofs.Common.{sym, subst, nat_eq, true, false, ◌&&◌, ◌||◌, IsTrue, List, [], ◌∷◌, ◌++◌}
 use Rattle.std.specs.Prelude.{All}
 use Rattle.std.proofs.lemmas.List.Elements.{All-nil, All-push}
+use Rattle.logic_core.proofs.Booleans.{both_true}
 use Rattle.logic_core.specs.Tree.{Tree, truth, negation}
 use Rattle.logic_core.specs.Value.{Value}
 use Rattle.logic_core.specs.Def.{Def}
@@ -12,7 +13,6 @@ use Rattle.proof_core.specs.Context.{Context, fact}
 use Rattle.proof_core.specs.Close.{is_negation_of}
 use Rattle.proof_core.specs.Soundness.{CloseIsSound, StartIsSound}
 use Rattle.logic_core.specs.WellSorted.{IsFormula}
-use Rattle.logic_laws.proofs.Options.{both_true}
 use Rattle.logic_laws.proofs.FormulaSorts.{negation_sort}
 use Rattle.proof_core.proofs.Closed.{HoldsIn, same_holds, holds_stable, negated_value}
 use Rattle.proof_core.proofs.Conditions.{some_and}

@@ -2,6 +2,7 @@
 use Rattle.std.proofs.Common.{◌∙◌, refl, sym, ap, Bool, true, false, ◌&&◌, ◌||◌, not, IsTrue, List, []}
 use Rattle.std.specs.Prelude.{All}
 use Rattle.std.proofs.lemmas.List.Elements.{All-nil, All-cons, All-head, All-tail}
+use Rattle.logic_core.proofs.Booleans.{both_true, all_true}
 use Rattle.logic_core.specs.Tree.{Tree, Trees, no_trees, tree, negation, all, some}
 use Rattle.logic_core.specs.Subterm.{listed}
 use Rattle.logic_core.specs.Value.{Value, flag, holds}
@@ -9,7 +10,6 @@ use Rattle.logic_core.specs.Def.{Def}
 use Rattle.logic_core.specs.Valid.{calls_of}
 use Rattle.logic_core.proofs.Kept.{Stable}
 use Rattle.logic_laws.proofs.Gives.{GivesEvery, GivesAny}
-use Rattle.logic_laws.proofs.Options.{both_true, all_true}
 use Rattle.proof_core.specs.Split.{both}
 use Rattle.proof_core.proofs.Closed.{HoldsIn, AllHold, has_one, value_holds, holds_by_value, holds_stable}
 

@@ -2,6 +2,7 @@
 use Rattle.std.proofs.Common.{◌≡◌, ◌∙◌, refl, sym, ap, subst, ℕ, ◌+◌, ℤ, pos, int_eq, true, not, cond, ◌&&◌, IsTrue, Option, Some, None, List, [], ◌∷◌, ◌++◌, length, arith}
 use Rattle.std.specs.Prelude.{is_some}
 use Rattle.std.proofs.lemmas.Bool.Decides.{Decides-int_eq}
+use Rattle.logic_core.proofs.Booleans.{both_true}
 use Rattle.logic_core.specs.Tree.{Kind, int, boolean, map, Tree, num, free, read, negation, equal}
 use Rattle.logic_core.specs.Value.{Value, whole, flag, int_of, same, look, at, are_of}
 use Rattle.logic_core.specs.Def.{Def}
@@ -9,7 +10,7 @@ use Rattle.logic_core.specs.Wide.{◌>>=◌}
 use Rattle.logic_core.specs.Sorts.{sort_of}
 use Rattle.logic_core.specs.Subterm.{replaced}
 use Rattle.logic_core.proofs.Replaced.{Same}
-use Rattle.logic_laws.proofs.Options.{both_true, bind_some, cond_has}
+use Rattle.logic_laws.proofs.Options.{bind_some, cond_has}
 use Rattle.logic_laws.proofs.FormulaSorts.{equal_sort, negation_sort, part_of_negation, parts_of_equal}
 use Rattle.logic_laws.proofs.NormalSorts.{read_sort}
 use Rattle.logic_laws.proofs.SameValue.{same_equal, equal_same, value_stable}

@@ -1,6 +1,7 @@
 -- New variables: over them the facts before are formulas still and hold with any values for them.
 use Rattle.std.proofs.Common.{◌≡◌, ◌∙◌, refl, sym, ap, ℕ, zero, suc, ◌+◌, ◌-◌, ◌≤◌, true, IsTrue, Some, List, [], ◌∷◌, ◌++◌, length, get_or, arith}
 use Rattle.std.specs.Prelude.{All, slice_get}
+use Rattle.logic_core.proofs.Booleans.{both_true, all_true}
 use Rattle.logic_core.specs.Tree.{Kind, boolean, Tree, free}
 use Rattle.logic_core.specs.Value.{Value, holds, at, is_of, are_of}
 use Rattle.logic_core.specs.Def.{Def}
@@ -9,7 +10,6 @@ use Rattle.logic_core.specs.Valid.{calls_of}
 use Rattle.logic_core.specs.Sorts.{is, sort_of, are, bodies_sorted}
 use Rattle.logic_core.proofs.Kept.{true_stable}
 use Rattle.logic_core.proofs.Defined.{has_defined, keeps_defined}
-use Rattle.logic_laws.proofs.Options.{both_true, all_true}
 use Rattle.logic_laws.proofs.SortTests.{sort_is}
 use Rattle.logic_laws.proofs.Tables.{at_next, are_of_append, are_of_length}
 use Rattle.logic_laws.proofs.SortFrame.{within_more, within_itself, sort_over}

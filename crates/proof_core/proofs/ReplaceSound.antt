@@ -1,6 +1,7 @@
 -- Replace and unfold are sound.
 use Rattle.std.proofs.Common.{◌≡◌, subst, ℕ, true, ◌&&◌, Some, List, []}
 use Rattle.std.specs.Prelude.{is_some, slice_get}
+use Rattle.logic_core.proofs.Booleans.{both_true}
 use Rattle.logic_core.specs.Tree.{Kind, Tree, call}
 use Rattle.logic_core.specs.Def.{Def}
 use Rattle.logic_core.specs.Wide.{◌>>=◌}
@@ -14,7 +15,7 @@ use Rattle.proof_core.specs.Split.{stands_in}
 use Rattle.proof_core.specs.Replace.{replacement, body_of, unfolded}
 use Rattle.proof_core.specs.Soundness.{IsSorted, IsUnsatisfiable, ReplaceIsSound, UnfoldIsSound}
 use Rattle.logic_core.specs.WellSorted.{IsFormula}
-use Rattle.logic_laws.proofs.Options.{both_true, bind_some}
+use Rattle.logic_laws.proofs.Options.{bind_some}
 use Rattle.logic_laws.proofs.NormalSorts.{parts_of_call}
 use Rattle.proof_core.proofs.Closed.{Of, HoldsIn, body_sort, called_value}
 use Rattle.proof_core.proofs.Conditions.{when_then, some_given}

@@ -2,6 +2,7 @@
 use Rattle.std.proofs.Common.{◌≡◌, ◌∙◌, refl, sym, ap, subst, ℤ, pos, negsuc, ◌+ℤ◌, ◌*ℤ◌, Bool, true, false, not, cond, IsTrue, Option, Some, None, List, [], arith, int_eq}
 use Rattle.std.proofs.lemmas.Int.{ints}
 use Rattle.std.proofs.lemmas.Bool.Decides.{Decides-int_eq}
+use Rattle.logic_core.proofs.Booleans.{all_true}
 use Rattle.logic_core.specs.Tree.{Kind, int, boolean, Tree, num, truth, linear, negation, equal, Parts, no_parts, part}
 use Rattle.logic_core.specs.Value.{Value, whole, flag, table, int_of, holds, is_of, are_of}
 use Rattle.logic_core.specs.Def.{Def}
@@ -13,7 +14,7 @@ use Rattle.logic_core.specs.Valid.{calls_of}
 use Rattle.logic_core.proofs.Defined.{has_defined, keeps_defined}
 use Rattle.logic_core.proofs.Replaced.{Same}
 use Rattle.logic_core.proofs.SameTerm.{same_is_equal}
-use Rattle.logic_laws.proofs.Options.{all_true, some_has, bind_some, when_some, cond_has, cond_some}
+use Rattle.logic_laws.proofs.Options.{some_has, bind_some, when_some, cond_has, cond_some}
 use Rattle.logic_laws.proofs.SortTests.{sort_is}
 use Rattle.logic_laws.proofs.SumSorts.{first_int, sum_sort, affine_sort}
 use Rattle.logic_laws.proofs.FormulaSorts.{part_of_negation, parts_of_equal}

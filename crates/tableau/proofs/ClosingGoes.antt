@@ -3,6 +3,7 @@ use Rattle.std.specs.Prelude.{◌≡◌, refl, nat_eq, nat_le, Bool, true, false
 use Rattle.std.proofs.Common.{sym, ◌∙◌, ap, subst, inl, inr, ◌⊎◌}
 use Rattle.std.proofs.lemmas.List.Elements.{All-nil, All-head, All-tail, All-push}
 use Rattle.std.proofs.lemmas.Bool.{eqb-true, eq-eqb}
+use Rattle.logic_core.proofs.Booleans.{neither, or_second as second}
 use Rattle.logic_core.specs.Def.{Def}
 use Rattle.logic_core.specs.Junction.{is_truth}
 use Rattle.logic_laws.proofs.Options.{cond_has}
@@ -56,14 +57,6 @@ closing c f g kf kg h = rw (kf, kg) h
 
 same_number : (c : Context) (f g : Fact) → IsKnown c f → IsKnown c g → nat_eq f.number g.number ≡ true → f.term ≡ g.term
 same_number c f g kf kg h = let e = eqb-true f.number g.number h in cc
-
-neither : (a b : Bool) → (a || b) ≡ false → (a ≡ false) × (b ≡ false)
-neither true b h = absurd (cc)
-neither false b h = (refl, h)
-
-pub second : (a b : Bool) → b ≡ true → (a || b) ≡ true
-second true b h = refl
-second false b h = h
 
 closes_first : (c : Context) (f g : Fact) → IsKnown c f → IsKnown c g → AreClosing f g → (x y : Bool) → nat_eq f.number g.number ≡ x → is_negation_of g.term f.term ≡ y → (x || y) ≡ true → ends.closes c f.number g.number ≡ true
 closes_first c f g kf kg h x true ex ey e = closing c f g kf kg (second (nat_eq f.number g.number && is_truth false f.term) (is_negation_of g.term f.term) ey)

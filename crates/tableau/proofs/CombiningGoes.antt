@@ -2,6 +2,7 @@
 use Rattle.std.specs.Prelude.{◌≡◌, refl, ℕ, ◌/◌, ℤ, Bool, true, false, ◌||◌, Option, Some, None, is_none, List, [], ◌∷◌, ◌++◌, All, map, if◌then◌else◌}
 use Rattle.std.proofs.Common.{◌∙◌, ap, subst}
 use Rattle.std.proofs.lemmas.List.Elements.{All-nil, All-cons, All-head, All-tail, All-append, All-push}
+use Rattle.logic_core.proofs.Booleans.{all_true}
 use Rattle.logic_core.specs.Tree.{Tree}
 use Rattle.logic_core.specs.Def.{Def}
 use Rattle.logic_core.specs.Wide.{◌>>=◌}
@@ -9,7 +10,7 @@ use Rattle.logic_core.specs.Sum.{Linear}
 use Rattle.logic_core.specs.Junction.{is_truth}
 use Rattle.logic_core.specs.Tighten.{tighten, gcd}
 use Rattle.logic_core.specs.Combine.{linear_of, combined, lead, at_least_zero}
-use Rattle.logic_laws.proofs.Options.{bind_some, all_true, cond_has}
+use Rattle.logic_laws.proofs.Options.{bind_some, cond_has}
 use Rattle.linear_certs.specs.Multiplier.{may_multiply}
 use Rattle.proof_core.specs.Proof.{by_combine}
 use Rattle.proof_core.specs.Context.{Context, fact, with_fact}

@@ -4,6 +4,7 @@ use Rattle.std.specs.List.{list_any}
 use Rattle.std.proofs.Common.{◌∙◌, ap, subst}
 use Rattle.std.proofs.lemmas.List.{append_assoc}
 use Rattle.std.proofs.lemmas.List.Elements.{All-head, All-tail}
+use Rattle.logic_core.proofs.Booleans.{or_second as second}
 use Rattle.logic_core.specs.Tree.{Kind, boolean, Tree, choose, negation}
 use Rattle.logic_core.specs.Def.{Def}
 use Rattle.logic_core.specs.Normal.{normal}
@@ -28,7 +29,7 @@ use Rattle.tableau.proofs.OutsideSorts.{HasSort, outside_sorts}
 use Rattle.tableau.proofs.Outcomes.{IsPlaced, Outcome}
 use Rattle.tableau.proofs.Tightening.{Reached, added_reached, changed_reached}
 use Rattle.tableau.proofs.Appending.{appended_normal, two_appended}
-use Rattle.tableau.proofs.ClosingGoes.{found_at_oldest, second}
+use Rattle.tableau.proofs.ClosingGoes.{found_at_oldest}
 use Rattle.tableau.proofs.RewritingGoes.{some_is}
 
 -- two formulas whose normal forms are appended

@@ -2,6 +2,7 @@
 use Rattle.std.specs.Prelude.{◌≡◌, refl, ℕ, Bool, true, false, cond, Option, Some, is_some, List, [], ◌∷◌, ◌++◌, find}
 use Rattle.std.specs.List.{list_any}
 use Rattle.std.proofs.Common.{sym, subst}
+use Rattle.logic_core.proofs.Booleans.{or_second as second}
 use Rattle.logic_core.specs.Tree.{Kind, boolean, Tree}
 use Rattle.logic_core.specs.Def.{Def}
 use Rattle.logic_core.specs.Normal.{normal}
@@ -29,7 +30,7 @@ use Rattle.tableau.proofs.OutsideSorts.{HasSort, outside_sorts, found_has}
 use Rattle.tableau.proofs.Outcomes.{IsPlaced, Outcome}
 use Rattle.tableau.proofs.Tightening.{changed_reached, on_one_goes}
 use Rattle.tableau.proofs.Appending.{appended_normal, one_appended}
-use Rattle.tableau.proofs.ClosingGoes.{found_at_oldest, second}
+use Rattle.tableau.proofs.ClosingGoes.{found_at_oldest}
 use Rattle.tableau.proofs.RewritingGoes.{some_is}
 
 -- what is found outside quantifiers stands there

@@ -4,12 +4,13 @@ use Rattle.std.specs.Ordering.{int_eq}
 use Rattle.std.proofs.Common.{◌∙◌, subst, arith}
 use Rattle.std.proofs.lemmas.Bool.Decides.{Decides-int_eq}
 use Rattle.std.proofs.lemmas.Int.{ints}
+use Rattle.logic_core.proofs.Booleans.{both_true}
 use Rattle.logic_core.specs.Tree.{Tree, at_most, Parts, no_parts, part}
 use Rattle.logic_core.specs.Wide.{checked, fits}
 use Rattle.logic_core.specs.Same.{same_term}
 use Rattle.logic_core.specs.Tighten.{gcd}
 use Rattle.logic_core.specs.Combine.{lead, first_part}
-use Rattle.logic_laws.proofs.Options.{both_true, map_some, cond_has, cond_some}
+use Rattle.logic_laws.proofs.Options.{map_some, cond_has, cond_some}
 use Rattle.logic_laws.proofs.Divided.{gcd_divides}
 use Rattle.linear_certs.specs.Multiplier.{may_multiply}
 use Rattle.theory_rules.specs.Combining.{Entry, opposite_parts, counted, is_at_most, is_positive, is_negative, are_opposite, size_of, lead_size, multiplier}

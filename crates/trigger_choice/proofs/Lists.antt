@@ -3,21 +3,10 @@ use Rattle.std.specs.Prelude.{◌≡◌, refl, ◌⊎◌, ℕ, zero, suc, ◌+�
 use Rattle.std.specs.List.{AllByRecursion, list_any, list_all, range_with_len}
 use Rattle.std.proofs.Common.{arith, ap, eqb-true, ◌<◌}
 use Rattle.std.proofs.lemmas.Bool.{lt-ltb}
+use Rattle.logic_core.proofs.Booleans.{both_true, one_is_true as one_true, neither as both_false}
 use mathlib.Core.Path.{subst, sym, ◌∙◌}
 use mathlib.Core.Logic.{inl, inr, dite}
 use native.Mathlib.Decide.{ℕ_discrete}
-
-pub both_true : (a b : Bool) → (a && b) ≡ true → (a ≡ true) × (b ≡ true)
-both_true true b h = (refl, h)
-both_true false b h = let c : false ≡ true = h in absurd cc
-
-pub one_true : (a b : Bool) → (a || b) ≡ true → (a ≡ true) ⊎ (b ≡ true)
-one_true true b h = inl refl
-one_true false b h = inr h
-
-pub both_false : (a b : Bool) → (a || b) ≡ false → (a ≡ false) × (b ≡ false)
-both_false true b h = let c : true ≡ false = h in absurd cc
-both_false false b h = (refl, h)
 
 -- what passes a test has it, and what was true of every item
 pub every_kept : {A : Type 0} (p : A → Bool) (P Q : A → Type 0) → ((x : A) → P x → p x ≡ true → Q x) → (xs : List A) → AllByRecursion P xs → AllByRecursion Q (filter p xs)

@@ -3,6 +3,7 @@ use Rattle.std.specs.Prelude.{◌≡◌, refl, ◌↔◌, ℕ, nat_lt, Bool, tru
 use Rattle.std.specs.List.{AllByRecursion, list_any, range_with_len}
 use Rattle.std.proofs.Common.{arith}
 use Rattle.std.proofs.lemmas.List.{append_assoc, append-nil}
+use Rattle.logic_core.proofs.Booleans.{both_true}
 use mathlib.Core.Path.{subst, sym}
 use mathlib.Core.Logic.{inl, inr}
 use Rattle.logic_core.specs.Tree.{Tree, no_patterns, pattern}
@@ -13,7 +14,7 @@ use Rattle.logic_core.specs.Def.{Def}
 use Rattle.trigger_choice.specs.Candidates.{is_built, is_read_or_call, is_candidate, touches, bound_numbers, covers, joined, candidates, mentioned_by}
 use Rattle.trigger_choice.specs.Choice.{smaller, least, adds, cover, pick, as_trigger}
 use Rattle.trigger_choice.specs.Kept.{IsPattern, IsTrigger, lists, ChosenTriggersMeetTheRules, LeftOutOnlyUncovered}
-use Rattle.trigger_choice.proofs.Lists.{both_true, every_kept, every_append, Has, has_left, has_right, has_one, all_there, range_below, not_new}
+use Rattle.trigger_choice.proofs.Lists.{every_kept, every_append, Has, has_left, has_right, has_one, all_there, range_below, not_new}
 
 pub every_joined : (P : Tree → Type 0) (ts acc : List Tree) → AllByRecursion P acc → AllByRecursion P ts → AllByRecursion P (fold joined acc ts)
 every_joined P [] acc a h = a

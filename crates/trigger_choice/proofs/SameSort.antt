@@ -1,6 +1,7 @@
 -- Chosen triggers keep sorts: they are parts of a well-sorted body, and so well sorted.
 use Rattle.std.specs.Prelude.{◌≡◌, refl, ℕ, Bool, true, false, ◌&&◌, is_some, List, [], ◌∷◌, ◌++◌, reverse, length, filter, slice_get, Option, Some, None}
 use Rattle.std.specs.List.{AllByRecursion}
+use Rattle.logic_core.proofs.Booleans.{both_true}
 use mathlib.Core.Path.{◌∙◌}
 use Rattle.logic_core.specs.Tree.{Kind, int, boolean, Tree, num, truth, free, bound, linear, mul, read, write, choose, call, negation, all, some, equal, at_most, for_all, exists, Trees, no_trees, tree, Parts, no_parts, part, Patterns, no_patterns, pattern}
 use Rattle.logic_core.specs.Def.{Def}
@@ -11,7 +12,7 @@ use Rattle.logic_core.specs.Subterm.{outside, outside_each, outside_parts}
 use Rattle.logic_core.specs.View.{trees_of}
 use Rattle.trigger_choice.specs.Candidates.{is_candidate, candidates}
 use Rattle.trigger_choice.specs.Choice.{pick, as_trigger, chosen, triggers, with_triggers, each_with_triggers, parts_with_triggers}
-use Rattle.trigger_choice.proofs.Lists.{both_true, every_kept, every_append}
+use Rattle.trigger_choice.proofs.Lists.{every_kept, every_append}
 use Rattle.trigger_choice.proofs.Rules.{every_joined, Covers, is_picked}
 
 -- there is something

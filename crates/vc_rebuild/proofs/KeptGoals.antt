@@ -1,6 +1,7 @@
 -- The goals of a candidate, with the marks of the present graph, are the procedure's goals.
 use Rattle.std.specs.Prelude.{◌≡◌, refl, ℕ, ◌+◌, Bool, true, false, ◌&&◌, cond, List, is_some, Option, Some, None, Result, Ok, Err, OnOk}
 use Rattle.std.proofs.Common.{ap, sym, arith, ◌∙◌, true≢false}
+use Rattle.logic_core.proofs.Booleans.{both_true}
 use Rattle.logic_core.specs.Same.{same_term}
 use Rattle.bpl_model.specs.Module.{Proc, Module}
 use Rattle.bpl_model.specs.Numbering.{defs_of}
@@ -13,7 +14,7 @@ use Rattle.vc_rebuild.specs.SameGraph.{all_same, same_def, same_graph}
 use Rattle.vc_rebuild.specs.Marks.{marks_of, remarked}
 use Rattle.vc_rebuild.specs.Kept.{Program, source_of, with_text, is_made_of, is_among, keeps}
 use Rattle.vc_rebuild.specs.Inside.{IsMade, AreMade}
-use Rattle.vc_rebuild.proofs.SameObligations.{both_true, same_formulas, same_definitions, same_obligations}
+use Rattle.vc_rebuild.proofs.SameObligations.{same_formulas, same_definitions, same_obligations}
 use Rattle.vc_rebuild.proofs.Remade.{goals_again}
 use Rattle.vc_rebuild.proofs.Digested.{found_has}
 use Rattle.vc_rebuild.proofs.Programs.{goals_with}

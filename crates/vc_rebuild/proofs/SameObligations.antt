@@ -2,6 +2,7 @@
 use Rattle.std.specs.Prelude.{◌≡◌, refl, nat_eq, Bool, true, false, ◌&&◌, List, [], ◌∷◌, map}
 use Rattle.std.proofs.Common.{ap, sym, ◌∙◌}
 use Rattle.std.proofs.lemmas.Bool.{eqb-true}
+use Rattle.logic_core.proofs.Booleans.{both_true, bool_equal as same_flags}
 use Rattle.logic_core.specs.Tree.{Kind, int, boolean, map as table, Tree}
 use Rattle.logic_core.specs.Def.{Def}
 use Rattle.logic_core.specs.Same.{same_kind, same_kinds, same_term}
@@ -15,10 +16,6 @@ use Rattle.vc_rebuild.specs.SameGraph.{all_same, same_def, same_command, same_bl
 use Rattle.vc_rebuild.specs.Obligations.{obligations_of}
 use Rattle.vc_rebuild.proofs.Bare.{bare_command, bare_block, bare_graph, obligations_bare}
 
-pub both_true : (a b : Bool) → (a && b) ≡ true → (a ≡ true) × (b ≡ true)
-both_true true b h = (refl, h)
-both_true false b h = absurd (cc)
-
 same_sort : (j k : Kind) → same_kind j k ≡ true → j ≡ k
 same_sort int int h = refl
 same_sort boolean boolean h = refl
@@ -29,12 +26,6 @@ same_sorts : (js ks : List Kind) → same_kinds js ks ≡ true → js ≡ ks
 same_sorts [] [] h = refl
 same_sorts (j ∷ js) (k ∷ ks) h = let p = both_true (same_kind j k) (same_kinds js ks) h in cc (same_sort j k p.0, same_sorts js ks p.1)
 same_sorts js ks h = absurd (cc)
-
-same_flags : (a b : Bool) → bool_eq a b ≡ true → a ≡ b
-same_flags true true h = refl
-same_flags false false h = refl
-same_flags true false h = absurd (cc)
-same_flags false true h = absurd (cc)
 
 -- what the test of items fixes of each, the test of lists fixes of all
 all_fixed : {A B : Type 0} (same : A → A → Bool) (f : A → B) → ((x y : A) → same x y ≡ true → f x ≡ f y) → (xs ys : List A) → all_same same xs ys ≡ true → map f xs ≡ map f ys

@@ -5,6 +5,7 @@ use Rattle.std.proofs.lemmas.Bool.{leb-true}
 use Rattle.std.proofs.lemmas.Bool.Decides.{nat_tests}
 use Rattle.std.proofs.lemmas.List.{append_assoc, length-append, length-map}
 use Rattle.std.proofs.lemmas.List.Sums.{sum_by-cons}
+use Rattle.logic_core.proofs.Booleans.{both_true}
 use Rattle.logic_core.specs.Size.{capped}
 use Rattle.obligation_text.specs.Text.{obligation_text}
 use Rattle.vc_build.specs.declared.goal.Goal.{Goal}
@@ -13,7 +14,6 @@ use Rattle.vc_build.specs.Large.{count_limit, byte_limit, large_after, sizes_of,
 use Rattle.vc_rebuild.specs.declared.kept.BuiltProc.{BuiltProc}
 use Rattle.vc_rebuild.specs.Kept.{all_goals}
 use Rattle.vc_rebuild.specs.Within.{are_within}
-use Rattle.vc_rebuild.proofs.SameObligations.{both_true}
 
 not_above : (a b : ℕ) → b ≤ a → nat_lt a b ≡ false
 not_above a b h = grind (arith, nat_tests, h)
