@@ -12,7 +12,7 @@ use tableau_branch::fact::Fact;
 use tableau_branch::played::{Attempt, Ending, Move};
 
 /// Whether one of the facts is the normal Not of the other.
-fn are_opposed(f: &Fact, g: &Fact) -> bool
+pub fn are_opposed(f: &Fact, g: &Fact) -> bool
     ensures { result ≡ are_opposed f.now g.now }
 {
     g.is_negation_of(f) || f.is_negation_of(g)
@@ -32,7 +32,7 @@ fn first_opposed<'a>(facts: &'a [Fact], fact: &Fact) -> Option<&'a Fact>
 
 /// The first pair of opposed facts by its later fact, and then by its earlier one. A fact that is
 /// false pairs with itself.
-fn closing_pair(facts: &[Fact]) -> Option<(&Fact, &Fact)>
+pub fn closing_pair(facts: &[Fact]) -> Option<(&Fact, &Fact)>
     ensures { option_map (λ p. (p.0.now, p.1.now)) result ≡ pair_from [] facts.now }
 {
     for (i, fact) in facts.iter().enumerate() {
@@ -48,7 +48,7 @@ fn closing_pair(facts: &[Fact]) -> Option<(&Fact, &Fact)>
 
 /// The numbers by which two facts, of which the first has the smaller number, close the branch:
 /// the first stands first, unless only it is the normal Not of the second.
-fn close_by(f: &Fact, g: &Fact) -> (u64, u64)
+pub fn close_by(f: &Fact, g: &Fact) -> (u64, u64)
     ensures { close_of (Some result) ≡ gives (close_by f.now g.now) }
 {
     if f.number() == g.number() || g.is_negation_of(f) {

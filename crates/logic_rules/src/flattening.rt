@@ -32,7 +32,7 @@ fn conjuncts(term: &Term) -> Option<&[Term]>
 }
 
 /// The oldest And, with its parts.
-fn oldest_and(alloc: Global, branch: &Branch) -> Result<Option<At<Sequence<Term>>>, AllocError>
+pub fn oldest_and(alloc: Global, branch: &Branch) -> Result<Option<At<Sequence<Term>>>, AllocError>
     ensures found { IfOk result (λ o. o ≡ oldest as_all branch.now) }
     ensures within { IfOk result (λ o. IfSome o (λ a. a.at < length branch.now.facts)) }
 {
@@ -61,7 +61,7 @@ fn adding_each(
 }
 
 /// The And goes; its parts are added in order. Wide exactly where one leaves 128 bits.
-fn flatten_at(
+pub fn flatten_at(
     alloc: Global,
     defs: &[Def],
     branch: Branch,

@@ -64,7 +64,7 @@ fn is_among(term: &Term, terms: &[Term]) -> bool
 
 /// The terms, each once.
 #[tactic(auto, using(crate::proofs::Instances::once_more))]
-fn each_once(alloc: Global, mut terms: Vec<Term>) -> Result<Vec<Term>, AllocError>
+pub fn each_once(alloc: Global, mut terms: Vec<Term>) -> Result<Vec<Term>, AllocError>
     ensures { IfOk result (λ v. v.items ≡ each_once [] terms.items) }
 {
     let mut seen = Vec::new(alloc);
@@ -87,7 +87,7 @@ fn push_new(seen: &mut Vec<Term>, term: Term) -> Result<(), AllocError>
 }
 
 /// The Read and Call terms of the facts outside quantifiers, oldest fact first, in preorder.
-fn applications(alloc: Global, facts: &[Fact]) -> Result<Vec<Term>, AllocError>
+pub fn applications(alloc: Global, facts: &[Fact]) -> Result<Vec<Term>, AllocError>
     ensures { IfOk result (λ v. v.items ≡ flat_map applications_in facts.now) }
 {
     let mut terms = Vec::new(alloc);
@@ -98,7 +98,7 @@ fn applications(alloc: Global, facts: &[Fact]) -> Result<Vec<Term>, AllocError>
 }
 
 /// The terms against which triggers are matched: the applications, then the seen calls, each once.
-fn ground_terms(alloc: Global, branch: &Branch) -> Result<Vec<Term>, AllocError>
+pub fn ground_terms(alloc: Global, branch: &Branch) -> Result<Vec<Term>, AllocError>
     ensures { IfOk result (λ v. v.items ≡ ground_terms branch.now) }
 {
     let mut terms = applications(alloc, &branch.facts)?;
@@ -108,7 +108,7 @@ fn ground_terms(alloc: Global, branch: &Branch) -> Result<Vec<Term>, AllocError>
 }
 
 /// Whether the terms are the same, one by one, and as many.
-fn same_terms(mine: &[Term], theirs: &[Term]) -> bool
+pub fn same_terms(mine: &[Term], theirs: &[Term]) -> bool
     ensures { result ≡ same_trees (trees_of mine.now) (trees_of theirs.now) }
 {
     let shared = mine.len().min(theirs.len());
@@ -128,7 +128,7 @@ fn same_mark(mark: &Mark, fact: &Term, tuple: &[Term]) -> bool
 }
 
 /// Whether there is no mark of this fact and tuple.
-fn is_unmarked(branch: &Branch, fact: &Term, tuple: &[Term]) -> bool
+pub fn is_unmarked(branch: &Branch, fact: &Term, tuple: &[Term]) -> bool
     ensures { result ≡ not (list_any (λ m. same_mark m (record { fact = fact.now; tuple = tuple.now })) branch.now.marks) }
 {
     for mark in &branch.marks {
@@ -140,7 +140,7 @@ fn is_unmarked(branch: &Branch, fact: &Term, tuple: &[Term]) -> bool
 }
 
 /// The candidate of this fact, body and tuple.
-fn make_candidate(
+pub fn make_candidate(
     alloc: Global,
     fact: &Fact,
     body: &Term,
@@ -179,7 +179,7 @@ fn first_unmarked(
 }
 
 /// The first tuple of this trigger of which there is no mark.
-fn first_at(
+pub fn first_at(
     alloc: Global,
     defs: &[Def],
     branch: &Branch,
@@ -218,7 +218,7 @@ fn first_by(
 
 /// The same of a fact that is a ForAll.
 #[tactic(auto, using(crate::proofs::Instances::find_alone))]
-fn first_of(
+pub fn first_of(
     alloc: Global,
     defs: &[Def],
     branch: &Branch,
@@ -261,7 +261,7 @@ fn facts_of(branch: &Branch) -> &[Fact]
 }
 
 /// The first ForAll, trigger and tuple of which there is no mark.
-fn first_candidate(
+pub fn first_candidate(
     alloc: Global,
     defs: &[Def],
     branch: &Branch,
@@ -314,7 +314,7 @@ fn step(alloc: Global, found: &Candidate) -> Result<Step, AllocError>
 }
 
 /// The instance is added and the mark made. Wide exactly where the instance leaves 128 bits.
-fn instantiate_by(
+pub fn instantiate_by(
     alloc: Global,
     defs: &[Def],
     branch: Branch,

@@ -28,7 +28,7 @@ use tableau_branch::oriented::left_side;
 use tableau_branch::played::{Attempt, Move};
 
 /// Whether this is another fact than that of the number, and the term occurs in it.
-fn rewrites(number: u64, left: &Term, other: &Fact) -> bool
+pub fn rewrites(number: u64, left: &Term, other: &Fact) -> bool
     ensures { result ≡ rewrites number left.now other.now }
 {
     number != other.number() && left.occurs_in(other.term())
@@ -47,7 +47,7 @@ fn occurs_in_another(number: u64, left: &Term, facts: &[Fact]) -> bool
 }
 
 /// The left side of an oriented fact that occurs in another fact.
-fn left_in_another<'a>(
+pub fn left_in_another<'a>(
     alloc: Global,
     defs: &[Def],
     branch: &Branch,
@@ -68,7 +68,11 @@ fn left_in_another<'a>(
 }
 
 /// The oldest oriented fact whose left side occurs in another fact, with its left side.
-fn oldest_left(alloc: Global, defs: &[Def], branch: &Branch) -> Result<Option<At<Term>>, AllocError>
+pub fn oldest_left(
+    alloc: Global,
+    defs: &[Def],
+    branch: &Branch,
+) -> Result<Option<At<Term>>, AllocError>
     ensures { IfOk result (λ o. o ≡ oldest (left_in_another defs.now branch.now) branch.now) }
 {
     for (at, fact) in branch.facts.iter().enumerate() {
@@ -217,7 +221,7 @@ fn rewrite_others(
 
 /// By this fact its left side becomes the right one in all other facts, in the seen calls and in the
 /// marks. Wide exactly where the right side or a normal form leaves 128 bits.
-fn rewrite_by(
+pub fn rewrite_by(
     alloc: Global,
     defs: &[Def],
     branch: Branch,

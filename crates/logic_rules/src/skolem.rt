@@ -38,7 +38,7 @@ fn body_of_exists(term: &Term) -> Option<(&[Sort], &Term)>
 }
 
 /// The oldest Exists, with its sorts and its body.
-fn oldest_exists(
+pub fn oldest_exists(
     alloc: Global,
     branch: &Branch,
 ) -> Result<Option<At<(Sequence<Sort>, Term)>>, AllocError>
@@ -117,7 +117,7 @@ fn without_exists(branch: Branch, found: At<(Sequence<Sort>, Term)>) -> Result<B
 }
 
 /// The Exists goes; its instance with new variables is added. Wide exactly where it leaves 128 bits.
-fn skolemize_at(
+pub fn skolemize_at(
     alloc: Global,
     defs: &[Def],
     branch: Branch,

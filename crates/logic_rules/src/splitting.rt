@@ -107,7 +107,7 @@ fn is_oriented(
 }
 
 /// The cases of a fact that isn't oriented.
-fn cases_of(
+pub fn cases_of(
     alloc: Global,
     defs: &[Def],
     branch: &Branch,
@@ -125,7 +125,7 @@ fn cases_of(
 }
 
 /// The oldest fact with cases, and these.
-fn oldest_cases(
+pub fn oldest_cases(
     alloc: Global,
     defs: &[Def],
     branch: &Branch,
@@ -183,7 +183,7 @@ fn each_case(alloc: Global, branch: Branch, mut terms: Vec<Term>) -> Result<Vec<
 }
 
 /// The fact goes; a branch is made for each case. Wide exactly where one leaves 128 bits.
-fn split_into(
+pub fn split_into(
     alloc: Global,
     defs: &[Def],
     branch: Branch,

@@ -23,7 +23,7 @@ use tableau_branch::outside::{Shape, first_outside};
 use tableau_branch::played::{Attempt, Move};
 
 /// The oldest fact with a Call outside quantifiers, with the first one.
-fn oldest_call(alloc: Global, branch: &Branch) -> Result<Option<At<Term>>, AllocError>
+pub fn oldest_call(alloc: Global, branch: &Branch) -> Result<Option<At<Term>>, AllocError>
     ensures found { IfOk result (λ o. o ≡ oldest first_call branch.now) }
     ensures within { IfOk result (λ o. IfSome o (λ a. a.at < length branch.now.facts)) }
 {
@@ -151,7 +151,7 @@ fn step(found: At<Term>) -> Step
 
 /// The fact is changed: its first Call becomes the definition's body. Wide exactly where the normal
 /// form leaves 128 bits.
-fn unfold_at(
+pub fn unfold_at(
     alloc: Global,
     defs: &[Def],
     branch: Branch,

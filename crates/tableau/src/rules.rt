@@ -60,7 +60,7 @@ const ORDER: [Rule; 13] = [
 
 impl Rule {
     /// What the rule makes of the branch. Wide exactly where applying it leaves 128 bits.
-    fn try_on(self, alloc: Global, defs: &[Def], branch: Branch) -> Result<Attempt, NormalFault>
+    pub fn try_on(self, alloc: Global, defs: &[Def], branch: Branch) -> Result<Attempt, NormalFault>
         ensures { Tries branch result (rule_of defs.now self branch) }
     {
         match self {

@@ -19,7 +19,7 @@ use std::alloc::{AllocError, Global};
 use std::sync::Arc;
 
 /// The proof that the moves of a search make, where it ended Proved.
-fn found(alloc: Global, ended: Run) -> Result<Option<Proof>, AllocError>
+pub fn found(alloc: Global, ended: Run) -> Result<Option<Proof>, AllocError>
     ensures { IfOk result (λ p. p ≡ found_by (run_of ended).verdict (run_of ended).moves) }
 {
     match ended.verdict {

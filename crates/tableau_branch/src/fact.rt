@@ -1,5 +1,6 @@
 // Facts.
 ghost use Rattle.std.specs.Prelude.{◌≡◌, IfOk};
+ghost use Rattle.std.specs.Option.{option_copied};
 ghost use Rattle.logic_core.specs.Junction.{negated};
 ghost use Rattle.logic_core.specs.Same.{same_term};
 ghost use Rattle.logic_core.specs.Size.{capped};
@@ -143,6 +144,13 @@ impl Fact {
         ensures { result.now ≡ self.now.term }
     {
         &self.term
+    }
+
+    /// The normal Not of the formula, where it stays in 128 bits.
+    pub fn negation(&self) -> Option<&SizedTerm>
+        ensures { option_copied result ≡ negated self.now.term }
+    {
+        self.negation.as_ref()
     }
 
     /// Whether the formula is the normal Not of the other fact's.

@@ -23,7 +23,7 @@ use tableau_branch::outside::{Shape, push_outside};
 use tableau_branch::played::{Attempt, Move};
 
 /// The Reads of a Write that stand in the facts outside quantifiers, in preorder.
-fn accesses(alloc: Global, facts: &[Fact]) -> Result<Vec<Term>, AllocError>
+pub fn accesses(alloc: Global, facts: &[Fact]) -> Result<Vec<Term>, AllocError>
     ensures { IfOk result (λ v. v.items ≡ flat_map accesses_in facts.now) }
 {
     let mut accesses = Vec::new(alloc);
@@ -83,7 +83,7 @@ fn read_back(
 }
 
 /// The same of a Read of a Write.
-fn try_access(
+pub fn try_access(
     alloc: Global,
     defs: &[Def],
     branch: &Branch,
@@ -102,7 +102,7 @@ fn try_access(
 
 /// The first Read of a Write at constant distance, and what it reads. Wide exactly where the distance
 /// of one before it leaves 128 bits.
-fn first_read_back(
+pub fn first_read_back(
     alloc: Global,
     defs: &[Def],
     branch: &Branch,
@@ -120,7 +120,7 @@ fn first_read_back(
 
 /// The Read becomes what it reads in every fact in which it stands outside quantifiers. Wide exactly
 /// where a normal form leaves 128 bits.
-fn move_back(
+pub fn move_back(
     alloc: Global,
     defs: &[Def],
     branch: Branch,

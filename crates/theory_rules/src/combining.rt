@@ -61,7 +61,11 @@ fn multiplier(entry: &Entry, number: u128) -> Option<i128>
 
 /// Such multiples of the two that their leads cancel, added. Wide exactly where a number leaves 128
 /// bits.
-fn combine_two<'a>(alloc: Global, d: &'a Entry, e: &'a Entry) -> Result<Combined<'a>, NormalFault>
+pub fn combine_two<'a>(
+    alloc: Global,
+    d: &'a Entry,
+    e: &'a Entry,
+) -> Result<Combined<'a>, NormalFault>
     requires { are_opposite (lead (counted d.now)) (lead (counted e.now)) ≡ true }
     ensures { GivesAs combined_of result (combined_pair d.now e.now) }
 {
@@ -87,7 +91,7 @@ fn combine_two<'a>(alloc: Global, d: &'a Entry, e: &'a Entry) -> Result<Combined
 }
 
 /// Whether the sum is true, or known after tightening.
-fn says_nothing_new(alloc: Global, entries: &[Entry], sum: &Term) -> Result<bool, AllocError>
+pub fn says_nothing_new(alloc: Global, entries: &[Entry], sum: &Term) -> Result<bool, AllocError>
     ensures { IfOk result (λ b. b ≡ (is_truth true sum.now || is_known entries.now (tighten sum.now))) }
 {
     if sum.is_truth(true) {
@@ -97,7 +101,7 @@ fn says_nothing_new(alloc: Global, entries: &[Entry], sum: &Term) -> Result<bool
 }
 
 /// The combination of the two, unless it says nothing new. Wide exactly where it leaves 128 bits.
-fn combine_pair<'a>(
+pub fn combine_pair<'a>(
     alloc: Global,
     entries: &[Entry],
     d: &'a Entry,
@@ -134,7 +138,7 @@ fn combine_with<'a>(
 }
 
 /// The first combination: that of the oldest later fact, and then of the oldest earlier one.
-fn first_combined(alloc: Global, entries: &[Entry]) -> Result<Option<Combined>, NormalFault>
+pub fn first_combined(alloc: Global, entries: &[Entry]) -> Result<Option<Combined>, NormalFault>
     ensures { Attempts combined_of result (first_attempt (combine_pair entries.now) (pairs_from [] entries.now)) }
 {
     for (i, e) in entries.iter().enumerate() {
@@ -146,7 +150,7 @@ fn first_combined(alloc: Global, entries: &[Entry]) -> Result<Option<Combined>, 
 }
 
 /// The sum is added, tightened. No definition plays a part.
-fn add_combined(alloc: Global, branch: Branch, combined: Combined) -> Result<Move, AllocError>
+pub fn add_combined(alloc: Global, branch: Branch, combined: Combined) -> Result<Move, AllocError>
     ensures { IfOk result (λ m. move_of m ≡ combined_by [] branch (combined_of combined.entry)) }
 {
     let Combined {

@@ -58,7 +58,7 @@ fn as_choice(alloc: Global, term: &Term) -> Result<Option<Choice>, AllocError>
 }
 
 /// The first If that stands in the fact outside quantifiers.
-fn first_choice(alloc: Global, fact: &Fact) -> Result<Option<Choice>, AllocError>
+pub fn first_choice(alloc: Global, fact: &Fact) -> Result<Option<Choice>, AllocError>
     ensures { IfOk result (λ o. o ≡ first_choice fact.now) }
 {
     match first_outside(Shape::Choice, fact.term()) {
@@ -68,7 +68,7 @@ fn first_choice(alloc: Global, fact: &Fact) -> Result<Option<Choice>, AllocError
 }
 
 /// The oldest fact with an If outside quantifiers, with the first one.
-fn oldest_choice(alloc: Global, branch: &Branch) -> Result<Option<At<Choice>>, AllocError>
+pub fn oldest_choice(alloc: Global, branch: &Branch) -> Result<Option<At<Choice>>, AllocError>
     ensures found { IfOk result (λ o. o ≡ oldest first_choice branch.now) }
     ensures within { IfOk result (λ o. IfSome o (λ a. a.at < length branch.now.facts)) }
 {
@@ -150,7 +150,7 @@ fn choosing(alloc: Global, found: &At<Choice>, yes: Made, no: Made) -> Result<Mo
 }
 
 /// The two branches. Wide exactly where a normal form leaves 128 bits.
-fn condition_at(
+pub fn condition_at(
     alloc: Global,
     defs: &[Def],
     branch: Branch,

@@ -46,7 +46,7 @@ fn sides_of_maps<'a>(
 }
 
 /// The sides of a Not Eq of maps.
-fn unequal_in<'a>(
+pub fn unequal_in<'a>(
     alloc: Global,
     defs: &[Def],
     branch: &Branch,
@@ -61,7 +61,7 @@ fn unequal_in<'a>(
 }
 
 /// The oldest Not Eq of maps, with its sides.
-fn oldest_unequal(
+pub fn oldest_unequal(
     alloc: Global,
     defs: &[Def],
     branch: &Branch,
@@ -129,7 +129,7 @@ fn differ_over(
 }
 
 /// The same over a new variable. Wide exactly where the normal form leaves 128 bits.
-fn differ_at(
+pub fn differ_at(
     alloc: Global,
     defs: &[Def],
     branch: Branch,

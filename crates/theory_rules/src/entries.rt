@@ -64,7 +64,7 @@ pub fn same_parts(turned: bool, mine: &[(i128, Term)], theirs: &[(i128, Term)]) 
 }
 
 /// Whether the fact has the same parts as this form, and a constant no greater.
-fn has_no_greater(entry: &Entry, form: &Linear) -> bool
+pub fn has_no_greater(entry: &Entry, form: &Linear) -> bool
     ensures { result ≡ has_no_greater form.now entry.now }
 {
     same_parts(entry.turned, &entry.form.parts, &form.parts)
@@ -171,7 +171,7 @@ fn push_both(
 }
 
 /// What the fact counts as.
-fn push_entries(
+pub fn push_entries(
     alloc: Global,
     defs: &[Def],
     branch: &Branch,

@@ -24,14 +24,14 @@ use tableau_branch::outside::{Shape, first_outside};
 use tableau_branch::played::{Attempt, Ending, Move};
 
 /// The first Read of a Write that stands in the fact outside quantifiers.
-fn first_access(fact: &Fact) -> Option<&Term>
+pub fn first_access(fact: &Fact) -> Option<&Term>
     ensures { option_copied result ≡ first_access fact.now }
 {
     first_outside(Shape::Access, fact.term())
 }
 
 /// The oldest fact with a Read of a Write outside quantifiers, with the first one.
-fn oldest_access(alloc: Global, branch: &Branch) -> Result<Option<At<Term>>, AllocError>
+pub fn oldest_access(alloc: Global, branch: &Branch) -> Result<Option<At<Term>>, AllocError>
     ensures { IfOk result (λ o. o ≡ oldest first_access branch.now) }
 {
     for (at, fact) in branch.facts.iter().enumerate() {
@@ -146,7 +146,7 @@ fn pass_each(
 
 /// The same of a Read of a Write, by its parts. Wide exactly where the distance or a normal form leaves
 /// 128 bits.
-fn pass_access(
+pub fn pass_access(
     alloc: Global,
     defs: &[Def],
     branch: Branch,

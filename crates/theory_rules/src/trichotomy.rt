@@ -47,7 +47,7 @@ fn at_most_forms(alloc: Global, facts: &[Fact]) -> Result<Vec<Linear>, AllocErro
 }
 
 /// The form s of `Le(0, s)`.
-fn at_most_form(alloc: Global, fact: &Fact) -> Result<Option<Linear>, AllocError>
+pub fn at_most_form(alloc: Global, fact: &Fact) -> Result<Option<Linear>, AllocError>
     ensures { IfOk result (λ o. o ≡ at_most_form fact.now) }
 {
     if is_at_most(fact.term()) {
@@ -70,7 +70,7 @@ fn has_opposite(forms: &[Linear], form: &Linear) -> bool
 }
 
 /// Whether the second form is the opposite of the first.
-fn is_opposite(form: &Linear, other: &Linear) -> bool
+pub fn is_opposite(form: &Linear, other: &Linear) -> bool
     ensures { result ≡ is_opposite form.now other.now }
 {
     same_parts(true, &form.parts, &other.parts) && same_number(true, form.rest, other.rest)
@@ -88,7 +88,7 @@ fn equation_of_zero(t: &Term) -> Option<&Term>
 
 /// d of a fact `Not Eq(d, 0)`, or of a fact `Le(0, d)` beside a fact `Le(0, -d)`, which has one of these
 /// forms.
-fn undecided<'a>(
+pub fn undecided<'a>(
     alloc: Global,
     forms: &[Linear],
     term: &'a Term,
@@ -191,7 +191,7 @@ fn open_of(
 
 /// That d is below, at and above zero, unless one of the three is there already. Wide exactly where
 /// none is and one leaves 128 bits.
-fn open_ways(
+pub fn open_ways(
     alloc: Global,
     defs: &[Def],
     branch: &Branch,
@@ -207,7 +207,7 @@ fn open_ways(
 
 /// The first undecided number of which none of the three ways is there, with its ways. Wide exactly
 /// where one leaves 128 bits before.
-fn first_open(
+pub fn first_open(
     alloc: Global,
     defs: &[Def],
     branch: &Branch,
@@ -260,7 +260,12 @@ fn is_not(term: &Term) -> bool
 
 /// The branches where the number is below, at and above zero: a Not Eq goes in the first and in the
 /// third.
-fn decide(alloc: Global, branch: Branch, place: At<Term>, ways: Ways) -> Result<Move, AllocError>
+pub fn decide(
+    alloc: Global,
+    branch: Branch,
+    place: At<Term>,
+    ways: Ways,
+) -> Result<Move, AllocError>
     ensures { IfOk result (λ m. move_of m ≡ decided_by branch place (ways_of ways)) }
 {
     let first = outer(alloc, &branch, &place)?;
