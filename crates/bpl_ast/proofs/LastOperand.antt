@@ -1,25 +1,26 @@
 -- What is said of a chain's last operand.
-use Rattle.std.specs.Prelude.{◌≡◌, refl, ℕ, ◌≤◌, List, [], ◌∷◌, ◌++◌}
+use Rattle.std.specs.Prelude.{◌≡◌, refl, ◌≤◌, List, [], ◌∷◌, ◌++◌}
 use Rattle.std.proofs.Common.{arith}
 use Rattle.bpl_ast.specs.Tree.{Expr}
 use Rattle.bpl_ast.specs.Nodes.{nodes, exprs_nodes, terms_nodes}
 use Rattle.bpl_ast.specs.ExprView.{exprs_of, terms_of}
+use Rattle.bpl_ast.specs.declared.level.Level.{Level}
 use Rattle.bpl_ast.specs.declared.sign.Sign.{Sign}
 use Rattle.bpl_ast.specs.declared.expr.Term.{Term}
 use Rattle.bpl_ast.specs.declared.expr.Term.TheVariants.{Plus, Less}
 use Rattle.bpl_ast.specs.Parens.{last_chain, operand_chain, last_compared, operand_compared, last_takes, operand_takes, terms_take}
 
-pub last_chain_is : (w : ℕ) (front : List Expr) (x : Expr) → last_chain w (exprs_of (front ++ x ∷ [])) ≡ operand_chain w x
+pub last_chain_is : (w : Level) (front : List Expr) (x : Expr) → last_chain w (exprs_of (front ++ x ∷ [])) ≡ operand_chain w x
 last_chain_is w [] x = refl
 last_chain_is w (y ∷ []) x = refl
 last_chain_is w (y ∷ z ∷ front) x = last_chain_is w (z ∷ front) x
 
-pub last_compared_is : (w : ℕ) (front : List Expr) (x : Expr) → last_compared w (exprs_of (front ++ x ∷ [])) ≡ operand_compared w x
+pub last_compared_is : (w : Level) (front : List Expr) (x : Expr) → last_compared w (exprs_of (front ++ x ∷ [])) ≡ operand_compared w x
 last_compared_is w [] x = refl
 last_compared_is w (y ∷ []) x = refl
 last_compared_is w (y ∷ z ∷ front) x = last_compared_is w (z ∷ front) x
 
-pub last_takes_is : (s : Sign) (w : ℕ) (front : List Expr) (x : Expr) → last_takes s w (exprs_of (front ++ x ∷ [])) ≡ operand_takes s w x
+pub last_takes_is : (s : Sign) (w : Level) (front : List Expr) (x : Expr) → last_takes s w (exprs_of (front ++ x ∷ [])) ≡ operand_takes s w x
 last_takes_is s w [] x = refl
 last_takes_is s w (y ∷ []) x = refl
 last_takes_is s w (y ∷ z ∷ front) x = last_takes_is s w (z ∷ front) x

@@ -13,6 +13,7 @@ pub mod StmtFalls
 pub mod SpecView
 pub mod DeclView
 pub mod Glyph
+pub mod Level
 pub mod Parens
 pub mod Expression
 pub mod Lines

@@ -18,6 +18,7 @@ pub mod copy_names;
 pub mod copy_stmts;
 
 // The canonical text.
+mod level;
 mod line;
 mod page;
 mod parens;

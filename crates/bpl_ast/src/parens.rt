@@ -4,28 +4,29 @@ ghost use Rattle.bpl_ast.specs.ExprView.{exprs_of, terms_of, node_of};
 ghost use Rattle.bpl_ast.specs.Parens.{level, goes_on, chain_of, last_chain, operand_chain, compared, last_compared, operand_compared, if_takes, takes_in, operand_takes, last_takes, terms_take, is_caught, needs_parens};
 
 use crate::expr::{Expr, ExprForm, Term};
+use crate::level::Level;
 use crate::sign::{Chain, Sign};
 
-/// The grammar's level of a form without parentheses: 0 for `<==>` up to 8 for an atom.
-pub fn level(form: &ExprForm) -> usize
+/// The production that spells a form without parentheses.
+pub fn level(form: &ExprForm) -> Level
     ensures { result ≡ level (node_of form.now) }
 {
     match form {
-        ExprForm::Iff(_) => 0,
-        ExprForm::Implies(_) => 1,
-        ExprForm::And(_) | ExprForm::Or(_) => 2,
-        ExprForm::Compared { .. } => 3,
-        ExprForm::Sum { .. } => 4,
-        ExprForm::Product(_) => 5,
-        ExprForm::Not(_) | ExprForm::Minus(_) => 6,
-        ExprForm::Indexed { .. } => 7,
+        ExprForm::Iff(_) => Level::Equivalence,
+        ExprForm::Implies(_) => Level::Implication,
+        ExprForm::And(_) | ExprForm::Or(_) => Level::Junction,
+        ExprForm::Compared { .. } => Level::Comparison,
+        ExprForm::Sum { .. } => Level::Sum,
+        ExprForm::Product(_) => Level::Product,
+        ExprForm::Not(_) | ExprForm::Minus(_) => Level::Unary,
+        ExprForm::Indexed { .. } => Level::Postfix,
         ExprForm::Number(_)
         | ExprForm::Truth(_)
         | ExprForm::Variable(_)
         | ExprForm::Apply { .. }
         | ExprForm::Old { .. }
         | ExprForm::If { .. }
-        | ExprForm::Quantified { .. } => 8,
+        | ExprForm::Quantified { .. } => Level::Atom,
     }
 }
 
@@ -54,8 +55,8 @@ fn chain_of(form: &ExprForm) -> Chain
     ensures { result ≡ chain_of (node_of form.now) }
 {
     match form {
-        ExprForm::Iff(xs) => last_chain(1, xs),
-        ExprForm::Implies(xs) => last_chain(2, xs),
+        ExprForm::Iff(xs) => last_chain(Level::Implication, xs),
+        ExprForm::Implies(xs) => last_chain(Level::Junction, xs),
         ExprForm::And(_) => Chain::AndChain,
         ExprForm::Or(_) => Chain::OrChain,
         ExprForm::Compared { .. }
@@ -76,10 +77,10 @@ fn chain_of(form: &ExprForm) -> Chain
 
 /// The chain that an operand ends in where that level stands; in parentheses it ends in none.
 #[cycle(chain)]
-fn operand_chain(at: usize, x: &Expr) -> Chain
+fn operand_chain(at: Level, x: &Expr) -> Chain
     ensures { result ≡ operand_chain at x.now }
 {
-    if level(&x.form) < at {
+    if level(&x.form).is_looser(at) {
         Chain::NoChain
     } else {
         chain_of(&x.form)
@@ -89,7 +90,7 @@ fn operand_chain(at: usize, x: &Expr) -> Chain
 /// The chain that the last of the operands ends in.
 #[cycle(chain)]
 #[tactic(auto, using(crate::proofs::LastOperand::last_chain_is, crate::proofs::LastOperand::last_counts))]
-fn last_chain(at: usize, xs: &[Expr]) -> Chain
+fn last_chain(at: Level, xs: &[Expr]) -> Chain
     ensures { result ≡ last_chain at (exprs_of xs.now) }
 {
     match xs.split_last() {
@@ -104,9 +105,9 @@ fn compared(form: &ExprForm) -> bool
     ensures { result ≡ compared (node_of form.now) }
 {
     match form {
-        ExprForm::Iff(xs) => last_compared(1, xs),
-        ExprForm::Implies(xs) => last_compared(2, xs),
-        ExprForm::And(xs) | ExprForm::Or(xs) => last_compared(3, xs),
+        ExprForm::Iff(xs) => last_compared(Level::Implication, xs),
+        ExprForm::Implies(xs) => last_compared(Level::Junction, xs),
+        ExprForm::And(xs) | ExprForm::Or(xs) => last_compared(Level::Comparison, xs),
         ExprForm::Compared { .. } => true,
         ExprForm::Sum { .. }
         | ExprForm::Product(_)
@@ -125,10 +126,10 @@ fn compared(form: &ExprForm) -> bool
 
 /// Whether an operand ends compared where that level stands.
 #[cycle(compared)]
-fn operand_compared(at: usize, x: &Expr) -> bool
+fn operand_compared(at: Level, x: &Expr) -> bool
     ensures { result ≡ operand_compared at x.now }
 {
-    if level(&x.form) < at {
+    if level(&x.form).is_looser(at) {
         false
     } else {
         compared(&x.form)
@@ -138,7 +139,7 @@ fn operand_compared(at: usize, x: &Expr) -> bool
 /// Whether the last of the operands ends compared.
 #[cycle(compared)]
 #[tactic(auto, using(crate::proofs::LastOperand::last_compared_is, crate::proofs::LastOperand::last_counts))]
-fn last_compared(at: usize, xs: &[Expr]) -> bool
+fn last_compared(at: Level, xs: &[Expr]) -> bool
     ensures { result ≡ last_compared at (exprs_of xs.now) }
 {
     match xs.split_last() {
@@ -154,13 +155,13 @@ fn if_takes(sign: Sign, form: &ExprForm) -> bool
 {
     match form {
         ExprForm::If { else_value: y, .. } => takes_in(sign, y),
-        ExprForm::Iff(xs) => last_takes(sign, 1, xs),
-        ExprForm::Implies(xs) => last_takes(sign, 2, xs),
-        ExprForm::And(xs) | ExprForm::Or(xs) => last_takes(sign, 3, xs),
-        ExprForm::Compared { right: y, .. } => operand_takes(sign, 4, y),
+        ExprForm::Iff(xs) => last_takes(sign, Level::Implication, xs),
+        ExprForm::Implies(xs) => last_takes(sign, Level::Junction, xs),
+        ExprForm::And(xs) | ExprForm::Or(xs) => last_takes(sign, Level::Comparison, xs),
+        ExprForm::Compared { right: y, .. } => operand_takes(sign, Level::Sum, y),
         ExprForm::Sum { others: terms, .. } => terms_take(sign, terms),
-        ExprForm::Product(xs) => last_takes(sign, 6, xs),
-        ExprForm::Not(x) | ExprForm::Minus(x) => operand_takes(sign, 6, x),
+        ExprForm::Product(xs) => last_takes(sign, Level::Unary, xs),
+        ExprForm::Not(x) | ExprForm::Minus(x) => operand_takes(sign, Level::Unary, x),
         ExprForm::Indexed { .. }
         | ExprForm::Number(_)
         | ExprForm::Truth(_)
@@ -181,10 +182,10 @@ fn takes_in(sign: Sign, x: &Expr) -> bool
 
 /// Whether an operand takes the sign in where that level stands.
 #[cycle(takes)]
-fn operand_takes(sign: Sign, at: usize, x: &Expr) -> bool
+fn operand_takes(sign: Sign, at: Level, x: &Expr) -> bool
     ensures { result ≡ operand_takes sign at x.now }
 {
-    if level(&x.form) < at {
+    if level(&x.form).is_looser(at) {
         false
     } else {
         if_takes(sign, &x.form)
@@ -194,7 +195,7 @@ fn operand_takes(sign: Sign, at: usize, x: &Expr) -> bool
 /// Whether the last of the operands takes the sign in.
 #[cycle(takes)]
 #[tactic(auto, using(crate::proofs::LastOperand::last_takes_is, crate::proofs::LastOperand::last_counts))]
-fn last_takes(sign: Sign, at: usize, xs: &[Expr]) -> bool
+fn last_takes(sign: Sign, at: Level, xs: &[Expr]) -> bool
     ensures { result ≡ last_takes sign at (exprs_of xs.now) }
 {
     match xs.split_last() {
@@ -221,7 +222,7 @@ fn term_takes(sign: Sign, term: &Term) -> bool
     ensures { result ≡ terms_take sign (terms_of (term.now ∷ [])) }
 {
     match term {
-        Term::Plus(x) | Term::Less(x) => operand_takes(sign, 5, x),
+        Term::Plus(x) | Term::Less(x) => operand_takes(sign, Level::Product, x),
     }
 }
 
@@ -254,8 +255,8 @@ fn is_caught(behind: Option<Sign>, form: &ExprForm) -> bool
 }
 
 /// Whether parentheses stand around the form where that level stands and that sign comes next.
-pub fn needs_parens(at: usize, behind: Option<Sign>, form: &ExprForm) -> bool
+pub fn needs_parens(at: Level, behind: Option<Sign>, form: &ExprForm) -> bool
     ensures { result ≡ needs_parens at behind (node_of form.now) }
 {
-    level(form) < at || is_caught(behind, form)
+    level(form).is_looser(at) || is_caught(behind, form)
 }

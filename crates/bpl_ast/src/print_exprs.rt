@@ -1,38 +1,18 @@
 // The tokens of expressions.
-ghost use Rattle.std.specs.Prelude.{◌≡◌, Some, None, OnOk};
+ghost use Rattle.std.specs.Prelude.{◌≡◌, None, OnOk};
 ghost use Rattle.bpl_ast.specs.ExprView.{relation_of, quantifier_of, exprs_of, terms_of, indices_of, triggers_of, clause_of, groups_of, node_of};
-ghost use Rattle.bpl_ast.specs.Expression.{behind, behind_term, relation, quantifier, truth_word, operand, node, run, more_run, listed, more_listed, terms, indices, triggers, groups, more_groups, where_clause};
+ghost use Rattle.bpl_ast.specs.Expression.{relation, quantifier, truth_word, expression, operand, node, run, more_run, listed, more_listed, terms, indices, triggers, groups, more_groups, where_clause};
 ghost use Rattle.bpl_ast.specs.Glyph.{plain};
 ghost use Rattle.bpl_ast.specs.Written.{add, written};
 ghost use Rattle.bpl_ast.specs.PrintedPart.{term_tokens, index_tokens, group_tokens};
 
 use crate::expr::{Expr, ExprForm, Group, Index, Quantifier, Relation, Term, Trigger, Where};
+use crate::level::Level;
 use crate::line::Line;
 use crate::parens::needs_parens;
 use crate::print_types::{print_names, print_params, print_type};
-use crate::sign::Sign;
+use crate::sign::{Sign, sign_behind, sign_behind_term};
 use std::alloc::AllocError;
-
-/// The sign behind an operand of a chain: the chain's own, or the one behind the chain.
-fn sign_behind(inner: Sign, next: Option<Sign>, others: &[Expr]) -> Option<Sign>
-    ensures { result ≡ behind inner next (exprs_of others.now) }
-{
-    match others.split_first() {
-        Some(_) => Some(inner),
-        None => next,
-    }
-}
-
-/// The sign behind a part of a sum.
-#[tactic(auto, using(crate::proofs::PartTokens::another_term))]
-fn sign_behind_term(next: Option<Sign>, others: &[Term]) -> Option<Sign>
-    ensures { result ≡ behind_term next (terms_of others.now) }
-{
-    match others.split_first() {
-        Some(_) => Some(Sign::TermSign),
-        None => next,
-    }
-}
 
 /// The sign of a relation.
 fn print_relation(line: &mut Line, sign: Relation) -> Result<(), AllocError>
@@ -72,15 +52,15 @@ fn print_truth(line: &mut Line, truth: bool) -> Result<(), AllocError>
 /// An expression alone: parentheses and signs around it ask for nothing.
 #[cycle(print_expr)]
 pub fn print_expr(line: &mut Line, x: &Expr) -> Result<(), AllocError>
-    ensures { OnOk result (line.new ≡ written line.old (operand 0 None x.now)) }
+    ensures { OnOk result (line.new ≡ written line.old (expression x.now)) }
 {
-    print_operand(line, 0, None, x)
+    print_operand(line, Level::Equivalence, None, x)
 }
 
 /// An expression where a production of that level stands, and the sign behind it.
 #[cycle(print_expr)]
 #[tactic(auto, using(crate::proofs::WrittenLines::written_append))]
-fn print_operand(line: &mut Line, at: usize, next: Option<Sign>, x: &Expr) -> Result<(), AllocError>
+fn print_operand(line: &mut Line, at: Level, next: Option<Sign>, x: &Expr) -> Result<(), AllocError>
     ensures { OnOk result (line.new ≡ written line.old (operand at next x.now)) }
 {
     if needs_parens(at, next, &x.form) {
@@ -127,7 +107,7 @@ fn print_form(line: &mut Line, next: Option<Sign>, form: &ExprForm) -> Result<()
             line.word(b"then")?;
             print_expr(line, x)?;
             line.word(b"else")?;
-            print_operand(line, 0, next, y)
+            print_operand(line, Level::Equivalence, next, y)
         }
         ExprForm::Quantified {
             quantifier: word,
@@ -146,37 +126,44 @@ fn print_form(line: &mut Line, next: Option<Sign>, form: &ExprForm) -> Result<()
             print_expr(line, body)?;
             line.closing(b")")
         }
-        ExprForm::Iff(xs) => print_run(line, 1, Sign::IffSign, b"<==>", next, xs),
-        ExprForm::Implies(xs) => print_run(line, 2, Sign::ImpliesSign, b"==>", next, xs),
-        ExprForm::And(xs) => print_run(line, 3, Sign::AndSign, b"&&", next, xs),
-        ExprForm::Or(xs) => print_run(line, 3, Sign::OrSign, b"||", next, xs),
+        ExprForm::Iff(xs) => print_run(line, Level::Implication, Sign::IffSign, b"<==>", next, xs),
+        ExprForm::Implies(xs) => print_run(
+            line,
+            Level::Junction,
+            Sign::ImpliesSign,
+            b"==>",
+            next,
+            xs,
+        ),
+        ExprForm::And(xs) => print_run(line, Level::Comparison, Sign::AndSign, b"&&", next, xs),
+        ExprForm::Or(xs) => print_run(line, Level::Comparison, Sign::OrSign, b"||", next, xs),
         ExprForm::Compared {
             relation: sign,
             left: x,
             right: y,
         } => {
-            print_operand(line, 4, Some(Sign::RelationSign), x)?;
+            print_operand(line, Level::Sum, Some(Sign::RelationSign), x)?;
             print_relation(line, *sign)?;
-            print_operand(line, 4, next, y)
+            print_operand(line, Level::Sum, next, y)
         }
         ExprForm::Sum {
             first: x,
             others: terms,
         } => {
-            print_operand(line, 5, Some(Sign::TermSign), x)?;
+            print_operand(line, Level::Product, Some(Sign::TermSign), x)?;
             print_terms(line, next, terms)
         }
-        ExprForm::Product(xs) => print_run(line, 6, Sign::FactorSign, b"*", next, xs),
+        ExprForm::Product(xs) => print_run(line, Level::Unary, Sign::FactorSign, b"*", next, xs),
         ExprForm::Not(x) => {
             line.opening(b"!")?;
-            print_operand(line, 6, next, x)
+            print_operand(line, Level::Unary, next, x)
         }
         ExprForm::Minus(x) => {
             line.opening(b"-")?;
-            print_operand(line, 6, next, x)
+            print_operand(line, Level::Unary, next, x)
         }
         ExprForm::Indexed { map: x, indices } => {
-            print_operand(line, 8, Some(Sign::IndexSign), x)?;
+            print_operand(line, Level::Atom, Some(Sign::IndexSign), x)?;
             print_indices(line, indices)
         }
     }
@@ -187,7 +174,7 @@ fn print_form(line: &mut Line, next: Option<Sign>, form: &ExprForm) -> Result<()
 #[tactic(auto, using(crate::proofs::WrittenLines::written_append))]
 fn print_run(
     line: &mut Line,
-    at: usize,
+    at: Level,
     inner: Sign,
     sign: &[u8],
     next: Option<Sign>,
@@ -209,7 +196,7 @@ fn print_run(
 #[tactic(auto, using(crate::proofs::WrittenLines::written_append))]
 fn print_more_run(
     line: &mut Line,
-    at: usize,
+    at: Level,
     inner: Sign,
     sign: &[u8],
     next: Option<Sign>,
@@ -264,11 +251,11 @@ fn print_term(line: &mut Line, next: Option<Sign>, term: &Term) -> Result<(), Al
     match term {
         Term::Plus(x) => {
             line.word(b"+")?;
-            print_operand(line, 5, next, x)
+            print_operand(line, Level::Product, next, x)
         }
         Term::Less(x) => {
             line.word(b"-")?;
-            print_operand(line, 5, next, x)
+            print_operand(line, Level::Product, next, x)
         }
     }
 }

@@ -5,6 +5,7 @@ use Rattle.bv_base.specs.declared.place.Place.{Place}
 use Rattle.bpl_ast.specs.Place.{Name, Params, Ty}
 use Rattle.bpl_ast.specs.Tree.{Expr, Groups, no_groups, group}
 use Rattle.bpl_ast.specs.Statement.{Stmts, Spec, requires, ensures, modifies, Body, Signature, Argument, DeclBody, constant, function, axiom_of, variables, synonym, procedure, implementation}
+use Rattle.bpl_ast.specs.declared.level.Level.TheVariants.{Equivalence}
 use Rattle.bpl_ast.specs.Glyph.{Glyph, plain, word, opening, closing, prefix, line}
 use Rattle.bpl_ast.specs.Expression.{names, params, type, expression, groups}
 use Rattle.bpl_ast.specs.Lines.{Lines, semicolon, free_word, statements, spec_line, local_line, body_lines, returned, signature, argument, more_arguments, arguments, value, unique_word, synonym_of, ended, optional_body, lines}
@@ -78,7 +79,7 @@ rest_arguments (a ∷ xs) w = rest_append (argument a) (more_arguments xs) (rest
 
 rest_value : (b : Option Expr) → IsOptional IsWritten b → Rest (value b)
 rest_value None w = rest_semicolon
-rest_value (Some x) w = rest_loose (word "{") (expression x ++ word "}" ∷ []) open_brace_loose (rest_append (expression x) (word "}" ∷ []) (good_operand x w 0 None).rest (rest_loose (word "}") [] close_brace_loose rest_nil))
+rest_value (Some x) w = rest_loose (word "{") (expression x ++ word "}" ∷ []) open_brace_loose (rest_append (expression x) (word "}" ∷ []) (good_operand x w Equivalence None).rest (rest_loose (word "}") [] close_brace_loose rest_nil))
 
 rest_function : (n : Name) (ps : Option Params) (gs : List Glyph) → IsName n → AreParams ps → Rest (opening "(" ∷ gs) → Rest (prefix n.text ∷ (params ps ++ opening "(" ∷ gs))
 rest_function n None gs w v r = rest_called n.text (opening "(") 40 gs w refl refl r

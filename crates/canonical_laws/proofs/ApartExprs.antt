@@ -4,6 +4,8 @@ use Rattle.std.proofs.Common.{refl, sym, subst}
 use Rattle.bv_base.specs.declared.place.Place.{Place}
 use Rattle.bpl_ast.specs.Place.{Name, Params, Ty, integer, boolean, named, map_type, Tys, no_tys, ty}
 use Rattle.bpl_ast.specs.Tree.{Relation, eq, ne, lt, le, gt, ge, Quantifier, for_all, exists, Expr, expr, Node, number, truth, variable, apply, old, choose, quantified, iffs, implies, ands, ors, related, sums, products, negation, minus, indexed, Exprs, no_exprs, item, Terms, no_terms, plus, less, Indices, no_indices, at_index, update, Triggers, no_triggers, trigger, Groups, no_groups, group, Clause, no_clause, clause}
+use Rattle.bpl_ast.specs.declared.level.Level.{Level}
+use Rattle.bpl_ast.specs.declared.level.Level.TheVariants.{Equivalence, Implication, Junction, Comparison, Sum, Product, Unary, Atom}
 use Rattle.bpl_ast.specs.declared.sign.Sign.{Sign}
 use Rattle.bpl_ast.specs.declared.sign.Sign.TheVariants.{IffSign, ImpliesSign, AndSign, OrSign, RelationSign, TermSign, FactorSign, IndexSign}
 use Rattle.bpl_ast.specs.Parens.{needs_parens}
@@ -63,12 +65,12 @@ narrow_decimal : (n : ℕ) → n < 2 ^ 127 → value (decimal n) < 2 ^ 127
 narrow_decimal n h = subst (λ (m : ℕ). m < 2 ^ 127) (sym (decimal_value n h)) h
 
 abbrev pub GoodOperand : Expr → Type 0
-GoodOperand x = (w : ℕ) (s : Option Sign) → Good (operand w s x)
+GoodOperand x = (w : Level) (s : Option Sign) → Good (operand w s x)
 
 abbrev pub GoodNode : Node → Type 0
 GoodNode n = (s : Option Sign) → Good (node s n)
 
-operand_by : (w : ℕ) (s : Option Sign) (n : Node) (b : Bool) → GoodNode n → Good (elim b [ true ↦ opening "(" ∷ (node None n ++ closing ")" ∷ []) | false ↦ node s n ])
+operand_by : (w : Level) (s : Option Sign) (n : Node) (b : Bool) → GoodNode n → Good (elim b [ true ↦ opening "(" ∷ (node None n ++ closing ")" ∷ []) | false ↦ node s n ])
 operand_by w s n true g = good_open (opening "(") (node None n ++ closing ")" ∷ []) round_open first_round (rest_append (node None n) (closing ")" ∷ []) (g None).rest (rest_loose (closing ")") [] round_loose rest_nil))
 operand_by w s n false g = g s
 
@@ -96,22 +98,22 @@ abbrev EachGood : Exprs → Type 0
 EachGood no_exprs = Unit {0}
 EachGood (item x xs) = GoodOperand x × EachGood xs
 
-more_run_rest : (w : ℕ) (inner : Sign) (g : Glyph) (s : Option Sign) (xs : Exprs) → IsLoose g → EachGood xs → Rest (more_run w inner g s xs)
+more_run_rest : (w : Level) (inner : Sign) (g : Glyph) (s : Option Sign) (xs : Exprs) → IsLoose g → EachGood xs → Rest (more_run w inner g s xs)
 more_run_rest w inner g s no_exprs l e = rest_nil
 more_run_rest w inner g s (item x xs) l e =
     rest_loose g (operand w (behind inner s xs) x ++ more_run w inner g s xs) l (rest_append (operand w (behind inner s xs) x) (more_run w inner g s xs) (e.0 w (behind inner s xs)).rest (more_run_rest w inner g s xs l e.1))
 
-run_good : (w : ℕ) (inner : Sign) (g : Glyph) (s : Option Sign) (xs : Exprs) → IsTrue (two_exprs xs) → IsLoose g → EachGood xs → Good (run w inner g s xs)
+run_good : (w : Level) (inner : Sign) (g : Glyph) (s : Option Sign) (xs : Exprs) → IsTrue (two_exprs xs) → IsLoose g → EachGood xs → Good (run w inner g s xs)
 run_good w inner g s no_exprs t l e = absurd (cc)
 run_good w inner g s (item x xs) t l e = good_append (operand w (behind inner s xs) x) (more_run w inner g s xs) (e.0 w (behind inner s xs)) (more_run_rest w inner g s xs l e.1)
 
 pub more_listed_rest : (xs : Exprs) → EachGood xs → Rest (more_listed xs)
 more_listed_rest no_exprs e = rest_nil
-more_listed_rest (item x xs) e = rest_loose (closing ",") (operand 0 None x ++ more_listed xs) comma_loose (rest_append (operand 0 None x) (more_listed xs) (e.0 0 None).rest (more_listed_rest xs e.1))
+more_listed_rest (item x xs) e = rest_loose (closing ",") (operand Equivalence None x ++ more_listed xs) comma_loose (rest_append (operand Equivalence None x) (more_listed xs) (e.0 Equivalence None).rest (more_listed_rest xs e.1))
 
 pub listed_rest : (xs : Exprs) → EachGood xs → Rest (listed xs)
 listed_rest no_exprs e = rest_nil
-listed_rest (item x xs) e = rest_append (operand 0 None x) (more_listed xs) (e.0 0 None).rest (more_listed_rest xs e.1)
+listed_rest (item x xs) e = rest_append (operand Equivalence None x) (more_listed xs) (e.0 Equivalence None).rest (more_listed_rest xs e.1)
 
 -- in parentheses
 pub in_round : (gs hs : List Glyph) → Rest gs → Rest hs → Rest (opening "(" ∷ (gs ++ closing ")" ∷ hs))
@@ -124,8 +126,8 @@ EachTerm (less x ts) = GoodOperand x × EachTerm ts
 
 terms_rest : (s : Option Sign) (ts : Terms) → EachTerm ts → Rest (terms s ts)
 terms_rest s no_terms e = rest_nil
-terms_rest s (plus x ts) e = rest_loose (word "+") (operand 5 (behind_term s ts) x ++ terms s ts) plus_loose (rest_append (operand 5 (behind_term s ts) x) (terms s ts) (e.0 5 (behind_term s ts)).rest (terms_rest s ts e.1))
-terms_rest s (less x ts) e = rest_loose (word "-") (operand 5 (behind_term s ts) x ++ terms s ts) minus_loose (rest_append (operand 5 (behind_term s ts) x) (terms s ts) (e.0 5 (behind_term s ts)).rest (terms_rest s ts e.1))
+terms_rest s (plus x ts) e = rest_loose (word "+") (operand Product (behind_term s ts) x ++ terms s ts) plus_loose (rest_append (operand Product (behind_term s ts) x) (terms s ts) (e.0 Product (behind_term s ts)).rest (terms_rest s ts e.1))
+terms_rest s (less x ts) e = rest_loose (word "-") (operand Product (behind_term s ts) x ++ terms s ts) minus_loose (rest_append (operand Product (behind_term s ts) x) (terms s ts) (e.0 Product (behind_term s ts)).rest (terms_rest s ts e.1))
 
 abbrev EachIndex : Indices → Type 0
 EachIndex no_indices = Unit {0}
@@ -134,10 +136,10 @@ EachIndex (update x y is) = GoodOperand x × GoodOperand y × EachIndex is
 
 indices_rest : (is : Indices) → EachIndex is → Rest (indices is)
 indices_rest no_indices e = rest_nil
-indices_rest (at_index x is) e = rest_open index (operand 0 None x ++ closing "]" ∷ indices is) index_open (rest_append (operand 0 None x) (closing "]" ∷ indices is) (e.0 0 None).rest (rest_loose (closing "]") (indices is) square_loose (indices_rest is e.1)))
+indices_rest (at_index x is) e = rest_open index (operand Equivalence None x ++ closing "]" ∷ indices is) index_open (rest_append (operand Equivalence None x) (closing "]" ∷ indices is) (e.0 Equivalence None).rest (rest_loose (closing "]") (indices is) square_loose (indices_rest is e.1)))
 indices_rest (update x y is) e =
-    rest_open index (operand 0 None x ++ word ":=" ∷ (operand 0 None y ++ closing "]" ∷ indices is)) index_open (rest_append (operand 0 None x) (word ":=" ∷ (operand 0 None y ++ closing "]" ∷ indices is)) (e.0 0 None).rest
-    (rest_loose (word ":=") (operand 0 None y ++ closing "]" ∷ indices is) set_loose (rest_append (operand 0 None y) (closing "]" ∷ indices is) (e.1 0 None).rest (rest_loose (closing "]") (indices is) square_loose (indices_rest is e.2)))))
+    rest_open index (operand Equivalence None x ++ word ":=" ∷ (operand Equivalence None y ++ closing "]" ∷ indices is)) index_open (rest_append (operand Equivalence None x) (word ":=" ∷ (operand Equivalence None y ++ closing "]" ∷ indices is)) (e.0 Equivalence None).rest
+    (rest_loose (word ":=") (operand Equivalence None y ++ closing "]" ∷ indices is) set_loose (rest_append (operand Equivalence None y) (closing "]" ∷ indices is) (e.1 Equivalence None).rest (rest_loose (closing "]") (indices is) square_loose (indices_rest is e.2)))))
 
 abbrev EachTrigger : Triggers → Type 0
 EachTrigger no_triggers = Unit {0}
@@ -153,7 +155,7 @@ GoodClause (clause p x) = GoodOperand x
 
 clause_rest : (c : Clause) → GoodClause c → Rest (where_clause c)
 clause_rest no_clause e = rest_nil
-clause_rest (clause p x) e = rest_loose (word "where") (operand 0 None x) (loose_word "where" refl refl) (e 0 None).rest
+clause_rest (clause p x) e = rest_loose (word "where") (operand Equivalence None x) (loose_word "where" refl refl) (e Equivalence None).rest
 
 abbrev EachGroup : Groups → Type 0
 EachGroup no_groups = Unit {0}
@@ -174,20 +176,20 @@ groups_rest (group ns t c gs) e = (group_good ns t c (more_groups gs) e.0 e.1 e.
 
 choose_good : (s : Option Sign) (c x y : Expr) → GoodOperand c → GoodOperand x → GoodOperand y → Good (node s (choose c x y))
 choose_good s c x y gc gx gy =
-    good_loose (word "if") (operand 0 None c ++ word "then" ∷ (operand 0 None x ++ word "else" ∷ operand 0 s y)) (loose_word "if" refl refl) (first_word "if" refl)
-    (rest_append (operand 0 None c) (word "then" ∷ (operand 0 None x ++ word "else" ∷ operand 0 s y)) (gc 0 None).rest
-    (rest_loose (word "then") (operand 0 None x ++ word "else" ∷ operand 0 s y) (loose_word "then" refl refl)
-    (rest_append (operand 0 None x) (word "else" ∷ operand 0 s y) (gx 0 None).rest (rest_loose (word "else") (operand 0 s y) (loose_word "else" refl refl) (gy 0 s).rest))))
+    good_loose (word "if") (operand Equivalence None c ++ word "then" ∷ (operand Equivalence None x ++ word "else" ∷ operand Equivalence s y)) (loose_word "if" refl refl) (first_word "if" refl)
+    (rest_append (operand Equivalence None c) (word "then" ∷ (operand Equivalence None x ++ word "else" ∷ operand Equivalence s y)) (gc Equivalence None).rest
+    (rest_loose (word "then") (operand Equivalence None x ++ word "else" ∷ operand Equivalence s y) (loose_word "then" refl refl)
+    (rest_append (operand Equivalence None x) (word "else" ∷ operand Equivalence s y) (gx Equivalence None).rest (rest_loose (word "else") (operand Equivalence s y) (loose_word "else" refl refl) (gy Equivalence s).rest))))
 
 quantified_good : (s : Option Sign) (q : Quantifier) (p : Place) (ps : Option Params) (gs : Groups) (rs : Triggers) (x : Expr) → AreParams ps → EachGroup gs → EachTrigger rs → GoodOperand x → Good (node s (quantified q p ps gs rs x))
 quantified_good s q p ps gs rs x w eg er gx =
-    good_open (opening "(") (quantifier q ∷ (params ps ++ (groups gs ++ word "::" ∷ (triggers rs ++ (operand 0 None x ++ closing ")" ∷ []))))) round_open first_round
-    (quantifier_rest q (params ps ++ (groups gs ++ word "::" ∷ (triggers rs ++ (operand 0 None x ++ closing ")" ∷ []))))
-    (rest_append (params ps) (groups gs ++ word "::" ∷ (triggers rs ++ (operand 0 None x ++ closing ")" ∷ []))) (rest_params ps w)
-    (rest_append (groups gs) (word "::" ∷ (triggers rs ++ (operand 0 None x ++ closing ")" ∷ []))) (groups_rest gs eg)
-    (rest_loose (word "::") (triggers rs ++ (operand 0 None x ++ closing ")" ∷ [])) bound_loose
-    (rest_append (triggers rs) (operand 0 None x ++ closing ")" ∷ []) (triggers_rest rs er)
-    (rest_append (operand 0 None x) (closing ")" ∷ []) (gx 0 None).rest (rest_loose (closing ")") [] round_loose rest_nil)))))))
+    good_open (opening "(") (quantifier q ∷ (params ps ++ (groups gs ++ word "::" ∷ (triggers rs ++ (operand Equivalence None x ++ closing ")" ∷ []))))) round_open first_round
+    (quantifier_rest q (params ps ++ (groups gs ++ word "::" ∷ (triggers rs ++ (operand Equivalence None x ++ closing ")" ∷ []))))
+    (rest_append (params ps) (groups gs ++ word "::" ∷ (triggers rs ++ (operand Equivalence None x ++ closing ")" ∷ []))) (rest_params ps w)
+    (rest_append (groups gs) (word "::" ∷ (triggers rs ++ (operand Equivalence None x ++ closing ")" ∷ []))) (groups_rest gs eg)
+    (rest_loose (word "::") (triggers rs ++ (operand Equivalence None x ++ closing ")" ∷ [])) bound_loose
+    (rest_append (triggers rs) (operand Equivalence None x ++ closing ")" ∷ []) (triggers_rest rs er)
+    (rest_append (operand Equivalence None x) (closing ")" ∷ []) (gx Equivalence None).rest (rest_loose (closing ")") [] round_loose rest_nil)))))))
 
 mutual
   pub good_operand : (x : Expr) → IsWritten x → GoodOperand x
@@ -198,19 +200,19 @@ mutual
   good_node (truth b) h = λ s. truth_good b
   good_node (variable n) h = λ s. good_loose (plain n.text) [] (loose_name n.text h) (first_name n.text false h) rest_nil
   good_node (apply n xs) h = λ s. record { rest = rest_called n.text (opening "(") 40 (listed xs ++ closing ")" ∷ []) h.0 refl refl (in_round (listed xs) [] (listed_rest xs (each_good xs h.1)) rest_nil); begins = first_name n.text true h.0 }
-  good_node (old p x) h = λ s. good_loose (word "old") (opening "(" ∷ (operand 0 None x ++ closing ")" ∷ [])) (loose_word "old" refl refl) (first_word "old" refl) (in_round (operand 0 None x) [] (good_operand x h 0 None).rest rest_nil)
+  good_node (old p x) h = λ s. good_loose (word "old") (opening "(" ∷ (operand Equivalence None x ++ closing ")" ∷ [])) (loose_word "old" refl refl) (first_word "old" refl) (in_round (operand Equivalence None x) [] (good_operand x h Equivalence None).rest rest_nil)
   good_node (choose c x y) h = λ s. choose_good s c x y (good_operand c h.0) (good_operand x h.1) (good_operand y h.2)
   good_node (quantified q p ps gs rs x) h = λ s. quantified_good s q p ps gs rs x h.0 (each_group gs h.2) (each_trigger rs h.3) (good_operand x h.4)
-  good_node (iffs xs) h = λ s. run_good 1 IffSign (word "<==>") s xs h.0 iff_loose (each_good xs h.1)
-  good_node (implies xs) h = λ s. run_good 2 ImpliesSign (word "==>") s xs h.0 implies_loose (each_good xs h.1)
-  good_node (ands xs) h = λ s. run_good 3 AndSign (word "&&") s xs h.0 and_loose (each_good xs h.1)
-  good_node (ors xs) h = λ s. run_good 3 OrSign (word "||") s xs h.0 or_loose (each_good xs h.1)
-  good_node (related o x y) h = λ s. good_append (operand 4 (Some RelationSign) x) (relation o ∷ operand 4 s y) (good_operand x h.0 4 (Some RelationSign)) (related_good o (operand 4 s y) (good_operand y h.1 4 s))
-  good_node (sums x ts) h = λ s. good_append (operand 5 (Some TermSign) x) (terms s ts) (good_operand x h.0 5 (Some TermSign)) (terms_rest s ts (each_term ts h.2))
-  good_node (products xs) h = λ s. run_good 6 FactorSign (word "*") s xs h.0 star_loose (each_good xs h.1)
-  good_node (negation x) h = λ s. record { rest = rest_not (operand 6 s x) (good_operand x h 6 s); begins = first_not }
-  good_node (minus x) h = λ s. good_open (prefix (codes "-")) (operand 6 s x) minus_open first_minus (good_operand x h 6 s).rest
-  good_node (indexed x is) h = λ s. good_append (operand 8 (Some IndexSign) x) (indices is) (good_operand x h.0 8 (Some IndexSign)) (indices_rest is (each_index is h.2))
+  good_node (iffs xs) h = λ s. run_good Implication IffSign (word "<==>") s xs h.0 iff_loose (each_good xs h.1)
+  good_node (implies xs) h = λ s. run_good Junction ImpliesSign (word "==>") s xs h.0 implies_loose (each_good xs h.1)
+  good_node (ands xs) h = λ s. run_good Comparison AndSign (word "&&") s xs h.0 and_loose (each_good xs h.1)
+  good_node (ors xs) h = λ s. run_good Comparison OrSign (word "||") s xs h.0 or_loose (each_good xs h.1)
+  good_node (related o x y) h = λ s. good_append (operand Sum (Some RelationSign) x) (relation o ∷ operand Sum s y) (good_operand x h.0 Sum (Some RelationSign)) (related_good o (operand Sum s y) (good_operand y h.1 Sum s))
+  good_node (sums x ts) h = λ s. good_append (operand Product (Some TermSign) x) (terms s ts) (good_operand x h.0 Product (Some TermSign)) (terms_rest s ts (each_term ts h.2))
+  good_node (products xs) h = λ s. run_good Unary FactorSign (word "*") s xs h.0 star_loose (each_good xs h.1)
+  good_node (negation x) h = λ s. record { rest = rest_not (operand Unary s x) (good_operand x h Unary s); begins = first_not }
+  good_node (minus x) h = λ s. good_open (prefix (codes "-")) (operand Unary s x) minus_open first_minus (good_operand x h Unary s).rest
+  good_node (indexed x is) h = λ s. good_append (operand Atom (Some IndexSign) x) (indices is) (good_operand x h.0 Atom (Some IndexSign)) (indices_rest is (each_index is h.2))
 
   pub each_good : (xs : Exprs) → AreWritten xs → EachGood xs
   each_good no_exprs h = tt

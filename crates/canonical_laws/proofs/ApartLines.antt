@@ -4,6 +4,7 @@ use Rattle.std.proofs.Common.{refl, sym, subst, append_assoc, append-nil}
 use Rattle.bpl_ast.specs.Place.{Name}
 use Rattle.bpl_ast.specs.Tree.{Expr, Exprs, no_exprs, item}
 use Rattle.bpl_ast.specs.Statement.{Target, Guard, Invariant, Stmt, stmt, Action, assert, assume, havoc, assign, call, branches, loop, «break», «return», goto, Branches, branch, otherwise, no_branch, Stmts, no_stmts, next}
+use Rattle.bpl_ast.specs.declared.level.Level.TheVariants.{Equivalence}
 use Rattle.bpl_ast.specs.Glyph.{Glyph, plain, word, opening, closing, prefix, index, line}
 use Rattle.bpl_ast.specs.Expression.{names, expression, listed}
 use Rattle.bpl_ast.specs.Lines.{Lines, semicolon, free_word, entries, more_targets, targets, guard, outs, labels, label, invariant_line, braced, statement, action, chain, others, statements}
@@ -41,7 +42,7 @@ pub rest_semicolon : Rest semicolon
 rest_semicolon = rest_loose (closing ";") [] semicolon_loose rest_nil
 
 pub rest_formula : (x : Expr) → IsWritten x → Rest (formula_tokens x)
-rest_formula x w = rest_append (expression x) semicolon (good_operand x w 0 None).rest rest_semicolon
+rest_formula x w = rest_append (expression x) semicolon (good_operand x w Equivalence None).rest rest_semicolon
 
 pub good_labels : (ns : List Name) (gs : List Glyph) → AreNames ns → Good gs → Good (labels ns ++ gs)
 good_labels [] gs w g = g
@@ -49,7 +50,7 @@ good_labels (n ∷ ns) gs w g = good_loose (plain n.text) (closing ":" ∷ (labe
 
 rest_entries : (xs : Exprs) → AreWritten xs → Rest (entries xs)
 rest_entries no_exprs w = rest_nil
-rest_entries (item x xs) w = rest_open index (expression x ++ closing "]" ∷ entries xs) index_open (rest_append (expression x) (closing "]" ∷ entries xs) (good_operand x w.0 0 None).rest (rest_loose (closing "]") (entries xs) square_loose (rest_entries xs w.1)))
+rest_entries (item x xs) w = rest_open index (expression x ++ closing "]" ∷ entries xs) index_open (rest_append (expression x) (closing "]" ∷ entries xs) (good_operand x w.0 Equivalence None).rest (rest_loose (closing "]") (entries xs) square_loose (rest_entries xs w.1)))
 
 rest_more_targets : (ts : List Target) → AreTargets ts → Rest (more_targets ts)
 rest_more_targets [] w = rest_nil
@@ -63,7 +64,7 @@ good_targets (t ∷ ts) w = good_loose (plain t.name.text) (entries t.indices ++
 
 rest_guard : (g : Guard) → IsGuard g → Rest (guard g)
 rest_guard None w = rest_open (opening "(") (word "*" ∷ closing ")" ∷ []) round_open (rest_loose (word "*") (closing ")" ∷ []) star_loose (rest_loose (closing ")") [] round_loose rest_nil))
-rest_guard (Some x) w = in_round (expression x) [] (good_operand x w 0 None).rest rest_nil
+rest_guard (Some x) w = in_round (expression x) [] (good_operand x w Equivalence None).rest rest_nil
 
 rest_outs : (ns : List Name) → AreNames ns → Rest (outs ns)
 rest_outs [] w = rest_nil

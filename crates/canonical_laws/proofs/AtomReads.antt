@@ -1,5 +1,5 @@
 -- Atoms of the canonical text are read back.
-use Rattle.std.specs.Prelude.{◌≡◌, ℕ, zero, suc, ◌≤◌, nat_lt, Bool, true, false, not, ◌||◌, codes, List, [], ◌∷◌, ◌++◌, drop, IsTrue, Ok, Option, Some, None}
+use Rattle.std.specs.Prelude.{◌≡◌, ℕ, zero, suc, ◌≤◌, Bool, true, false, not, ◌||◌, codes, List, [], ◌∷◌, ◌++◌, drop, IsTrue, Ok, Option, Some, None}
 use Rattle.std.proofs.Common.{refl, ◌∙◌, arith}
 use Rattle.std.proofs.lemmas.Bool.Decides.{nat_tests}
 use Rattle.bpl_grammar.proofs.Booleans.{none_of as no_two, no_not, neither as either_no}
@@ -8,6 +8,9 @@ use Rattle.bpl_lex.specs.Token.{number as number_kind}
 use Rattle.bpl_ast.specs.Place.{Name}
 use Rattle.bpl_ast.specs.Tree.{Expr, expr, Node, truth, variable, apply, old, choose, Exprs, no_exprs, item}
 use Rattle.bpl_ast.specs.ExprView.{exprs_of}
+use Rattle.bpl_ast.specs.declared.level.Level.{Level}
+use Rattle.bpl_ast.specs.declared.level.Level.TheVariants.{Equivalence, Atom}
+use Rattle.bpl_ast.specs.Level.{is_looser}
 use Rattle.bpl_ast.specs.declared.sign.Sign.{Sign}
 use Rattle.bpl_ast.specs.declared.sign.Chain.TheVariants.{NoChain}
 use Rattle.bpl_ast.specs.Parens.{level, is_caught, goes_on, chain_of, compared}
@@ -21,7 +24,7 @@ use Rattle.canonical_laws.specs.Same.{start, bare, bare_name, bare_exprs}
 use Rattle.canonical_laws.specs.Written.{IsName}
 use Rattle.canonical_laws.specs.Nestings.{operand_depth, enclosed_depth}
 use Rattle.canonical_laws.specs.Spelled.{token, Spelled, done, next}
-use Rattle.canonical_laws.specs.Ahead.{weight, sees_text, ahead, stops_operand}
+use Rattle.canonical_laws.specs.Ahead.{sign_level, sees_text, ahead, stops_operand}
 use Rattle.canonical_laws.proofs.Parts.{split, spelled_length, Items, stop, step, items_repeated}
 use Rattle.canonical_laws.proofs.Levels.{is_barred, is_signed, ReadsAt, is_unbarred}
 use Rattle.canonical_laws.proofs.Stopping.{is_ahead}
@@ -36,15 +39,15 @@ pub record InnerRead (room : ℕ) (ls us : List Lexeme) (x : Expr) : Type 0 wher
   pub same : bare value ≡ bare x
   pub unbarred : is_barred ls ≡ false
 
-pub inner_reads : (x : Expr) → OperandReads x → (s : Option Sign) (room : ℕ) (ls us : List Lexeme) → suc (operand_depth 0 s x) ≤ room → IsTrue (stops_operand 0 s x) → IsTrue (ahead s us) → Spelled (operand 0 s x) ls us → InnerRead room ls us x
+pub inner_reads : (x : Expr) → OperandReads x → (s : Option Sign) (room : ℕ) (ls us : List Lexeme) → suc (operand_depth Equivalence s x) ≤ room → IsTrue (stops_operand Equivalence s x) → IsTrue (ahead s us) → Spelled (operand Equivalence s x) ls us → InnerRead room ls us x
 inner_reads x r s zero ls us d h k g = absurd (omega arith)
 inner_reads x r s (suc room) ls us d h k g =
-    let a = r 0 s room ls us (omega arith) (omega arith) h k g in
+    let a = r Equivalence s room ls us (omega arith) h k g in
     record { value = a.value; reads = a.reads; same = a.same; unbarred = a.unbarred }
 
 -- an atom that begins with a token that is no sign
 abbrev AtomRead : ℕ → List Lexeme → List Lexeme → Node → Type 0
-AtomRead room ls us n = ReadsAt 8 room ls us (expr start n)
+AtomRead room ls us n = ReadsAt Atom room ls us (expr start n)
 
 -- true and false
 
@@ -112,7 +115,7 @@ behind_item (item x xs) ms us k (next p g) = refl
 pub list_items : (xs : Exprs) (room : ℕ) (ls us : List Lexeme) → EachReads xs → enclosed_depth xs ≤ room → IsTrue (ahead None us) → sees_text "," us ≡ false → Spelled (more_listed xs) ls us → ListItems room ls us xs
 list_items no_exprs room ls us e d k z done = record { values = []; reads = stop z; same = refl }
 list_items (item x xs) room ls us e d k z (next {ls = rest} p g) =
-    let q = split (operand 0 None x) (more_listed xs) g in
+    let q = split (operand Equivalence None x) (more_listed xs) g in
     let a = inner_reads x e.0 None room rest q.middle (omega (arith, d)) refl (behind_item xs q.middle us k q.second) q.first in
     let b = list_items xs room q.middle us e.1 (omega (arith, d)) k z q.second in
     record {
@@ -126,7 +129,7 @@ listed_ok read x ls ms us zs h k = rw (h, k) refl
 
 pub list_reads : (x : Expr) (xs : Exprs) (room : ℕ) (ls us : List Lexeme) → EachReads (item x xs) → enclosed_depth (item x xs) ≤ room → IsTrue (ahead None us) → sees_text "," us ≡ false → Spelled (listed_tokens (item x xs)) ls us → ListRead room ls us (item x xs)
 list_reads x xs room ls us e d k z g =
-    let q = split (operand 0 None x) (more_listed xs) g in
+    let q = split (operand Equivalence None x) (more_listed xs) g in
     let a = inner_reads x e.0 None room ls q.middle (omega (arith, d)) refl (behind_item xs q.middle us k q.second) q.first in
     let b = list_items xs room q.middle us e.1 (omega (arith, d)) k z q.second in
     record {
@@ -179,7 +182,7 @@ old_read : (room : ℕ) (p q z : Place) (ls us : List Lexeme) (x : Expr) → rea
 unfolding atom_with old_with
 old_read room p q z ls us x h = rw h refl
 
-old_closed : (room : ℕ) (o p q : Place) (x : Expr) (ls ms us : List Lexeme) → OperandReads x → suc (operand_depth 0 None x) ≤ room → Spelled (operand 0 None x) ls ms → Spelled (closing ")" ∷ []) ms us
+old_closed : (room : ℕ) (o p q : Place) (x : Expr) (ls ms us : List Lexeme) → OperandReads x → suc (operand_depth Equivalence None x) ≤ room → Spelled (operand Equivalence None x) ls ms → Spelled (closing ")" ∷ []) ms us
     → AtomRead room (token p (word "old") ∷ token q (opening "(") ∷ ls) us (old o x)
 old_closed room o p q x ls ms us r d f (next z done) =
     let a = inner_reads x r None room ls (token z (closing ")") ∷ us) d refl refl f in
@@ -187,7 +190,7 @@ old_closed room o p q x ls ms us r d f (next z done) =
 
 pub old_reads : (o : Place) (x : Expr) → OperandReads x → NodeReads (old o x)
 old_reads o x r s room ls us d c h k (next p (next {ls = rest} q g)) =
-    let f = split (operand 0 None x) (closing ")" ∷ []) g in
+    let f = split (operand Equivalence None x) (closing ")" ∷ []) g in
     old_closed room o p q x rest f.middle us r d f.first f.second
 
 -- if
@@ -197,22 +200,22 @@ pub choose_read : (room : ℕ) (p q z : Place) (ls ms ns us : List Lexeme) (c x 
 unfolding atom_with choose_with
 choose_read room p q z ls ms ns us c x y h k l = rw (h, k, l) refl
 
-never_below : (n : ℕ) → nat_lt n 0 ≡ false
-never_below n = grind (arith, nat_tests)
+never_below : (w : Level) → is_looser w Equivalence ≡ false
+never_below w = grind (arith, nat_tests)
 
 -- where the `if` is not caught, the operand after `else` stops before the sign
-stops_free : (q : Sign) (n : Node) (b c : Bool) → nat_lt (level n) 0 ≡ b → goes_on q (chain_of n) (compared n) ≡ c → c ≡ false
-    → IsTrue (nat_lt (weight q) 0 || not (goes_on q (elim b [ true ↦ NoChain | false ↦ chain_of n ]) (elim b [ true ↦ false | false ↦ compared n ])))
+stops_free : (q : Sign) (n : Node) (b c : Bool) → is_looser (level n) Equivalence ≡ b → goes_on q (chain_of n) (compared n) ≡ c → c ≡ false
+    → IsTrue (is_looser (sign_level q) Equivalence || not (goes_on q (elim b [ true ↦ NoChain | false ↦ chain_of n ]) (elim b [ true ↦ false | false ↦ compared n ])))
 stops_free q n true c e f g = absurd (cc (never_below (level n)))
-stops_free q n false c e f g = or_right (nat_lt (weight q) 0) (λ i. not ((f ∙ g) i))
+stops_free q n false c e f g = or_right (is_looser (sign_level q) Equivalence) (λ i. not ((f ∙ g) i))
   where
     or_right : (a : Bool) {b : Bool} → IsTrue b → IsTrue (a || b)
     or_right true h = refl
     or_right false h = h
 
-else_stops : (s : Option Sign) (c x y : Expr) → is_caught s (choose c x y) ≡ false → IsTrue (stops_operand 0 s y)
+else_stops : (s : Option Sign) (c x y : Expr) → is_caught s (choose c x y) ≡ false → IsTrue (stops_operand Equivalence s y)
 else_stops None c x y h = refl
-else_stops (Some q) c x (expr p n) h = stops_free q n (nat_lt (level n) 0) (goes_on q (chain_of n) (compared n)) refl refl (either_no _ _ h).0
+else_stops (Some q) c x (expr p n) h = stops_free q n (is_looser (level n) Equivalence) (goes_on q (chain_of n) (compared n)) refl refl (either_no _ _ h).0
 
 chosen : (room : ℕ) (p q z : Place) (ls ms ns us : List Lexeme) (c x y : Expr) → InnerRead room ls (token q (word "then") ∷ ms) c → InnerRead room ms (token z (word "else") ∷ ns) x → InnerRead room ns us y
     → AtomRead room (token p (word "if") ∷ ls) us (choose c x y)
@@ -226,17 +229,17 @@ chosen room p q z ls ms ns us c x y a b e = record {
 
 pub choose_reads : (c x y : Expr) → OperandReads c → OperandReads x → OperandReads y → NodeReads (choose c x y)
 choose_reads c x y rc rx ry s room ls us d u h k (next {ls = rest} p g) =
-    let f = split (operand 0 None c) (word "then" ∷ (operand 0 None x ++ word "else" ∷ operand 0 s y)) g in
+    let f = split (operand Equivalence None c) (word "then" ∷ (operand Equivalence None x ++ word "else" ∷ operand Equivalence s y)) g in
     second p rest f.middle f.first f.second
   where
-    third : (p q : Place) (ls ms mid : List Lexeme) → Spelled (operand 0 None c) ls (token q (word "then") ∷ ms) → Spelled (operand 0 None x) ms mid → Spelled (word "else" ∷ operand 0 s y) mid us → AtomRead room (token p (word "if") ∷ ls) us (choose c x y)
+    third : (p q : Place) (ls ms mid : List Lexeme) → Spelled (operand Equivalence None c) ls (token q (word "then") ∷ ms) → Spelled (operand Equivalence None x) ms mid → Spelled (word "else" ∷ operand Equivalence s y) mid us → AtomRead room (token p (word "if") ∷ ls) us (choose c x y)
     third p q ls ms mid fc fx (next {ls = ns} z fy) =
         chosen room p q z ls ms ns us c x y
         (inner_reads c rc None room ls (token q (word "then") ∷ ms) (omega (arith, d)) refl refl fc)
         (inner_reads x rx None room ms (token z (word "else") ∷ ns) (omega (arith, d)) refl refl fx)
         (inner_reads y ry s room ns us (omega (arith, d)) (else_stops s c x y u) k fy)
 
-    second : (p : Place) (ls mid : List Lexeme) → Spelled (operand 0 None c) ls mid → Spelled (word "then" ∷ (operand 0 None x ++ word "else" ∷ operand 0 s y)) mid us → AtomRead room (token p (word "if") ∷ ls) us (choose c x y)
+    second : (p : Place) (ls mid : List Lexeme) → Spelled (operand Equivalence None c) ls mid → Spelled (word "then" ∷ (operand Equivalence None x ++ word "else" ∷ operand Equivalence s y)) mid us → AtomRead room (token p (word "if") ∷ ls) us (choose c x y)
     second p ls mid fc (next {ls = ms} q g) =
-        let f = split (operand 0 None x) (word "else" ∷ operand 0 s y) g in
+        let f = split (operand Equivalence None x) (word "else" ∷ operand Equivalence s y) g in
         third p q ls ms f.middle fc f.first f.second

@@ -1,7 +1,9 @@
 -- Chains of operands.
-use Rattle.std.specs.Prelude.{◌≡◌, ℕ, nat_lt, Bool, true, false, not, ◌||◌, codes, List, ◌∷◌, IsTrue, Ok, Option, Some, None}
+use Rattle.std.specs.Prelude.{◌≡◌, ℕ, Bool, true, false, not, ◌||◌, codes, List, ◌∷◌, IsTrue, Ok, Option, Some, None}
 use Rattle.std.proofs.Common.{refl, arith}
 use Rattle.bv_base.specs.declared.place.Place.{Place}
+use Rattle.bpl_ast.specs.declared.level.Level.TheVariants.{Equivalence, Implication, Junction, Comparison, Product, Unary}
+use Rattle.bpl_ast.specs.Level.{is_looser}
 use Rattle.bpl_ast.specs.Glyph.{word}
 use Rattle.bpl_ast.specs.Tree.{Expr, expr, iffs, implies, ands, ors, products, Exprs}
 use Rattle.bpl_ast.specs.declared.sign.Sign.{Sign}
@@ -16,73 +18,74 @@ use Rattle.bpl_grammar.specs.ReadExpressions.{joined, read_inner, e_with, imp_wi
 use Rattle.canonical_laws.specs.Same.{start}
 use Rattle.canonical_laws.specs.Written.{two_exprs}
 use Rattle.canonical_laws.specs.Spelled.{token}
-use Rattle.canonical_laws.specs.Ahead.{weight, is_sign, stops}
+use Rattle.canonical_laws.specs.Ahead.{sign_level, is_sign, stops}
+use Rattle.canonical_laws.proofs.Ranks.{looser, not_looser}
 use Rattle.canonical_laws.proofs.Levels.{reader_at, ReadsAt}
-use Rattle.canonical_laws.proofs.Stopping.{unseen, is_ahead, lt_true, lt_false}
+use Rattle.canonical_laws.proofs.Stopping.{unseen, is_ahead}
 use Rattle.canonical_laws.proofs.Operands.{NodeReads}
 use Rattle.canonical_laws.proofs.RunReads.{EachReads, StopsLast, RunIs, run_reads, last_stops, low_last, none_last}
 
 -- the last operand
 
-iff_last : (s : Option Sign) (xs : Exprs) → IsTrue (stops 0 s (iffs xs)) → StopsLast 1 s xs
-iff_last None xs h = none_last 1 xs
-iff_last (Some q) xs h = last_stops 1 q xs (wide (nat_lt (weight q) 0) (nat_lt (weight q) 1) _ refl refl h)
+iff_last : (s : Option Sign) (xs : Exprs) → IsTrue (stops Equivalence s (iffs xs)) → StopsLast Implication s xs
+iff_last None xs h = none_last Implication xs
+iff_last (Some q) xs h = last_stops Implication q xs (wide (is_looser (sign_level q) Equivalence) (is_looser (sign_level q) Implication) _ refl refl h)
   where
-    wide : (a b g : Bool) → nat_lt (weight q) 0 ≡ a → nat_lt (weight q) 1 ≡ b → IsTrue (a || g) → IsTrue (b || g)
+    wide : (a b g : Bool) → is_looser (sign_level q) Equivalence ≡ a → is_looser (sign_level q) Implication ≡ b → IsTrue (a || g) → IsTrue (b || g)
     wide a true g e f h = refl
     wide false false g e f h = h
-    wide true false g e f h = absurd (omega (arith, lt_true (weight q) 0 e))
+    wide true false g e f h = absurd (omega (arith, looser (sign_level q) Equivalence e))
 
-implies_last : (s : Option Sign) (xs : Exprs) → IsTrue (stops 1 s (implies xs)) → StopsLast 2 s xs
-implies_last None xs h = none_last 2 xs
-implies_last (Some q) xs h = last_stops 2 q xs (wide (nat_lt (weight q) 1) (nat_lt (weight q) 2) _ refl refl h)
+implies_last : (s : Option Sign) (xs : Exprs) → IsTrue (stops Implication s (implies xs)) → StopsLast Junction s xs
+implies_last None xs h = none_last Junction xs
+implies_last (Some q) xs h = last_stops Junction q xs (wide (is_looser (sign_level q) Implication) (is_looser (sign_level q) Junction) _ refl refl h)
   where
-    wide : (a b g : Bool) → nat_lt (weight q) 1 ≡ a → nat_lt (weight q) 2 ≡ b → IsTrue (a || g) → IsTrue (b || g)
+    wide : (a b g : Bool) → is_looser (sign_level q) Implication ≡ a → is_looser (sign_level q) Junction ≡ b → IsTrue (a || g) → IsTrue (b || g)
     wide a true g e f h = refl
     wide false false g e f h = h
-    wide true false g e f h = absurd (omega (arith, lt_true (weight q) 1 e, lt_false (weight q) 2 f))
+    wide true false g e f h = absurd (omega (arith, looser (sign_level q) Implication e, not_looser (sign_level q) Junction f))
 
 -- behind && and ||, where a comparison may follow
 compared_last : (c d : Chain) (b : Bool) → IsTrue (not (goes_on RelationSign c b)) → IsTrue (not (goes_on RelationSign d b))
 compared_last c d true h = refl
 compared_last c d false h = absurd (cc)
 
-and_last : (s : Option Sign) (xs : Exprs) → IsTrue (stops 2 s (ands xs)) → StopsLast 3 s xs
-and_last None xs h = none_last 3 xs
-and_last (Some IffSign) xs h = low_last 3 IffSign xs (omega arith)
-and_last (Some ImpliesSign) xs h = low_last 3 ImpliesSign xs (omega arith)
-and_last (Some AndSign) xs h = low_last 3 AndSign xs (omega arith)
-and_last (Some OrSign) xs h = low_last 3 OrSign xs (omega arith)
-and_last (Some RelationSign) xs h = last_stops 3 RelationSign xs (compared_last AndChain (last_chain 3 xs) (last_compared 3 xs) h)
+and_last : (s : Option Sign) (xs : Exprs) → IsTrue (stops Junction s (ands xs)) → StopsLast Comparison s xs
+and_last None xs h = none_last Comparison xs
+and_last (Some IffSign) xs h = low_last Comparison IffSign xs (omega arith)
+and_last (Some ImpliesSign) xs h = low_last Comparison ImpliesSign xs (omega arith)
+and_last (Some AndSign) xs h = low_last Comparison AndSign xs (omega arith)
+and_last (Some OrSign) xs h = low_last Comparison OrSign xs (omega arith)
+and_last (Some RelationSign) xs h = last_stops Comparison RelationSign xs (compared_last AndChain (last_chain Comparison xs) (last_compared Comparison xs) h)
 and_last (Some TermSign) xs h = absurd (cc)
 and_last (Some FactorSign) xs h = absurd (cc)
 and_last (Some IndexSign) xs h = absurd (cc)
 
-or_last : (s : Option Sign) (xs : Exprs) → IsTrue (stops 2 s (ors xs)) → StopsLast 3 s xs
-or_last None xs h = none_last 3 xs
-or_last (Some IffSign) xs h = low_last 3 IffSign xs (omega arith)
-or_last (Some ImpliesSign) xs h = low_last 3 ImpliesSign xs (omega arith)
-or_last (Some AndSign) xs h = low_last 3 AndSign xs (omega arith)
-or_last (Some OrSign) xs h = low_last 3 OrSign xs (omega arith)
-or_last (Some RelationSign) xs h = last_stops 3 RelationSign xs (compared_last OrChain (last_chain 3 xs) (last_compared 3 xs) h)
+or_last : (s : Option Sign) (xs : Exprs) → IsTrue (stops Junction s (ors xs)) → StopsLast Comparison s xs
+or_last None xs h = none_last Comparison xs
+or_last (Some IffSign) xs h = low_last Comparison IffSign xs (omega arith)
+or_last (Some ImpliesSign) xs h = low_last Comparison ImpliesSign xs (omega arith)
+or_last (Some AndSign) xs h = low_last Comparison AndSign xs (omega arith)
+or_last (Some OrSign) xs h = low_last Comparison OrSign xs (omega arith)
+or_last (Some RelationSign) xs h = last_stops Comparison RelationSign xs (compared_last OrChain (last_chain Comparison xs) (last_compared Comparison xs) h)
 or_last (Some TermSign) xs h = absurd (cc)
 or_last (Some FactorSign) xs h = absurd (cc)
 or_last (Some IndexSign) xs h = absurd (cc)
 
-product_last : (s : Option Sign) (xs : Exprs) → IsTrue (stops 5 s (products xs)) → StopsLast 6 s xs
-product_last None xs h = none_last 6 xs
-product_last (Some IffSign) xs h = low_last 6 IffSign xs (omega arith)
-product_last (Some ImpliesSign) xs h = low_last 6 ImpliesSign xs (omega arith)
-product_last (Some AndSign) xs h = low_last 6 AndSign xs (omega arith)
-product_last (Some OrSign) xs h = low_last 6 OrSign xs (omega arith)
-product_last (Some RelationSign) xs h = low_last 6 RelationSign xs (omega arith)
-product_last (Some TermSign) xs h = low_last 6 TermSign xs (omega arith)
+product_last : (s : Option Sign) (xs : Exprs) → IsTrue (stops Product s (products xs)) → StopsLast Unary s xs
+product_last None xs h = none_last Unary xs
+product_last (Some IffSign) xs h = low_last Unary IffSign xs (omega arith)
+product_last (Some ImpliesSign) xs h = low_last Unary ImpliesSign xs (omega arith)
+product_last (Some AndSign) xs h = low_last Unary AndSign xs (omega arith)
+product_last (Some OrSign) xs h = low_last Unary OrSign xs (omega arith)
+product_last (Some RelationSign) xs h = low_last Unary RelationSign xs (omega arith)
+product_last (Some TermSign) xs h = low_last Unary TermSign xs (omega arith)
 product_last (Some FactorSign) xs h = absurd (cc)
 product_last (Some IndexSign) xs h = absurd (cc)
 
 -- the chain's own sign is not ahead
 
-not_iff : (s : Option Sign) (xs : Exprs) → IsTrue (stops 0 s (iffs xs)) → is_sign IffSign s ≡ false
+not_iff : (s : Option Sign) (xs : Exprs) → IsTrue (stops Equivalence s (iffs xs)) → is_sign IffSign s ≡ false
 not_iff None xs h = refl
 not_iff (Some IffSign) xs h = absurd (cc)
 not_iff (Some ImpliesSign) xs h = refl
@@ -93,7 +96,7 @@ not_iff (Some TermSign) xs h = refl
 not_iff (Some FactorSign) xs h = refl
 not_iff (Some IndexSign) xs h = refl
 
-not_implies : (s : Option Sign) (xs : Exprs) → IsTrue (stops 1 s (implies xs)) → is_sign ImpliesSign s ≡ false
+not_implies : (s : Option Sign) (xs : Exprs) → IsTrue (stops Implication s (implies xs)) → is_sign ImpliesSign s ≡ false
 not_implies None xs h = refl
 not_implies (Some IffSign) xs h = refl
 not_implies (Some ImpliesSign) xs h = absurd (cc)
@@ -104,7 +107,7 @@ not_implies (Some TermSign) xs h = refl
 not_implies (Some FactorSign) xs h = refl
 not_implies (Some IndexSign) xs h = refl
 
-not_and : (s : Option Sign) (xs : Exprs) → IsTrue (stops 2 s (ands xs)) → is_sign AndSign s ≡ false
+not_and : (s : Option Sign) (xs : Exprs) → IsTrue (stops Junction s (ands xs)) → is_sign AndSign s ≡ false
 not_and None xs h = refl
 not_and (Some IffSign) xs h = refl
 not_and (Some ImpliesSign) xs h = refl
@@ -115,7 +118,7 @@ not_and (Some TermSign) xs h = refl
 not_and (Some FactorSign) xs h = refl
 not_and (Some IndexSign) xs h = refl
 
-not_or : (s : Option Sign) (xs : Exprs) → IsTrue (stops 2 s (ors xs)) → is_sign OrSign s ≡ false
+not_or : (s : Option Sign) (xs : Exprs) → IsTrue (stops Junction s (ors xs)) → is_sign OrSign s ≡ false
 not_or None xs h = refl
 not_or (Some IffSign) xs h = refl
 not_or (Some ImpliesSign) xs h = refl
@@ -126,7 +129,7 @@ not_or (Some TermSign) xs h = refl
 not_or (Some FactorSign) xs h = refl
 not_or (Some IndexSign) xs h = refl
 
-not_factor : (s : Option Sign) (xs : Exprs) → IsTrue (stops 5 s (products xs)) → is_sign FactorSign s ≡ false
+not_factor : (s : Option Sign) (xs : Exprs) → IsTrue (stops Product s (products xs)) → is_sign FactorSign s ≡ false
 not_factor None xs h = refl
 not_factor (Some IffSign) xs h = refl
 not_factor (Some ImpliesSign) xs h = refl
@@ -139,7 +142,7 @@ not_factor (Some IndexSign) xs h = refl
 
 -- what is read of a run
 
-iff_reads : (room : ℕ) (ls us : List Lexeme) (xs : Exprs) → RunIs 1 room "<==>" ls us xs → ReadsAt 0 room ls us (expr start (iffs xs))
+iff_reads : (room : ℕ) (ls us : List Lexeme) (xs : Exprs) → RunIs Implication room "<==>" ls us xs → ReadsAt Equivalence room ls us (expr start (iffs xs))
 unfolding e_with
 iff_reads room ls us xs r = record {
   value = joined iffs (r.first ∷ r.others);
@@ -149,10 +152,10 @@ iff_reads room ls us xs r = record {
   unbarred = r.unbarred;
 }
   where
-    shown : {x : Expr} {zs : List Expr} {ms : List Lexeme} → reader_at 1 room ls ≡ Ok (x, ms) → read_behind (fixed (codes "<==>")) (reader_at 1 room) ms ≡ Ok (zs, us) → e_with room (read_inner room) ls ≡ Ok (joined iffs (x ∷ zs), us)
+    shown : {x : Expr} {zs : List Expr} {ms : List Lexeme} → reader_at Implication room ls ≡ Ok (x, ms) → read_behind (fixed (codes "<==>")) (reader_at Implication room) ms ≡ Ok (zs, us) → e_with room (read_inner room) ls ≡ Ok (joined iffs (x ∷ zs), us)
     shown h k = rw (h, k) refl
 
-implies_reads : (room : ℕ) (ls us : List Lexeme) (xs : Exprs) → RunIs 2 room "==>" ls us xs → ReadsAt 1 room ls us (expr start (implies xs))
+implies_reads : (room : ℕ) (ls us : List Lexeme) (xs : Exprs) → RunIs Junction room "==>" ls us xs → ReadsAt Implication room ls us (expr start (implies xs))
 unfolding imp_with
 implies_reads room ls us xs r = record {
   value = joined implies (r.first ∷ r.others);
@@ -162,10 +165,10 @@ implies_reads room ls us xs r = record {
   unbarred = r.unbarred;
 }
   where
-    shown : {x : Expr} {zs : List Expr} {ms : List Lexeme} → reader_at 2 room ls ≡ Ok (x, ms) → read_behind (fixed (codes "==>")) (reader_at 2 room) ms ≡ Ok (zs, us) → imp_with room (read_inner room) ls ≡ Ok (joined implies (x ∷ zs), us)
+    shown : {x : Expr} {zs : List Expr} {ms : List Lexeme} → reader_at Junction room ls ≡ Ok (x, ms) → read_behind (fixed (codes "==>")) (reader_at Junction room) ms ≡ Ok (zs, us) → imp_with room (read_inner room) ls ≡ Ok (joined implies (x ∷ zs), us)
     shown h k = rw (h, k) refl
 
-and_reads : (room : ℕ) (ls us : List Lexeme) (xs : Exprs) → RunIs 3 room "&&" ls us xs → ReadsAt 2 room ls us (expr start (ands xs))
+and_reads : (room : ℕ) (ls us : List Lexeme) (xs : Exprs) → RunIs Comparison room "&&" ls us xs → ReadsAt Junction room ls us (expr start (ands xs))
 unfolding log_with rels_with
 and_reads room ls us xs r = record {
   value = joined ands (r.first ∷ r.others);
@@ -175,10 +178,10 @@ and_reads room ls us xs r = record {
   unbarred = r.unbarred;
 }
   where
-    shown : {x : Expr} {zs : List Expr} {ms : List Lexeme} (p : Place) → reader_at 3 room ls ≡ Ok (x, token p (word "&&") ∷ ms) → read_behind (fixed (codes "&&")) (reader_at 3 room) (token p (word "&&") ∷ ms) ≡ Ok (zs, us) → log_with room (read_inner room) ls ≡ Ok (joined ands (x ∷ zs), us)
+    shown : {x : Expr} {zs : List Expr} {ms : List Lexeme} (p : Place) → reader_at Comparison room ls ≡ Ok (x, token p (word "&&") ∷ ms) → read_behind (fixed (codes "&&")) (reader_at Comparison room) (token p (word "&&") ∷ ms) ≡ Ok (zs, us) → log_with room (read_inner room) ls ≡ Ok (joined ands (x ∷ zs), us)
     shown p h k = rw (h, k) refl
 
-or_reads : (room : ℕ) (ls us : List Lexeme) (xs : Exprs) → RunIs 3 room "||" ls us xs → ReadsAt 2 room ls us (expr start (ors xs))
+or_reads : (room : ℕ) (ls us : List Lexeme) (xs : Exprs) → RunIs Comparison room "||" ls us xs → ReadsAt Junction room ls us (expr start (ors xs))
 unfolding log_with rels_with
 or_reads room ls us xs r = record {
   value = joined ors (r.first ∷ r.others);
@@ -188,10 +191,10 @@ or_reads room ls us xs r = record {
   unbarred = r.unbarred;
 }
   where
-    shown : {x : Expr} {zs : List Expr} {ms : List Lexeme} (p : Place) → reader_at 3 room ls ≡ Ok (x, token p (word "||") ∷ ms) → read_behind (fixed (codes "||")) (reader_at 3 room) (token p (word "||") ∷ ms) ≡ Ok (zs, us) → log_with room (read_inner room) ls ≡ Ok (joined ors (x ∷ zs), us)
+    shown : {x : Expr} {zs : List Expr} {ms : List Lexeme} (p : Place) → reader_at Comparison room ls ≡ Ok (x, token p (word "||") ∷ ms) → read_behind (fixed (codes "||")) (reader_at Comparison room) (token p (word "||") ∷ ms) ≡ Ok (zs, us) → log_with room (read_inner room) ls ≡ Ok (joined ors (x ∷ zs), us)
     shown p h k = rw (h, k) refl
 
-product_reads : (room : ℕ) (ls us : List Lexeme) (xs : Exprs) → RunIs 6 room "*" ls us xs → ReadsAt 5 room ls us (expr start (products xs))
+product_reads : (room : ℕ) (ls us : List Lexeme) (xs : Exprs) → RunIs Unary room "*" ls us xs → ReadsAt Product room ls us (expr start (products xs))
 unfolding prod_with factors_with
 product_reads room ls us xs r = record {
   value = joined products (r.first ∷ r.others);
@@ -201,27 +204,27 @@ product_reads room ls us xs r = record {
   unbarred = r.unbarred;
 }
   where
-    shown : {x : Expr} {zs : List Expr} {ms : List Lexeme} → reader_at 6 room ls ≡ Ok (x, ms) → read_behind (fixed (codes "*")) (reader_at 6 room) ms ≡ Ok (zs, us) → prod_with room (read_inner room) ls ≡ Ok (joined products (x ∷ zs), us)
+    shown : {x : Expr} {zs : List Expr} {ms : List Lexeme} → reader_at Unary room ls ≡ Ok (x, ms) → read_behind (fixed (codes "*")) (reader_at Unary room) ms ≡ Ok (zs, us) → prod_with room (read_inner room) ls ≡ Ok (joined products (x ∷ zs), us)
     shown h k = rw (h, k) refl
 
 -- and of the node
 
 pub iffs_read : (xs : Exprs) → IsTrue (two_exprs xs) → EachReads xs → NodeReads (iffs xs)
 iffs_read xs t e s room ls us d c h k g =
-    iff_reads room ls us xs (run_reads 1 IffSign "<==>" (omega arith) (omega arith) (λ p vs. refl) (λ p vs. refl) s room xs ls us e t d (iff_last s xs h) k (unseen _ _ (not_iff s xs h) (is_ahead s us k).iff) g)
+    iff_reads room ls us xs (run_reads Implication IffSign "<==>" (omega arith) (λ p vs. refl) (λ p vs. refl) s room xs ls us e t d (iff_last s xs h) k (unseen _ _ (not_iff s xs h) (is_ahead s us k).iff) g)
 
 pub implies_read : (xs : Exprs) → IsTrue (two_exprs xs) → EachReads xs → NodeReads (implies xs)
 implies_read xs t e s room ls us d c h k g =
-    implies_reads room ls us xs (run_reads 2 ImpliesSign "==>" (omega arith) (omega arith) (λ p vs. refl) (λ p vs. refl) s room xs ls us e t d (implies_last s xs h) k (unseen _ _ (not_implies s xs h) (is_ahead s us k).implies) g)
+    implies_reads room ls us xs (run_reads Junction ImpliesSign "==>" (omega arith) (λ p vs. refl) (λ p vs. refl) s room xs ls us e t d (implies_last s xs h) k (unseen _ _ (not_implies s xs h) (is_ahead s us k).implies) g)
 
 pub ands_read : (xs : Exprs) → IsTrue (two_exprs xs) → EachReads xs → NodeReads (ands xs)
 ands_read xs t e s room ls us d c h k g =
-    and_reads room ls us xs (run_reads 3 AndSign "&&" (omega arith) (omega arith) (λ p vs. refl) (λ p vs. refl) s room xs ls us e t d (and_last s xs h) k (unseen _ _ (not_and s xs h) (is_ahead s us k).conjunct) g)
+    and_reads room ls us xs (run_reads Comparison AndSign "&&" (omega arith) (λ p vs. refl) (λ p vs. refl) s room xs ls us e t d (and_last s xs h) k (unseen _ _ (not_and s xs h) (is_ahead s us k).conjunct) g)
 
 pub ors_read : (xs : Exprs) → IsTrue (two_exprs xs) → EachReads xs → NodeReads (ors xs)
 ors_read xs t e s room ls us d c h k g =
-    or_reads room ls us xs (run_reads 3 OrSign "||" (omega arith) (omega arith) (λ p vs. refl) (λ p vs. refl) s room xs ls us e t d (or_last s xs h) k (unseen _ _ (not_or s xs h) (is_ahead s us k).disjunct) g)
+    or_reads room ls us xs (run_reads Comparison OrSign "||" (omega arith) (λ p vs. refl) (λ p vs. refl) s room xs ls us e t d (or_last s xs h) k (unseen _ _ (not_or s xs h) (is_ahead s us k).disjunct) g)
 
 pub products_read : (xs : Exprs) → IsTrue (two_exprs xs) → EachReads xs → NodeReads (products xs)
 products_read xs t e s room ls us d c h k g =
-    product_reads room ls us xs (run_reads 6 FactorSign "*" (omega arith) (omega arith) (λ p vs. refl) (λ p vs. refl) s room xs ls us e t d (product_last s xs h) k (unseen _ _ (not_factor s xs h) (is_ahead s us k).factor) g)
+    product_reads room ls us xs (run_reads Unary FactorSign "*" (omega arith) (λ p vs. refl) (λ p vs. refl) s room xs ls us e t d (product_last s xs h) k (unseen _ _ (not_factor s xs h) (is_ahead s us k).factor) g)

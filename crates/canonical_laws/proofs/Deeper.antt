@@ -8,6 +8,9 @@ use Rattle.bpl_lex.specs.Shape.{kind_of, is_identifier}
 use Rattle.bpl_lex.specs.Lexing.{tokens, tokens_from, end_of}
 use Rattle.bpl_ast.specs.Tree.{Expr, expr, variable, choose, ands, ors, negation, no_exprs, item, first_place}
 use Rattle.bpl_ast.specs.Statement.{axiom_of, Decl}
+use Rattle.bpl_ast.specs.declared.level.Level.{Level}
+use Rattle.bpl_ast.specs.declared.level.Level.TheVariants.{Equivalence, Implication, Junction, Comparison, Sum, Product, Unary, Postfix, Atom}
+use Rattle.bpl_ast.specs.Level.{rank}
 use Rattle.bpl_ast.specs.declared.sign.Sign.{Sign}
 use Rattle.bpl_ast.specs.Glyph.{Glyph, plain, word, opening, closing, prefix, line}
 use Rattle.bpl_ast.specs.Lines.{joined, program_text}
@@ -102,9 +105,9 @@ lexed k = lex_lines (one_line 0 (glyphs k) (rest_glyphs k)) [] (bytes_of k) [] 0
 -- so many times negated
 record Negated (k room : ℕ) (ls us : List Lexeme) : Type 0 where
   pub value : Expr
-  pub reads : reader_at 6 room ls ≡ Ok (value, us)
-  pub deep : (s : Option Sign) → operand_depth 6 s value ≡ k
-  pub alone : operand_depth 0 None value ≡ k
+  pub reads : reader_at Unary room ls ≡ Ok (value, us)
+  pub deep : (s : Option Sign) → operand_depth Unary s value ≡ k
+  pub alone : operand_depth Equivalence None value ≡ k
 
 record Behind (k room : ℕ) (ls : List Lexeme) : Type 0 where
   pub place : Place
@@ -112,7 +115,7 @@ record Behind (k room : ℕ) (ls : List Lexeme) : Type 0 where
   pub spelled : Spelled behind (token place (word "then") ∷ rest) []
   pub negated : Negated k room ls (token place (word "then") ∷ rest)
 
-name_reads : (room : ℕ) (p q : Place) (us : List Lexeme) → reader_at 6 room (token p (n "a") ∷ token q (word "then") ∷ us) ≡ Ok (expr p (variable (record { text = codes "a"; at = p })), token q (word "then") ∷ us)
+name_reads : (room : ℕ) (p q : Place) (us : List Lexeme) → reader_at Unary room (token p (n "a") ∷ token q (word "then") ∷ us) ≡ Ok (expr p (variable (record { text = codes "a"; at = p })), token q (word "then") ∷ us)
 unfolding un_with post_with indices_with atom_with named_with read_name repeated
 name_reads room p q us = refl
 
@@ -124,7 +127,7 @@ nots_read zero room ls h (next p (next {ls = rest} q g)) = record {
   negated = record { value = expr p (variable (record { text = codes "a"; at = p })); reads = name_reads room p q rest; deep = λ s. name_deep p s; alone = refl };
 }
   where
-    name_deep : (p : Place) (s : Option Sign) → operand_depth 6 s (expr p (variable (record { text = codes "a"; at = p }))) ≡ 0
+    name_deep : (p : Place) (s : Option Sign) → operand_depth Unary s (expr p (variable (record { text = codes "a"; at = p }))) ≡ 0
     name_deep p None = refl
     name_deep p (Some q) = refl
 nots_read (suc k) zero ls h g = absurd (omega (arith, h))
@@ -137,19 +140,19 @@ nots_read (suc k) (suc room) ls h (next {ls = rest} p g) =
       negated = record { value = expr p (negation r.negated.value); reads = negation_read room p rest (token r.place (word "then") ∷ r.rest) r.negated.value r.negated.reads; deep = λ s. negated_deep p r.negated.value s (r.negated.deep s); alone = ap suc (r.negated.deep None) };
     }
   where
-    negated_deep : (p : Place) (x : Expr) (s : Option Sign) → operand_depth 6 s x ≡ k → operand_depth 6 s (expr p (negation x)) ≡ suc k
+    negated_deep : (p : Place) (x : Expr) (s : Option Sign) → operand_depth Unary s x ≡ k → operand_depth Unary s (expr p (negation x)) ≡ suc k
     negated_deep p x None e = ap suc e
     negated_deep p x (Some q) e = ap suc e
 
-no_level : (w : ℕ) → suc w ≤ 6 → 6 < suc w → ⊥
+no_level : (w : Level) → rank w ≤ rank Unary → rank Unary < rank w → ⊥
 no_level w h k = omega (arith, h, k)
 
 -- an expression before `then`, at the lowest level
-condition_read : (room : ℕ) (ls us : List Lexeme) (q : Place) (x : Expr) → reader_at 6 room ls ≡ Ok (x, token q (word "then") ∷ us) → reader_at 0 room ls ≡ Ok (x, token q (word "then") ∷ us)
+condition_read : (room : ℕ) (ls us : List Lexeme) (q : Place) (x : Expr) → reader_at Unary room ls ≡ Ok (x, token q (word "then") ∷ us) → reader_at Equivalence room ls ≡ Ok (x, token q (word "then") ∷ us)
 condition_read room ls us q x h =
     let t = token q (word "then") ∷ us in
-    down room ls t x 0 refl (λ a. absurd (no_level 0 (omega arith) a)) (down room ls t x 1 refl (λ a. absurd (no_level 1 (omega arith) a)) (down room ls t x 2 refl (λ a. absurd (no_level 2 (omega arith) a))
-    (down room ls t x 3 refl (λ a. absurd (no_level 3 (omega arith) a)) (down room ls t x 4 refl (λ a. absurd (no_level 4 (omega arith) a)) (down room ls t x 5 refl (λ a. absurd (no_level 5 (omega arith) a)) h)))))
+    down room ls t x Equivalence refl (λ a. absurd (no_level Implication (omega arith) a)) (down room ls t x Implication refl (λ a. absurd (no_level Junction (omega arith) a)) (down room ls t x Junction refl (λ a. absurd (no_level Comparison (omega arith) a))
+    (down room ls t x Comparison refl (λ a. absurd (no_level Sum (omega arith) a)) (down room ls t x Sum refl (λ a. absurd (no_level Product (omega arith) a)) (down room ls t x Product refl (λ a. absurd (no_level Unary (omega arith) a)) h)))))
 
 abbrev n_of : String → Glyph
 n_of s = plain (codes s)
@@ -175,7 +178,7 @@ last_read : (room : ℕ) (q g z : Place) → rels_with room (read_inner room) (c
 unfolding rels_with rel_with sum_with terms_with prod_with factors_with un_with post_with indices_with atom_with named_with read_name repeated
 last_read room q g z = refl
 
-ors_read : (room : ℕ) (q g z : Place) (ls : List Lexeme) (x : Expr) → reader_at 3 room ls ≡ Ok (x, token q (word "||") ∷ token g (n "g") ∷ token z (closing ";") ∷ []) → reader_at 2 room ls ≡ Ok (expr (first_place x) (ors (item x (item (name_at "g" g) no_exprs))), token z (closing ";") ∷ [])
+ors_read : (room : ℕ) (q g z : Place) (ls : List Lexeme) (x : Expr) → reader_at Comparison room ls ≡ Ok (x, token q (word "||") ∷ token g (n "g") ∷ token z (closing ";") ∷ []) → reader_at Junction room ls ≡ Ok (expr (first_place x) (ors (item x (item (name_at "g" g) no_exprs))), token z (closing ";") ∷ [])
 unfolding log_with
 ors_read room q g z ls x h = rw (h, last_read room q g z) refl
 
@@ -187,21 +190,21 @@ room = 199
 record Whole (ls : List Lexeme) : Type 0 where
   pub value : Expr
   pub place : Place
-  pub reads : reader_at 0 200 ls ≡ Ok (value, token place (closing ";") ∷ [])
+  pub reads : reader_at Equivalence 200 ls ≡ Ok (value, token place (closing ";") ∷ [])
   pub deep : expression_depth value ≡ 201
 
-whole_deep : (p c o d e f b g : Place) (x : Expr) → operand_depth 0 None x ≡ 199 → expression_depth (expr p (ors (item (expr p (choose x (name_at "b" b) (other c o d e f))) (item (name_at "g" g) no_exprs)))) ≡ 201
+whole_deep : (p c o d e f b g : Place) (x : Expr) → operand_depth Equivalence None x ≡ 199 → expression_depth (expr p (ors (item (expr p (choose x (name_at "b" b) (other c o d e f))) (item (name_at "g" g) no_exprs)))) ≡ 201
 whole_deep p c o d e f b g x h = omega (arith, h)
 
-down_to_rel : (ls us : List Lexeme) (q : Place) (x : Expr) → is_signed ls ≡ false → reader_at 8 200 ls ≡ Ok (x, token q (word "||") ∷ us) → reader_at 3 200 ls ≡ Ok (x, token q (word "||") ∷ us)
+down_to_rel : (ls us : List Lexeme) (q : Place) (x : Expr) → is_signed ls ≡ false → reader_at Atom 200 ls ≡ Ok (x, token q (word "||") ∷ us) → reader_at Comparison 200 ls ≡ Ok (x, token q (word "||") ∷ us)
 down_to_rel ls us q x n h =
     let t = token q (word "||") ∷ us in
-    down 200 ls t x 3 refl (λ a. n) (down 200 ls t x 4 refl (λ a. n) (down 200 ls t x 5 refl (λ a. n) (down 200 ls t x 6 refl (λ a. n) (down 200 ls t x 7 refl (λ a. n) h))))
+    down 200 ls t x Comparison refl (λ a. n) (down 200 ls t x Sum refl (λ a. n) (down 200 ls t x Product refl (λ a. n) (down 200 ls t x Unary refl (λ a. n) (down 200 ls t x Postfix refl (λ a. n) h))))
 
-down_to_all : (ls : List Lexeme) (z : Place) (x : Expr) → reader_at 2 200 ls ≡ Ok (x, token z (closing ";") ∷ []) → reader_at 0 200 ls ≡ Ok (x, token z (closing ";") ∷ [])
+down_to_all : (ls : List Lexeme) (z : Place) (x : Expr) → reader_at Junction 200 ls ≡ Ok (x, token z (closing ";") ∷ []) → reader_at Equivalence 200 ls ≡ Ok (x, token z (closing ";") ∷ [])
 down_to_all ls z x h =
     let t = token z (closing ";") ∷ [] in
-    down 200 ls t x 0 refl (λ a. absurd (no_level 0 (omega arith) a)) (down 200 ls t x 1 refl (λ a. absurd (no_level 1 (omega arith) a)) h)
+    down 200 ls t x Equivalence refl (λ a. absurd (no_level Implication (omega arith) a)) (down 200 ls t x Implication refl (λ a. absurd (no_level Junction (omega arith) a)) h)
 
 whole_read : (p : Place) (ls : List Lexeme) → Behind 199 199 ls → Whole (token p (word "if") ∷ ls)
 whole_read p ls r = taken r.place r.rest r.spelled r.negated

@@ -1,7 +1,8 @@
 -- Each expression that some tokens spell is read back from its canonical text.
 use Rattle.std.specs.Prelude.{None}
-use Rattle.std.proofs.Common.{refl, arith}
+use Rattle.std.proofs.Common.{refl}
 use Rattle.bpl_ast.specs.Tree.{Expr, expr, Node, number, truth, variable, apply, old, choose, quantified, iffs, implies, ands, ors, related, sums, products, negation, minus, indexed, Exprs, no_exprs, item, Terms, no_terms, plus, less, Indices, no_indices, at_index, update, Triggers, no_triggers, trigger, Groups, no_groups, group, Clause, no_clause, clause}
+use Rattle.bpl_ast.specs.declared.level.Level.TheVariants.{Equivalence}
 use Rattle.canonical_laws.specs.Written.{IsWritten, IsWrittenNode, AreWritten, AreWrittenTerms, AreWrittenIndices, AreWrittenTriggers, AreWrittenGroups, IsWrittenClause}
 use Rattle.canonical_laws.specs.ReadBack.{TypesAreReadBack, ExpressionsAreReadBack}
 use Rattle.canonical_laws.proofs.Operands.{OperandReads, NodeReads, operand_from}
@@ -70,5 +71,5 @@ types_back = λ t h room d ls us g.
 
 pub expressions_back : ExpressionsAreReadBack
 expressions_back = λ x h room d ls us k g.
-    let r = operand_reads x h 0 None room ls us (omega arith) d refl k g in
+    let r = operand_reads x h Equivalence None room ls us d refl k g in
     (r.value, r.reads, r.same)

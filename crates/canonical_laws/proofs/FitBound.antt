@@ -5,6 +5,7 @@ use Rattle.bv_base.specs.declared.place.Place.{Place}
 use Rattle.bpl_lex.specs.Token.{id, number as number_kind}
 use Rattle.bpl_ast.specs.Place.{Name, Params, Ty}
 use Rattle.bpl_ast.specs.Tree.{Quantifier, for_all, exists, Expr, expr, Node, number, truth, variable, apply, old, choose, quantified, iffs, implies, ands, ors, related, sums, products, negation, minus, indexed, Exprs, no_exprs, item, Terms, no_terms, plus, less, Indices, no_indices, at_index, update, Triggers, no_triggers, trigger, Groups, no_groups, group, Clause, no_clause, clause}
+use Rattle.bpl_ast.specs.declared.level.Level.TheVariants.{Equivalence, Implication, Comparison, Product, Unary}
 use Rattle.bpl_ast.specs.declared.sign.Sign.{Sign}
 use Rattle.bpl_ast.specs.declared.sign.Sign.TheVariants.{IffSign, AndSign, OrSign, TermSign, FactorSign}
 use Rattle.bpl_ast.specs.Glyph.{Glyph, plain, word, opening, closing}
@@ -52,7 +53,7 @@ where_part = maybe (the "where" ⨟ rule e)
 
 slack_clause : (c : Clause) → ClauseFits c → Slack where_part (where_clause c) (clause_depth c)
 slack_clause no_clause f = slack_absent (the "where" ⨟ rule e)
-slack_clause (clause p x) f = loosely (fit_present (the "where" ⨟ rule e) _ _ (behind_sign (word "where") (codes "where") (λ p. refl) (rule e) (operand 0 None x) (operand_depth 0 None x) (f 0 None (omega arith))))
+slack_clause (clause p x) f = loosely (fit_present (the "where" ⨟ rule e) _ _ (behind_sign (word "where") (codes "where") (λ p. refl) (rule e) (operand Equivalence None x) (operand_depth Equivalence None x) (f Equivalence None)))
 
 fit_group : (ns : List Name) (t : Ty) (c : Clause) → SomeNames ns → IsWrittenType t → ClauseFits c → Fit (rule group_rule) (names ns ++ closing ":" ∷ (type t ++ where_clause c)) (max (type_depth t) (clause_depth c))
 fit_group ns t c w v f =
@@ -86,7 +87,7 @@ fit_call n xs w f s =
 fit_old : (p : Place) (x : Expr) → OperandFits x → NodeFits (old p x)
 fit_old p x f s =
     fit_by atom _ _ (fit_right (some number_kind) _ _ _ (fit_right (the "true") _ _ _ (fit_right (the "false") _ _ _ (fit_right (some id) _ _ _ (fit_right call_part _ _ _ (fit_left old_part _ _ _
-    (behind_sign (word "old") (codes "old") (λ q. refl) (round (rule e)) (opening "(" ∷ (operand 0 None x ++ closing ")" ∷ [])) (suc (operand_depth 0 None x)) (fit_round (rule e) (operand 0 None x) (operand_depth 0 None x) (f 0 None (omega arith))))))))))
+    (behind_sign (word "old") (codes "old") (λ q. refl) (round (rule e)) (opening "(" ∷ (operand Equivalence None x ++ closing ")" ∷ [])) (suc (operand_depth Equivalence None x)) (fit_round (rule e) (operand Equivalence None x) (operand_depth Equivalence None x) (f Equivalence None)))))))))
 
 abbrev arms_part : Part
 arms_part = rule e ⨟ the "then" ⨟ rule e ⨟ the "else" ⨟ longest (rule e)
@@ -94,9 +95,9 @@ arms_part = rule e ⨟ the "then" ⨟ rule e ⨟ the "else" ⨟ longest (rule e)
 fit_choose : (c x y : Expr) → OperandFits c → OperandFits x → OperandFits y → NodeFits (choose c x y)
 fit_choose c x y f g h s =
     fit_by atom _ _ (fit_right (some number_kind) _ _ _ (fit_right (the "true") _ _ _ (fit_right (the "false") _ _ _ (fit_right (some id) _ _ _ (fit_right call_part _ _ _ (fit_right old_part _ _ _ (fit_right (round (rule e)) _ _ _ (fit_left (the "if" ⨟ inside arms_part) _ _ _
-    (fit_less (the "if" ⨟ inside arms_part) (node s (choose c x y)) (max 0 (suc (max (operand_depth 0 None c) (max 0 (max (operand_depth 0 None x) (max 0 (operand_depth 0 s y))))))) (node_depth s (choose c x y)) (omega arith)
+    (fit_less (the "if" ⨟ inside arms_part) (node s (choose c x y)) (max 0 (suc (max (operand_depth Equivalence None c) (max 0 (max (operand_depth Equivalence None x) (max 0 (operand_depth Equivalence s y))))))) (node_depth s (choose c x y)) (omega arith)
     (seq_fits (fit_text (word "if") (codes "if") (λ q. refl)) (fit_inside arms_part _ _
-    (seq_fits (f 0 None (omega arith)) (seq_fits (fit_text (word "then") (codes "then") (λ q. refl)) (seq_fits (g 0 None (omega arith)) (seq_fits (fit_text (word "else") (codes "else") (λ q. refl)) (fit_longest (rule e) _ _ (h 0 s (omega arith))))))))))))))))))
+    (seq_fits (f Equivalence None) (seq_fits (fit_text (word "then") (codes "then") (λ q. refl)) (seq_fits (g Equivalence None) (seq_fits (fit_text (word "else") (codes "else") (λ q. refl)) (fit_longest (rule e) _ _ (h Equivalence s)))))))))))))))))
 
 fit_quantifier : (q : Quantifier) → Fit (the "forall" ∣ the "exists") (quantifier q ∷ []) 0
 fit_quantifier for_all = fit_left (the "forall") (the "exists") _ 0 (fit_text (word "forall") (codes "forall") (λ p. refl))
@@ -111,11 +112,11 @@ bound_shape a b c d z g h = ap (λ x. g ∷ x) (append_assoc a (b ++ h ∷ (c ++
 fit_quantified : (q : Quantifier) (p : Place) (ps : Option Params) (gs : Groups) (rs : Triggers) (x : Expr) → AreParams ps → IsTrue (some_groups gs) → EachGroup gs → EachTrigger rs → OperandFits x → NodeFits (quantified q p ps gs rs x)
 fit_quantified q p ps gs rs x w sg eg er f s =
     fit_by atom _ _ (fit_right (some number_kind) _ _ _ (fit_right (the "true") _ _ _ (fit_right (the "false") _ _ _ (fit_right (some id) _ _ _ (fit_right call_part _ _ _ (fit_right old_part _ _ _ (fit_right (round (rule e)) _ _ _ (fit_right (the "if" ⨟ inside arms_part) _ _ _
-    (subst (λ y. Fit (round bound_part) (opening "(" ∷ y) (node_depth s (quantified q p ps gs rs x))) (bound_shape (params ps) (groups_tokens gs) (triggers rs) (operand 0 None x) (closing ")" ∷ []) (quantifier q) (word "::"))
-    (fit_less (round bound_part) (opening "(" ∷ ((quantifier q ∷ (params ps ++ (groups_tokens gs ++ word "::" ∷ (triggers rs ++ operand 0 None x)))) ++ closing ")" ∷ []))
-    (suc (max 0 (max 0 (max (groups_depth gs) (max 0 (max (triggers_depth rs) (operand_depth 0 None x))))))) (node_depth s (quantified q p ps gs rs x)) (omega arith)
+    (subst (λ y. Fit (round bound_part) (opening "(" ∷ y) (node_depth s (quantified q p ps gs rs x))) (bound_shape (params ps) (groups_tokens gs) (triggers rs) (operand Equivalence None x) (closing ")" ∷ []) (quantifier q) (word "::"))
+    (fit_less (round bound_part) (opening "(" ∷ ((quantifier q ∷ (params ps ++ (groups_tokens gs ++ word "::" ∷ (triggers rs ++ operand Equivalence None x)))) ++ closing ")" ∷ []))
+    (suc (max 0 (max 0 (max (groups_depth gs) (max 0 (max (triggers_depth rs) (operand_depth Equivalence None x))))))) (node_depth s (quantified q p ps gs rs x)) (omega arith)
     (fit_round bound_part _ _
-    (seq_fits (fit_quantifier q) (slack_fits (slack_params ps w) (seq_fits (fit_groups_by gs sg eg) (seq_fits (fit_text (word "::") (codes "::") (λ p. refl)) (slack_fits (slack_triggers rs er) (f 0 None (omega arith))))))))))))))))))
+    (seq_fits (fit_quantifier q) (slack_fits (slack_params ps w) (seq_fits (fit_groups_by gs sg eg) (seq_fits (fit_text (word "::") (codes "::") (λ p. refl)) (slack_fits (slack_triggers rs er) (f Equivalence None)))))))))))))))))
 
 fit_truth : (b : Bool) → NodeFits (truth b)
 fit_truth true s = fit_by atom _ _ (fit_right (some number_kind) _ _ _ (fit_left (the "true") _ _ _ (fit_text (word "true") (codes "true") (λ p. refl))))
@@ -129,15 +130,15 @@ fit_variable n w s = fit_by atom _ _ (fit_right (some number_kind) _ _ _ (fit_ri
 
 -- runs of && and ||
 
-fit_ands : (s : Option Sign) (xs : Exprs) → IsTrue (two_exprs xs) → EachFits xs → Fit (rule log) (run 3 AndSign (word "&&") s xs) (run_depth 3 AndSign s xs)
+fit_ands : (s : Option Sign) (xs : Exprs) → IsTrue (two_exprs xs) → EachFits xs → Fit (rule log) (run Comparison AndSign (word "&&") s xs) (run_depth Comparison AndSign s xs)
 fit_ands s no_exprs t f = absurd (cc)
 fit_ands s (item x xs) t f =
-    fit_by log _ _ (seq (f.0 3 (behind AndSign s xs) (omega arith)) (slack_left (many (the "&&" ⨟ rule rel)) (many (the "||" ⨟ rule rel)) _ _ (slack_run 3 (omega arith) AndSign (word "&&") (codes "&&") (λ p. refl) s xs f.1)))
+    fit_by log _ _ (seq (f.0 Comparison (behind AndSign s xs)) (slack_left (many (the "&&" ⨟ rule rel)) (many (the "||" ⨟ rule rel)) _ _ (slack_run Comparison AndSign (word "&&") (codes "&&") (λ p. refl) s xs f.1)))
 
-fit_ors : (s : Option Sign) (xs : Exprs) → IsTrue (two_exprs xs) → EachFits xs → Fit (rule log) (run 3 OrSign (word "||") s xs) (run_depth 3 OrSign s xs)
+fit_ors : (s : Option Sign) (xs : Exprs) → IsTrue (two_exprs xs) → EachFits xs → Fit (rule log) (run Comparison OrSign (word "||") s xs) (run_depth Comparison OrSign s xs)
 fit_ors s no_exprs t f = absurd (cc)
 fit_ors s (item x xs) t f =
-    fit_by log _ _ (seq (f.0 3 (behind OrSign s xs) (omega arith)) (slack_right (many (the "&&" ⨟ rule rel)) (many (the "||" ⨟ rule rel)) _ _ (slack_run 3 (omega arith) OrSign (word "||") (codes "||") (λ p. refl) s xs f.1)))
+    fit_by log _ _ (seq (f.0 Comparison (behind OrSign s xs)) (slack_right (many (the "&&" ⨟ rule rel)) (many (the "||" ⨟ rule rel)) _ _ (slack_run Comparison OrSign (word "||") (codes "||") (λ p. refl) s xs f.1)))
 
 -- all expressions
 
@@ -153,13 +154,13 @@ mutual
   fit_node (old p x) h = fit_old p x (fit_operand x h)
   fit_node (choose c x y) h = fit_choose c x y (fit_operand c h.0) (fit_operand x h.1) (fit_operand y h.2)
   fit_node (quantified q p ps gs rs x) h = fit_quantified q p ps gs rs x h.0 h.1 (each_group gs h.2) (each_trigger rs h.3) (fit_operand x h.4)
-  fit_node (iffs xs) h = λ s. fit_by e _ _ (fit_run 1 (omega arith) IffSign (word "<==>") (codes "<==>") (λ p. refl) s xs h.0 (each_fits xs h.1))
+  fit_node (iffs xs) h = λ s. fit_by e _ _ (fit_run Implication IffSign (word "<==>") (codes "<==>") (λ p. refl) s xs h.0 (each_fits xs h.1))
   fit_node (implies xs) h = λ s. fit_chain s xs (some_of_two xs h.0) (each_fits xs h.1)
   fit_node (ands xs) h = λ s. fit_ands s xs h.0 (each_fits xs h.1)
   fit_node (ors xs) h = λ s. fit_ors s xs h.0 (each_fits xs h.1)
   fit_node (related o x y) h = fit_related o x y (fit_operand x h.0) (fit_operand y h.1)
-  fit_node (sums x ts) h = λ s. fit_by sum _ _ (seq (fit_operand x h.0 5 (Some TermSign) (omega arith)) (slack_terms s ts (each_term ts h.2)))
-  fit_node (products xs) h = λ s. fit_by prod _ _ (fit_run 6 (omega arith) FactorSign (word "*") (codes "*") (λ p. refl) s xs h.0 (each_fits xs h.1))
+  fit_node (sums x ts) h = λ s. fit_by sum _ _ (seq (fit_operand x h.0 Product (Some TermSign)) (slack_terms s ts (each_term ts h.2)))
+  fit_node (products xs) h = λ s. fit_by prod _ _ (fit_run Unary FactorSign (word "*") (codes "*") (λ p. refl) s xs h.0 (each_fits xs h.1))
   fit_node (negation x) h = fit_negation x (fit_operand x h)
   fit_node (minus x) h = fit_minus x (fit_operand x h)
   fit_node (indexed x is) h = fit_indexed x is (fit_operand x h.0) (each_index is h.2)
@@ -193,5 +194,5 @@ mutual
 pub fit_groups : (gs : Groups) → IsTrue (some_groups gs) → AreWrittenGroups gs → Fit (rule groups) (groups_tokens gs) (groups_depth gs)
 fit_groups gs s w = fit_groups_by gs s (each_group gs w)
 
-pub fit_expression : (x : Expr) → IsWritten x → Fit (rule e) (operand 0 None x) (operand_depth 0 None x)
-fit_expression x w = fit_operand x w 0 None (omega arith)
+pub fit_expression : (x : Expr) → IsWritten x → Fit (rule e) (operand Equivalence None x) (operand_depth Equivalence None x)
+fit_expression x w = fit_operand x w Equivalence None

@@ -1,8 +1,11 @@
 -- Reading at each level, and from one level down to another.
-use Rattle.std.specs.Prelude.{◌≡◌, ℕ, zero, suc, ◌+◌, ◌<◌, ◌≤◌, Bool, true, false, not, ◌&&◌, ◌||◌, codes, List, IsTrue, Ok, None}
-use Rattle.std.proofs.Common.{refl, sym, subst, arith}
-use Rattle.bpl_grammar.proofs.Booleans.{no_not, and_parts as both_true, none_of as no_two, no_and_second as and_no, neither as either_no}
+use Rattle.std.specs.Prelude.{◌≡◌, ℕ, ◌<◌, ◌≤◌, Bool, true, false, not, ◌&&◌, ◌||◌, codes, List, IsTrue, Ok, None}
+use Rattle.std.proofs.Common.{refl, arith}
+use Rattle.bpl_grammar.proofs.Booleans.{no_not, and_parts as both_true, neither as either_no}
 use Rattle.bpl_ast.specs.Tree.{Expr}
+use Rattle.bpl_ast.specs.declared.level.Level.{Level}
+use Rattle.bpl_ast.specs.declared.level.Level.TheVariants.{Equivalence, Implication, Junction, Comparison, Sum, Product, Unary, Postfix, Atom}
+use Rattle.bpl_ast.specs.Level.{rank}
 use Rattle.bpl_ast.specs.declared.sign.Sign.TheVariants.{IffSign, ImpliesSign, AndSign, OrSign, RelationSign, TermSign, FactorSign, IndexSign}
 use Rattle.bpl_grammar.specs.Lexeme.{Lexeme}
 use Rattle.bpl_grammar.specs.Terminal.{fixed, sees}
@@ -11,30 +14,31 @@ use Rattle.bpl_grammar.specs.ReadExpressions.{relation_at, read_inner, e_with, i
 use Rattle.bpl_grammar.proofs.Loops.{many_stops}
 use Rattle.canonical_laws.specs.Same.{bare}
 use Rattle.canonical_laws.specs.Ahead.{sees_text, sees_sign}
+use Rattle.canonical_laws.proofs.Ranks.{above, rises, step_down}
 
 -- the reader of a production, where there is room for so many nestings
-abbrev pub reader_at : ℕ → ℕ → List Lexeme → Read Expr
-reader_at zero room ls = e_with room (read_inner room) ls
-reader_at (suc zero) room ls = imp_with room (read_inner room) ls
-reader_at (suc (suc zero)) room ls = log_with room (read_inner room) ls
-reader_at (suc (suc (suc zero))) room ls = rel_with room (read_inner room) ls
-reader_at (suc (suc (suc (suc zero)))) room ls = sum_with room (read_inner room) ls
-reader_at (suc (suc (suc (suc (suc zero))))) room ls = prod_with room (read_inner room) ls
-reader_at (suc (suc (suc (suc (suc (suc zero)))))) room ls = un_with room (read_inner room) ls
-reader_at (suc (suc (suc (suc (suc (suc (suc zero))))))) room ls = post_with room (read_inner room) ls
-reader_at (suc (suc (suc (suc (suc (suc (suc (suc w)))))))) room ls = atom_with room (read_inner room) ls
+abbrev pub reader_at : Level → ℕ → List Lexeme → Read Expr
+reader_at Equivalence room ls = e_with room (read_inner room) ls
+reader_at Implication room ls = imp_with room (read_inner room) ls
+reader_at Junction room ls = log_with room (read_inner room) ls
+reader_at Comparison room ls = rel_with room (read_inner room) ls
+reader_at Sum room ls = sum_with room (read_inner room) ls
+reader_at Product room ls = prod_with room (read_inner room) ls
+reader_at Unary room ls = un_with room (read_inner room) ls
+reader_at Postfix room ls = post_with room (read_inner room) ls
+reader_at Atom room ls = atom_with room (read_inner room) ls
 
 -- a production of that level doesn't go on with what is next
-abbrev pub is_passed : ℕ → List Lexeme → Bool
-is_passed zero us = not (sees_sign IffSign us)
-is_passed (suc zero) us = not (sees_sign ImpliesSign us)
-is_passed (suc (suc zero)) us = not (sees_sign AndSign us) && not (sees_sign OrSign us)
-is_passed (suc (suc (suc zero))) us = not (sees_sign RelationSign us)
-is_passed (suc (suc (suc (suc zero)))) us = not (sees_sign TermSign us)
-is_passed (suc (suc (suc (suc (suc zero))))) us = not (sees_sign FactorSign us)
-is_passed (suc (suc (suc (suc (suc (suc zero)))))) us = true
-is_passed (suc (suc (suc (suc (suc (suc (suc zero))))))) us = not (sees_sign IndexSign us)
-is_passed (suc (suc (suc (suc (suc (suc (suc (suc w)))))))) us = true
+abbrev pub is_passed : Level → List Lexeme → Bool
+is_passed Equivalence us = not (sees_sign IffSign us)
+is_passed Implication us = not (sees_sign ImpliesSign us)
+is_passed Junction us = not (sees_sign AndSign us) && not (sees_sign OrSign us)
+is_passed Comparison us = not (sees_sign RelationSign us)
+is_passed Sum us = not (sees_sign TermSign us)
+is_passed Product us = not (sees_sign FactorSign us)
+is_passed Unary us = true
+is_passed Postfix us = not (sees_sign IndexSign us)
+is_passed Atom us = true
 
 abbrev pub is_signed : List Lexeme → Bool
 is_signed ls = sees_text "!" ls || sees_text "-" ls
@@ -44,11 +48,11 @@ abbrev pub is_barred : List Lexeme → Bool
 is_barred ls = sees_text "forall" ls || sees_text "exists" ls || sees_text ")" ls || sees_text ":" ls || sees_text "*" ls || sees_text "{" ls
 
 -- at a level
-pub record ReadsAt (w room : ℕ) (ls us : List Lexeme) (x : Expr) : Type 0 where
+pub record ReadsAt (w : Level) (room : ℕ) (ls us : List Lexeme) (x : Expr) : Type 0 where
   pub value : Expr
   pub reads : reader_at w room ls ≡ Ok (value, us)
   pub same : bare value ≡ bare x
-  pub unsigned : 6 < w → is_signed ls ≡ false
+  pub unsigned : rank Unary < rank w → is_signed ls ≡ false
   pub unbarred : is_barred ls ≡ false
 
 pub record IsUnbarred (ls : List Lexeme) : Type 0 where
@@ -113,31 +117,25 @@ module _ (room : ℕ) (ls us : List Lexeme) (x : Expr) where
   to_post h r = rw (r, many_stops (sees (fixed (codes "["))) _ us h) refl
 
   -- one level down
-  pub down : (w : ℕ) → IsTrue (is_passed w us) → (6 < suc w → is_signed ls ≡ false) → reader_at (suc w) room ls ≡ Ok (x, us) → reader_at w room ls ≡ Ok (x, us)
-  down zero h s r = to_e (no_not _ h) r
-  down (suc zero) h s r = to_imp (no_not _ h) r
-  down (suc (suc zero)) h s r =
+  pub down : (w : Level) → IsTrue (is_passed w us) → (rank Unary < rank (above w) → is_signed ls ≡ false) → reader_at (above w) room ls ≡ Ok (x, us) → reader_at w room ls ≡ Ok (x, us)
+  down Equivalence h s r = to_e (no_not _ h) r
+  down Implication h s r = to_imp (no_not _ h) r
+  down Junction h s r =
       let p = both_true (not (sees_text "&&" us)) (not (sees_text "||" us)) h in
       to_log (no_not _ p.0) (no_not _ p.1) r
-  down (suc (suc (suc zero))) h s r = to_rel (no_not _ h) r
-  down (suc (suc (suc (suc zero)))) h s r = to_sum (no_not _ h) r
-  down (suc (suc (suc (suc (suc zero))))) h s r = to_prod (no_not _ h) r
-  down (suc (suc (suc (suc (suc (suc zero)))))) h s r = to_un (s (omega arith)) r
-  down (suc (suc (suc (suc (suc (suc (suc zero))))))) h s r = to_post (no_not _ h) r
-  down (suc (suc (suc (suc (suc (suc (suc (suc w)))))))) h s r = r
+  down Comparison h s r = to_rel (no_not _ h) r
+  down Sum h s r = to_sum (no_not _ h) r
+  down Product h s r = to_prod (no_not _ h) r
+  down Unary h s r = to_un (s (omega arith)) r
+  down Postfix h s r = to_post (no_not _ h) r
+  down Atom h s r = r
 
 -- and as far as nothing goes on
-pub lower : (d w l room : ℕ) (ls us : List Lexeme) (x : Expr) → d + w ≡ l → ((k : ℕ) → w ≤ k → k < l → IsTrue (is_passed k us)) → ReadsAt l room ls us x → ReadsAt w room ls us x
-lower zero w l room ls us x e p r = subst (λ k. ReadsAt k room ls us x) (sym (plain e)) r
-  where
-    plain : 0 + w ≡ l → w ≡ l
-    plain e = omega arith
-lower (suc d) w l room ls us x e p r =
-    let q = lower d (suc w) l room ls us x (omega arith) (λ k a b. p k (omega arith) b) r in
-    record {
-      value = q.value;
-      reads = down room ls us q.value w (p w (omega arith) (omega arith)) q.unsigned q.reads;
-      same = q.same;
-      unsigned = λ a. q.unsigned (omega arith);
-      unbarred = q.unbarred;
-    }
+pub lower : (w l : Level) (room : ℕ) (ls us : List Lexeme) (x : Expr) → rank w ≤ rank l → ((k : Level) → rank w ≤ rank k → rank k < rank l → IsTrue (is_passed k us)) → ReadsAt l room ls us x → ReadsAt w room ls us x
+lower w l room ls us x h p r = step_down (λ k. ReadsAt k room ls us x) w l h (λ k a b q. record {
+  value = q.value;
+  reads = down room ls us q.value k (p k a b) q.unsigned q.reads;
+  same = q.same;
+  unsigned = λ c. q.unsigned (omega (arith, c, rises k));
+  unbarred = q.unbarred;
+}) r

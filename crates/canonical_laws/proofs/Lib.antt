@@ -1,4 +1,5 @@
 pub mod Parts
+pub mod Ranks
 pub mod Levels
 pub mod Stopping
 pub mod Operands

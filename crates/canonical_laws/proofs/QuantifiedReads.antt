@@ -4,6 +4,7 @@ use Rattle.std.proofs.Common.{refl, ap, arith}
 use Rattle.bv_base.specs.declared.place.Place.{Place}
 use Rattle.bpl_ast.specs.Place.{Name, Params, Ty}
 use Rattle.bpl_ast.specs.Tree.{Quantifier, for_all, exists, Expr, expr, Node, quantified, no_exprs, item, Triggers, no_triggers, trigger, Groups, no_groups, group, Clause, no_clause, clause}
+use Rattle.bpl_ast.specs.declared.level.Level.TheVariants.{Equivalence, Atom}
 use Rattle.bpl_ast.specs.Glyph.{Glyph, plain, word, opening, closing}
 use Rattle.bpl_ast.specs.Expression.{names, params, type, quantifier, operand, listed as listed_tokens, groups, more_groups, triggers, where_clause}
 use Rattle.bpl_grammar.specs.Lexeme.{Lexeme}
@@ -67,7 +68,7 @@ clause_read room p ls ms mid us ns t no_clause a b r d z k done = record {
   same_clause = refl;
 }
 clause_read room p ls ms mid us ns t (clause o x) a b r d z k (next {ls = rest} q g) =
-    let e = r 0 None room rest us (omega arith) d refl k g in
+    let e = r Equivalence None room rest us d refl k g in
     record {
       value = record { names = a.values; of = b.value; condition = clause q e.value };
       reads = guarded_read room p q ls ms rest us a.values b.value e.value a.reads b.reads e.reads;
@@ -206,10 +207,10 @@ record Body (room : ℕ) (ls us : List Lexeme) (gs : Groups) (rs : Triggers) (x 
   pub body : List Lexeme
   pub groups : GroupsRead room ls (token place (word "::") ∷ marks) gs
   pub triggers : TriggersRead room marks body rs
-  pub range : ReadsAt 0 room body us x
+  pub range : ReadsAt Equivalence room body us x
 
 quantified_by : (room : ℕ) (o : Quantifier) (at p q z : Place) (ps : Option Params) (gs : Groups) (rs : Triggers) (x : Expr) (ls ms us : List Lexeme) → ParamsRead ls ms ps → Body room ms (token z (closing ")") ∷ us) gs rs x
-    → ReadsAt 8 (suc room) (token p (opening "(") ∷ token q (quantifier o) ∷ ls) us (expr start (quantified o at ps gs rs x))
+    → ReadsAt Atom (suc room) (token p (opening "(") ∷ token q (quantifier o) ∷ ls) us (expr start (quantified o at ps gs rs x))
 quantified_by room o at p q z ps gs rs x ls ms us a b = record {
   value = expr p (quantified o p a.value (groups_from b.groups.values) (triggers_from b.triggers.values) b.range.value);
   reads = quantified_read room o p q z ls us _ (bound_read room o p b.place ls ms b.marks b.body (token z (closing ")") ∷ us) a.value b.groups.values b.triggers.values b.range.value a.reads b.groups.reads b.triggers.reads b.range.reads);
@@ -218,10 +219,10 @@ quantified_by room o at p q z ps gs rs x ls ms us a b = record {
   unbarred = refl;
 }
 
-module _ (room : ℕ) (gs : Groups) (rs : Triggers) (x : Expr) (eg : EachGroup gs) (sg : IsTrue (some_groups gs)) (er : EachTrigger rs) (rx : OperandReads x) (dg : groups_depth gs ≤ room) (dr : triggers_depth rs ≤ room) (dx : operand_depth 0 None x ≤ room) (us : List Lexeme) (z : Place) where
-  range_body : (p : Place) (ls ms body : List Lexeme) → Spelled (groups gs) ls (token p (word "::") ∷ ms) → Spelled (triggers rs) ms body → Spelled (operand 0 None x) body (token z (closing ")") ∷ us) → Body room ls (token z (closing ")") ∷ us) gs rs x
+module _ (room : ℕ) (gs : Groups) (rs : Triggers) (x : Expr) (eg : EachGroup gs) (sg : IsTrue (some_groups gs)) (er : EachTrigger rs) (rx : OperandReads x) (dg : groups_depth gs ≤ room) (dr : triggers_depth rs ≤ room) (dx : operand_depth Equivalence None x ≤ room) (us : List Lexeme) (z : Place) where
+  range_body : (p : Place) (ls ms body : List Lexeme) → Spelled (groups gs) ls (token p (word "::") ∷ ms) → Spelled (triggers rs) ms body → Spelled (operand Equivalence None x) body (token z (closing ")") ∷ us) → Body room ls (token z (closing ")") ∷ us) gs rs x
   range_body p ls ms body fg fr fx =
-      let c = rx 0 None room body (token z (closing ")") ∷ us) (omega arith) dx refl refl fx in
+      let c = rx Equivalence None room body (token z (closing ")") ∷ us) dx refl refl fx in
       record {
         place = p;
         marks = ms;
@@ -232,21 +233,21 @@ module _ (room : ℕ) (gs : Groups) (rs : Triggers) (x : Expr) (eg : EachGroup g
       }
 
 abbrev rest_tokens : Groups → Triggers → Expr → List Glyph
-rest_tokens gs rs x = word "::" ∷ (triggers rs ++ (operand 0 None x ++ closing ")" ∷ []))
+rest_tokens gs rs x = word "::" ∷ (triggers rs ++ (operand Equivalence None x ++ closing ")" ∷ []))
 
 record Ending (ms us : List Lexeme) (rs : Triggers) (x : Expr) : Type 0 where
   pub middle : List Lexeme
   pub place : Place
   pub triggers : Spelled (triggers rs) ms middle
-  pub range : Spelled (operand 0 None x) middle (token place (closing ")") ∷ us)
+  pub range : Spelled (operand Equivalence None x) middle (token place (closing ")") ∷ us)
 
-last_token : (x : Expr) (rs : Triggers) (ms middle end us : List Lexeme) → Spelled (triggers rs) ms middle → Spelled (operand 0 None x) middle end → Spelled (closing ")" ∷ []) end us → Ending ms us rs x
+last_token : (x : Expr) (rs : Triggers) (ms middle end us : List Lexeme) → Spelled (triggers rs) ms middle → Spelled (operand Equivalence None x) middle end → Spelled (closing ")" ∷ []) end us → Ending ms us rs x
 last_token x rs ms middle end us fr fx (next z done) = record { middle = middle; place = z; triggers = fr; range = fx }
 
-ending : (rs : Triggers) (x : Expr) (ms us : List Lexeme) → Spelled (triggers rs ++ (operand 0 None x ++ closing ")" ∷ [])) ms us → Ending ms us rs x
+ending : (rs : Triggers) (x : Expr) (ms us : List Lexeme) → Spelled (triggers rs ++ (operand Equivalence None x ++ closing ")" ∷ [])) ms us → Ending ms us rs x
 ending rs x ms us g =
-    let a = split (triggers rs) (operand 0 None x ++ closing ")" ∷ []) g in
-    let b = split (operand 0 None x) (closing ")" ∷ []) a.second in
+    let a = split (triggers rs) (operand Equivalence None x ++ closing ")" ∷ []) g in
+    let b = split (operand Equivalence None x) (closing ")" ∷ []) a.second in
     last_token x rs ms a.middle b.middle us a.first b.first b.second
 
 -- behind the type parameters, which end before a name
@@ -265,7 +266,7 @@ quantified_reads o at ps gs rs x a sg eg er rx s (suc room) ls us d c h k (next 
     let w = split (groups gs) (rest_tokens gs rs x) f.second in
     closed p q rest f.middle w.middle f.first (starts_names gs (rest_tokens gs rs x) f.middle us sg eg f.second) w.first w.second
   where
-    closed : (p q : Place) (ls ms mid : List Lexeme) → Spelled (params ps) ls ms → sees_text "<" ms ≡ false → Spelled (groups gs) ms mid → Spelled (rest_tokens gs rs x) mid us → ReadsAt 8 (suc room) (token p (opening "(") ∷ token q (quantifier o) ∷ ls) us (expr start (quantified o at ps gs rs x))
+    closed : (p q : Place) (ls ms mid : List Lexeme) → Spelled (params ps) ls ms → sees_text "<" ms ≡ false → Spelled (groups gs) ms mid → Spelled (rest_tokens gs rs x) mid us → ReadsAt Atom (suc room) (token p (opening "(") ∷ token q (quantifier o) ∷ ls) us (expr start (quantified o at ps gs rs x))
     closed p q ls ms mid fp np fg (next {ls = marks} r g) =
         let e = ending rs x marks us g in
         quantified_by room o at p q e.place ps gs rs x ls ms us (params_read ps ls ms a np fp)

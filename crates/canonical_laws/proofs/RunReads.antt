@@ -1,9 +1,11 @@
 -- Runs of operands with a sign between them.
-use Rattle.std.specs.Prelude.{◌≡◌, ℕ, ◌<◌, ◌≤◌, nat_lt, Bool, true, false, not, ◌||◌, codes, List, [], ◌∷◌, drop, IsTrue, Ok, Option, Some, None}
+use Rattle.std.specs.Prelude.{◌≡◌, ℕ, ◌<◌, ◌≤◌, Bool, true, false, not, ◌||◌, codes, List, [], ◌∷◌, drop, IsTrue, Ok, Option, Some, None}
 use Rattle.std.proofs.Common.{refl, ap, ◌∙◌, arith}
 use Rattle.bv_base.specs.declared.place.Place.{Place}
 use Rattle.bpl_ast.specs.Tree.{Expr, expr, Node, Exprs, no_exprs, item, first_place}
 use Rattle.bpl_ast.specs.ExprView.{exprs_of}
+use Rattle.bpl_ast.specs.declared.level.Level.{Level}
+use Rattle.bpl_ast.specs.Level.{rank, is_looser}
 use Rattle.bpl_ast.specs.declared.sign.Sign.{Sign}
 use Rattle.bpl_ast.specs.Parens.{goes_on, last_chain, last_compared}
 use Rattle.bpl_ast.specs.Glyph.{word}
@@ -16,10 +18,10 @@ use Rattle.canonical_laws.specs.Same.{start, bare, bare_node, bare_exprs}
 use Rattle.canonical_laws.specs.Written.{two_exprs}
 use Rattle.canonical_laws.specs.Nestings.{operand_depth, run_depth}
 use Rattle.canonical_laws.specs.Spelled.{token, Spelled, done, next}
-use Rattle.canonical_laws.specs.Ahead.{weight, sees_text, ahead, stops_operand}
+use Rattle.canonical_laws.specs.Ahead.{sign_level, sees_text, ahead, stops_operand}
 use Rattle.canonical_laws.proofs.Parts.{split, spelled_length, Items, stop, step, items_repeated}
+use Rattle.canonical_laws.proofs.Ranks.{is_looser_by}
 use Rattle.canonical_laws.proofs.Levels.{reader_at, is_barred, ReadsAt}
-use Rattle.canonical_laws.proofs.Stopping.{lt_is}
 use Rattle.canonical_laws.proofs.Operands.{OperandReads}
 use Prim.Native.String.{String}
 
@@ -28,17 +30,17 @@ EachReads no_exprs = Unit {0}
 EachReads (item x xs) = OperandReads x × EachReads xs
 
 -- reading the last operand stops before the sign
-abbrev pub StopsLast : ℕ → Option Sign → Exprs → Type 0
+abbrev pub StopsLast : Level → Option Sign → Exprs → Type 0
 StopsLast w s no_exprs = Unit {0}
 StopsLast w s (item x no_exprs) = IsTrue (stops_operand w s x)
 StopsLast w s (item x (item y ys)) = StopsLast w s (item y ys)
 
-stops_later : (w : ℕ) (s : Option Sign) (x : Expr) (xs : Exprs) → StopsLast w s (item x xs) → StopsLast w s xs
+stops_later : (w : Level) (s : Option Sign) (x : Expr) (xs : Exprs) → StopsLast w s (item x xs) → StopsLast w s xs
 stops_later w s x no_exprs h = tt
 stops_later w s x (item y ys) h = h
 
-pub low_stops : (w : ℕ) (q : Sign) (x : Expr) → weight q < w → IsTrue (stops_operand w (Some q) x)
-low_stops w q x h = rw (lt_is (weight q) w h) refl
+pub low_stops : (w : Level) (q : Sign) (x : Expr) → rank (sign_level q) < rank w → IsTrue (stops_operand w (Some q) x)
+low_stops w q x h = rw (is_looser_by (sign_level q) w h) refl
 
 -- the same items but for places
 pub record SameItems (begins : List Lexeme → Bool) (item : List Lexeme → Read Expr) (ls us : List Lexeme) (xs : Exprs) : Type 0 where
@@ -47,7 +49,7 @@ pub record SameItems (begins : List Lexeme → Bool) (item : List Lexeme → Rea
   pub same : bare_exprs (exprs_of values) ≡ bare_exprs xs
 
 -- a run of two operands or more: the first, and the others behind a sign
-pub record RunIs (w room : ℕ) (sg : String) (ls us : List Lexeme) (xs : Exprs) : Type 0 where
+pub record RunIs (w : Level) (room : ℕ) (sg : String) (ls us : List Lexeme) (xs : Exprs) : Type 0 where
   pub first : Expr
   pub others : List Expr
   pub place : Place
@@ -65,12 +67,12 @@ same_run : (f : Exprs → Node) (x v y : Expr) (zs : List Expr) (ys : Exprs) →
     → ((us : Exprs) → bare_exprs us ≡ bare_exprs (item x (item y ys)) → bare_node (f us) ≡ bare_node (f (item x (item y ys)))) → bare (joined f (v ∷ zs)) ≡ expr start (bare_node (f (item x (item y ys))))
 same_run f x v y zs ys h k c = ap bare (joined_two f v y zs ys k) ∙ ap (λ n. expr start n) (c (exprs_of (v ∷ zs)) (λ i. item (h i) (k i)))
 
-module _ (w : ℕ) (inner : Sign) (sg : String) (fits : w ≤ 8) (low : weight inner < w) (own : (p : Place) (vs : List Lexeme) → IsTrue (ahead (Some inner) (token p (word sg) ∷ vs)))
+module _ (w : Level) (inner : Sign) (sg : String) (low : rank (sign_level inner) < rank w) (own : (p : Place) (vs : List Lexeme) → IsTrue (ahead (Some inner) (token p (word sg) ∷ vs)))
     (seen : (p : Place) (vs : List Lexeme) → sees_text sg (token p (word sg) ∷ vs) ≡ true) (s : Option Sign) (room : ℕ) where
   operand_of : (x : Expr) (xs : Exprs) (ls ms us : List Lexeme) → OperandReads x → operand_depth w (behind inner s xs) x ≤ room → StopsLast w s (item x xs) → IsTrue (ahead s us)
       → Spelled (operand w (behind inner s xs) x) ls ms → Spelled (more_run w inner (word sg) s xs) ms us → ReadsAt w room ls ms x
-  operand_of x no_exprs ls ms us r d h k f done = r w s room ls us fits d h k f
-  operand_of x (item y ys) ls ms us r d h k f (next {ls = rest} p g) = r w (Some inner) room ls (token p (word sg) ∷ rest) fits d (low_stops w inner x low) (own p rest) f
+  operand_of x no_exprs ls ms us r d h k f done = r w s room ls us d h k f
+  operand_of x (item y ys) ls ms us r d h k f (next {ls = rest} p g) = r w (Some inner) room ls (token p (word sg) ∷ rest) d (low_stops w inner x low) (own p rest) f
 
   more_items : (xs : Exprs) (ls us : List Lexeme) → EachReads xs → run_depth w inner s xs ≤ room → StopsLast w s xs → IsTrue (ahead s us) → sees_text sg us ≡ false
       → Spelled (more_run w inner (word sg) s xs) ls us → SameItems (sees (fixed (codes sg))) (λ vs. reader_at w room (drop 1 vs)) ls us xs
@@ -107,17 +109,17 @@ module _ (w : ℕ) (inner : Sign) (sg : String) (fits : w ≤ 8) (low : weight i
 
 -- the last operand of a chain
 
-pub last_stops : (w : ℕ) (q : Sign) (xs : Exprs) → IsTrue (nat_lt (weight q) w || not (goes_on q (last_chain w xs) (last_compared w xs))) → StopsLast w (Some q) xs
+pub last_stops : (w : Level) (q : Sign) (xs : Exprs) → IsTrue (is_looser (sign_level q) w || not (goes_on q (last_chain w xs) (last_compared w xs))) → StopsLast w (Some q) xs
 last_stops w q no_exprs h = tt
 last_stops w q (item x no_exprs) h = h
 last_stops w q (item x (item y ys)) h = last_stops w q (item y ys) h
 
-pub low_last : (w : ℕ) (q : Sign) (xs : Exprs) → weight q < w → StopsLast w (Some q) xs
+pub low_last : (w : Level) (q : Sign) (xs : Exprs) → rank (sign_level q) < rank w → StopsLast w (Some q) xs
 low_last w q no_exprs h = tt
 low_last w q (item x no_exprs) h = low_stops w q x h
 low_last w q (item x (item y ys)) h = low_last w q (item y ys) h
 
-pub none_last : (w : ℕ) (xs : Exprs) → StopsLast w None xs
+pub none_last : (w : Level) (xs : Exprs) → StopsLast w None xs
 none_last w no_exprs = tt
 none_last w (item x no_exprs) = refl
 none_last w (item x (item y ys)) = none_last w (item y ys)

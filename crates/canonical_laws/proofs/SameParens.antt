@@ -1,8 +1,11 @@
 -- Parentheses and tokens of the canonical text don't depend on places.
-use Rattle.std.specs.Prelude.{◌≡◌, ℕ, nat_lt, Bool, true, false, ◌||◌, codes, List, [], ◌∷◌, ◌++◌, Option, Some, None}
+use Rattle.std.specs.Prelude.{◌≡◌, Bool, true, false, ◌||◌, codes, List, [], ◌∷◌, ◌++◌, Option, Some, None}
 use Rattle.std.proofs.Common.{refl, ◌∙◌}
 use Rattle.bpl_ast.specs.Place.{Name, Params, Ty, integer, boolean, named, map_type, Tys, no_tys, ty}
 use Rattle.bpl_ast.specs.Tree.{Expr, expr, Node, number, truth, variable, apply, old, choose, quantified, iffs, implies, ands, ors, related, sums, products, negation, minus, indexed, Exprs, no_exprs, item, Terms, no_terms, plus, less, Indices, no_indices, at_index, update, Triggers, no_triggers, trigger, Groups, no_groups, group, Clause, no_clause, clause}
+use Rattle.bpl_ast.specs.declared.level.Level.{Level}
+use Rattle.bpl_ast.specs.declared.level.Level.TheVariants.{Equivalence, Implication, Junction, Comparison, Sum, Product, Unary, Atom}
+use Rattle.bpl_ast.specs.Level.{is_looser}
 use Rattle.bpl_ast.specs.declared.sign.Sign.{Sign}
 use Rattle.bpl_ast.specs.declared.sign.Sign.TheVariants.{IffSign, ImpliesSign, AndSign, OrSign, RelationSign, TermSign, FactorSign, IndexSign}
 use Rattle.bpl_ast.specs.declared.sign.Chain.TheVariants.{NoChain}
@@ -39,8 +42,8 @@ mutual
   chain_same (old p x) = refl
   chain_same (choose c x y) = refl
   chain_same (quantified q p ps gs rs x) = refl
-  chain_same (iffs xs) = last_chain_same 1 xs
-  chain_same (implies xs) = last_chain_same 2 xs
+  chain_same (iffs xs) = last_chain_same Implication xs
+  chain_same (implies xs) = last_chain_same Junction xs
   chain_same (ands xs) = refl
   chain_same (ors xs) = refl
   chain_same (related o x y) = refl
@@ -50,13 +53,13 @@ mutual
   chain_same (minus x) = refl
   chain_same (indexed x is) = refl
 
-  last_chain_same : (w : ℕ) (xs : Exprs) → last_chain w (bare_exprs xs) ≡ last_chain w xs
+  last_chain_same : (w : Level) (xs : Exprs) → last_chain w (bare_exprs xs) ≡ last_chain w xs
   last_chain_same w no_exprs = refl
   last_chain_same w (item x no_exprs) = operand_chain_same w x
   last_chain_same w (item x (item y ys)) = last_chain_same w (item y ys)
 
-  operand_chain_same : (w : ℕ) (x : Expr) → operand_chain w (bare x) ≡ operand_chain w x
-  operand_chain_same w (expr p n) = λ i. elim (nat_lt (level_same n i) w) [ true ↦ NoChain | false ↦ chain_same n i ]
+  operand_chain_same : (w : Level) (x : Expr) → operand_chain w (bare x) ≡ operand_chain w x
+  operand_chain_same w (expr p n) = λ i. elim (is_looser (level_same n i) w) [ true ↦ NoChain | false ↦ chain_same n i ]
 
 mutual
   compared_same : (n : Node) → compared (bare_node n) ≡ compared n
@@ -67,10 +70,10 @@ mutual
   compared_same (old p x) = refl
   compared_same (choose c x y) = refl
   compared_same (quantified q p ps gs rs x) = refl
-  compared_same (iffs xs) = last_compared_same 1 xs
-  compared_same (implies xs) = last_compared_same 2 xs
-  compared_same (ands xs) = last_compared_same 3 xs
-  compared_same (ors xs) = last_compared_same 3 xs
+  compared_same (iffs xs) = last_compared_same Implication xs
+  compared_same (implies xs) = last_compared_same Junction xs
+  compared_same (ands xs) = last_compared_same Comparison xs
+  compared_same (ors xs) = last_compared_same Comparison xs
   compared_same (related o x y) = refl
   compared_same (sums x ts) = refl
   compared_same (products xs) = refl
@@ -78,13 +81,13 @@ mutual
   compared_same (minus x) = refl
   compared_same (indexed x is) = refl
 
-  last_compared_same : (w : ℕ) (xs : Exprs) → last_compared w (bare_exprs xs) ≡ last_compared w xs
+  last_compared_same : (w : Level) (xs : Exprs) → last_compared w (bare_exprs xs) ≡ last_compared w xs
   last_compared_same w no_exprs = refl
   last_compared_same w (item x no_exprs) = operand_compared_same w x
   last_compared_same w (item x (item y ys)) = last_compared_same w (item y ys)
 
-  operand_compared_same : (w : ℕ) (x : Expr) → operand_compared w (bare x) ≡ operand_compared w x
-  operand_compared_same w (expr p n) = λ i. elim (nat_lt (level_same n i) w) [ true ↦ false | false ↦ compared_same n i ]
+  operand_compared_same : (w : Level) (x : Expr) → operand_compared w (bare x) ≡ operand_compared w x
+  operand_compared_same w (expr p n) = λ i. elim (is_looser (level_same n i) w) [ true ↦ false | false ↦ compared_same n i ]
 
 mutual
   if_takes_same : (s : Sign) (n : Node) → if_takes s (bare_node n) ≡ if_takes s n
@@ -95,32 +98,32 @@ mutual
   if_takes_same s (old p x) = refl
   if_takes_same s (choose c x y) = takes_in_same s y
   if_takes_same s (quantified q p ps gs rs x) = refl
-  if_takes_same s (iffs xs) = last_takes_same s 1 xs
-  if_takes_same s (implies xs) = last_takes_same s 2 xs
-  if_takes_same s (ands xs) = last_takes_same s 3 xs
-  if_takes_same s (ors xs) = last_takes_same s 3 xs
-  if_takes_same s (related o x y) = operand_takes_same s 4 y
+  if_takes_same s (iffs xs) = last_takes_same s Implication xs
+  if_takes_same s (implies xs) = last_takes_same s Junction xs
+  if_takes_same s (ands xs) = last_takes_same s Comparison xs
+  if_takes_same s (ors xs) = last_takes_same s Comparison xs
+  if_takes_same s (related o x y) = operand_takes_same s Sum y
   if_takes_same s (sums x ts) = terms_take_same s ts
-  if_takes_same s (products xs) = last_takes_same s 6 xs
-  if_takes_same s (negation x) = operand_takes_same s 6 x
-  if_takes_same s (minus x) = operand_takes_same s 6 x
+  if_takes_same s (products xs) = last_takes_same s Unary xs
+  if_takes_same s (negation x) = operand_takes_same s Unary x
+  if_takes_same s (minus x) = operand_takes_same s Unary x
   if_takes_same s (indexed x is) = refl
 
   takes_in_same : (s : Sign) (x : Expr) → takes_in s (bare x) ≡ takes_in s x
   takes_in_same s (expr p n) = λ i. goes_on s (chain_same n i) (compared_same n i) || if_takes_same s n i
 
-  operand_takes_same : (s : Sign) (w : ℕ) (x : Expr) → operand_takes s w (bare x) ≡ operand_takes s w x
-  operand_takes_same s w (expr p n) = λ i. elim (nat_lt (level_same n i) w) [ true ↦ false | false ↦ if_takes_same s n i ]
+  operand_takes_same : (s : Sign) (w : Level) (x : Expr) → operand_takes s w (bare x) ≡ operand_takes s w x
+  operand_takes_same s w (expr p n) = λ i. elim (is_looser (level_same n i) w) [ true ↦ false | false ↦ if_takes_same s n i ]
 
-  last_takes_same : (s : Sign) (w : ℕ) (xs : Exprs) → last_takes s w (bare_exprs xs) ≡ last_takes s w xs
+  last_takes_same : (s : Sign) (w : Level) (xs : Exprs) → last_takes s w (bare_exprs xs) ≡ last_takes s w xs
   last_takes_same s w no_exprs = refl
   last_takes_same s w (item x no_exprs) = operand_takes_same s w x
   last_takes_same s w (item x (item y ys)) = last_takes_same s w (item y ys)
 
   terms_take_same : (s : Sign) (ts : Terms) → terms_take s (bare_terms ts) ≡ terms_take s ts
   terms_take_same s no_terms = refl
-  terms_take_same s (plus x no_terms) = operand_takes_same s 5 x
-  terms_take_same s (less x no_terms) = operand_takes_same s 5 x
+  terms_take_same s (plus x no_terms) = operand_takes_same s Product x
+  terms_take_same s (less x no_terms) = operand_takes_same s Product x
   terms_take_same s (plus x (plus y ts)) = terms_take_same s (plus y ts)
   terms_take_same s (plus x (less y ts)) = terms_take_same s (less y ts)
   terms_take_same s (less x (plus y ts)) = terms_take_same s (plus y ts)
@@ -146,8 +149,8 @@ caught_same (Some s) (negation x) = refl
 caught_same (Some s) (minus x) = refl
 caught_same (Some s) (indexed x is) = refl
 
-parens_same : (w : ℕ) (s : Option Sign) (n : Node) → needs_parens w s (bare_node n) ≡ needs_parens w s n
-parens_same w s n = λ i. nat_lt (level_same n i) w || caught_same s n i
+parens_same : (w : Level) (s : Option Sign) (n : Node) → needs_parens w s (bare_node n) ≡ needs_parens w s n
+parens_same w s n = λ i. is_looser (level_same n i) w || caught_same s n i
 
 -- names and types
 
@@ -190,34 +193,34 @@ behind_term_same s (plus x ts) = refl
 behind_term_same s (less x ts) = refl
 
 abbrev SameOperand : Expr → Type 0
-SameOperand x = (w : ℕ) (s : Option Sign) → operand w s (bare x) ≡ operand w s x
+SameOperand x = (w : Level) (s : Option Sign) → operand w s (bare x) ≡ operand w s x
 
 abbrev EachSame : Exprs → Type 0
 EachSame no_exprs = Unit {0}
 EachSame (item x xs) = SameOperand x × EachSame xs
 
-more_run_same : (w : ℕ) (inner : Sign) (g : Glyph) (s : Option Sign) (xs : Exprs) → EachSame xs → more_run w inner g s (bare_exprs xs) ≡ more_run w inner g s xs
+more_run_same : (w : Level) (inner : Sign) (g : Glyph) (s : Option Sign) (xs : Exprs) → EachSame xs → more_run w inner g s (bare_exprs xs) ≡ more_run w inner g s xs
 more_run_same w inner g s no_exprs e = refl
 more_run_same w inner g s (item x xs) e = (λ i. g ∷ (operand w (behind_same inner s xs i) (bare x) ++ more_run_same w inner g s xs e.1 i)) ∙ (λ i. g ∷ (e.0 w (behind inner s xs) i ++ more_run w inner g s xs))
 
-run_same : (w : ℕ) (inner : Sign) (g : Glyph) (s : Option Sign) (xs : Exprs) → EachSame xs → run w inner g s (bare_exprs xs) ≡ run w inner g s xs
+run_same : (w : Level) (inner : Sign) (g : Glyph) (s : Option Sign) (xs : Exprs) → EachSame xs → run w inner g s (bare_exprs xs) ≡ run w inner g s xs
 run_same w inner g s no_exprs e = refl
 run_same w inner g s (item x xs) e = (λ i. operand w (behind_same inner s xs i) (bare x) ++ more_run_same w inner g s xs e.1 i) ∙ (λ i. e.0 w (behind inner s xs) i ++ more_run w inner g s xs)
 
 more_listed_same : (xs : Exprs) → EachSame xs → more_listed (bare_exprs xs) ≡ more_listed xs
 more_listed_same no_exprs e = refl
-more_listed_same (item x xs) e = λ i. closing "," ∷ (e.0 0 None i ++ more_listed_same xs e.1 i)
+more_listed_same (item x xs) e = λ i. closing "," ∷ (e.0 Equivalence None i ++ more_listed_same xs e.1 i)
 
 listed_by : (xs : Exprs) → EachSame xs → listed (bare_exprs xs) ≡ listed xs
 listed_by no_exprs e = refl
-listed_by (item x xs) e = λ i. e.0 0 None i ++ more_listed_same xs e.1 i
+listed_by (item x xs) e = λ i. e.0 Equivalence None i ++ more_listed_same xs e.1 i
 
-operand_by : (w : ℕ) (s : Option Sign) (n : Node) → ((r : Option Sign) → node r (bare_node n) ≡ node r n) → (a b : Bool) → a ≡ b
+operand_by : (w : Level) (s : Option Sign) (n : Node) → ((r : Option Sign) → node r (bare_node n) ≡ node r n) → (a b : Bool) → a ≡ b
     → ◌≡◌ {A = List Glyph} (elim a [ true ↦ opening "(" ∷ (node None (bare_node n) ++ closing ")" ∷ []) | false ↦ node s (bare_node n) ]) (elim b [ true ↦ opening "(" ∷ (node None n ++ closing ")" ∷ []) | false ↦ node s n ])
 operand_by w s n f a b h = λ i. elim (h i) [ true ↦ opening "(" ∷ (f None i ++ closing ")" ∷ []) | false ↦ f s i ]
 
 mutual
-  pub operand_same : (x : Expr) (w : ℕ) (s : Option Sign) → operand w s (bare x) ≡ operand w s x
+  pub operand_same : (x : Expr) (w : Level) (s : Option Sign) → operand w s (bare x) ≡ operand w s x
   operand_same (expr p n) w s = operand_by w s n (node_same n) (needs_parens w s (bare_node n)) (needs_parens w s n) (parens_same w s n)
 
   node_same : (n : Node) (s : Option Sign) → node s (bare_node n) ≡ node s n
@@ -225,19 +228,19 @@ mutual
   node_same (truth b) s = refl
   node_same (variable n) s = refl
   node_same (apply n xs) s = λ i. prefix n.text ∷ opening "(" ∷ (listed_by xs (each_same xs) i ++ closing ")" ∷ [])
-  node_same (old p x) s = λ i. word "old" ∷ opening "(" ∷ (operand_same x 0 None i ++ closing ")" ∷ [])
-  node_same (choose c x y) s = λ i. word "if" ∷ (operand_same c 0 None i ++ word "then" ∷ (operand_same x 0 None i ++ word "else" ∷ operand_same y 0 s i))
-  node_same (quantified q p ps gs rs x) s = λ i. opening "(" ∷ quantifier q ∷ (params_same ps i ++ (groups_same gs i ++ word "::" ∷ (triggers_same rs i ++ (operand_same x 0 None i ++ closing ")" ∷ []))))
-  node_same (iffs xs) s = run_same 1 IffSign (word "<==>") s xs (each_same xs)
-  node_same (implies xs) s = run_same 2 ImpliesSign (word "==>") s xs (each_same xs)
-  node_same (ands xs) s = run_same 3 AndSign (word "&&") s xs (each_same xs)
-  node_same (ors xs) s = run_same 3 OrSign (word "||") s xs (each_same xs)
-  node_same (related o x y) s = λ i. operand_same x 4 (Some RelationSign) i ++ relation o ∷ operand_same y 4 s i
-  node_same (sums x ts) s = λ i. operand_same x 5 (Some TermSign) i ++ terms_same ts s i
-  node_same (products xs) s = run_same 6 FactorSign (word "*") s xs (each_same xs)
-  node_same (negation x) s = λ i. prefix (codes "!") ∷ operand_same x 6 s i
-  node_same (minus x) s = λ i. prefix (codes "-") ∷ operand_same x 6 s i
-  node_same (indexed x is) s = λ i. operand_same x 8 (Some IndexSign) i ++ indices_same is i
+  node_same (old p x) s = λ i. word "old" ∷ opening "(" ∷ (operand_same x Equivalence None i ++ closing ")" ∷ [])
+  node_same (choose c x y) s = λ i. word "if" ∷ (operand_same c Equivalence None i ++ word "then" ∷ (operand_same x Equivalence None i ++ word "else" ∷ operand_same y Equivalence s i))
+  node_same (quantified q p ps gs rs x) s = λ i. opening "(" ∷ quantifier q ∷ (params_same ps i ++ (groups_same gs i ++ word "::" ∷ (triggers_same rs i ++ (operand_same x Equivalence None i ++ closing ")" ∷ []))))
+  node_same (iffs xs) s = run_same Implication IffSign (word "<==>") s xs (each_same xs)
+  node_same (implies xs) s = run_same Junction ImpliesSign (word "==>") s xs (each_same xs)
+  node_same (ands xs) s = run_same Comparison AndSign (word "&&") s xs (each_same xs)
+  node_same (ors xs) s = run_same Comparison OrSign (word "||") s xs (each_same xs)
+  node_same (related o x y) s = λ i. operand_same x Sum (Some RelationSign) i ++ relation o ∷ operand_same y Sum s i
+  node_same (sums x ts) s = λ i. operand_same x Product (Some TermSign) i ++ terms_same ts s i
+  node_same (products xs) s = run_same Unary FactorSign (word "*") s xs (each_same xs)
+  node_same (negation x) s = λ i. prefix (codes "!") ∷ operand_same x Unary s i
+  node_same (minus x) s = λ i. prefix (codes "-") ∷ operand_same x Unary s i
+  node_same (indexed x is) s = λ i. operand_same x Atom (Some IndexSign) i ++ indices_same is i
 
   each_same : (xs : Exprs) → EachSame xs
   each_same no_exprs = tt
@@ -245,13 +248,13 @@ mutual
 
   terms_same : (ts : Terms) (s : Option Sign) → terms s (bare_terms ts) ≡ terms s ts
   terms_same no_terms s = refl
-  terms_same (plus x ts) s = (λ i. word "+" ∷ (operand 5 (behind_term_same s ts i) (bare x) ++ terms_same ts s i)) ∙ (λ i. word "+" ∷ (operand_same x 5 (behind_term s ts) i ++ terms s ts))
-  terms_same (less x ts) s = (λ i. word "-" ∷ (operand 5 (behind_term_same s ts i) (bare x) ++ terms_same ts s i)) ∙ (λ i. word "-" ∷ (operand_same x 5 (behind_term s ts) i ++ terms s ts))
+  terms_same (plus x ts) s = (λ i. word "+" ∷ (operand Product (behind_term_same s ts i) (bare x) ++ terms_same ts s i)) ∙ (λ i. word "+" ∷ (operand_same x Product (behind_term s ts) i ++ terms s ts))
+  terms_same (less x ts) s = (λ i. word "-" ∷ (operand Product (behind_term_same s ts i) (bare x) ++ terms_same ts s i)) ∙ (λ i. word "-" ∷ (operand_same x Product (behind_term s ts) i ++ terms s ts))
 
   indices_same : (is : Indices) → indices (bare_indices is) ≡ indices is
   indices_same no_indices = refl
-  indices_same (at_index x is) = λ i. index ∷ (operand_same x 0 None i ++ closing "]" ∷ indices_same is i)
-  indices_same (update x y is) = λ i. index ∷ (operand_same x 0 None i ++ word ":=" ∷ (operand_same y 0 None i ++ closing "]" ∷ indices_same is i))
+  indices_same (at_index x is) = λ i. index ∷ (operand_same x Equivalence None i ++ closing "]" ∷ indices_same is i)
+  indices_same (update x y is) = λ i. index ∷ (operand_same x Equivalence None i ++ word ":=" ∷ (operand_same y Equivalence None i ++ closing "]" ∷ indices_same is i))
 
   triggers_same : (rs : Triggers) → triggers (bare_triggers rs) ≡ triggers rs
   triggers_same no_triggers = refl
@@ -267,7 +270,7 @@ mutual
 
   clause_same : (c : Clause) → where_clause (bare_clause c) ≡ where_clause c
   clause_same no_clause = refl
-  clause_same (clause p x) = λ i. word "where" ∷ operand_same x 0 None i
+  clause_same (clause p x) = λ i. word "where" ∷ operand_same x Equivalence None i
 
 pub listed_same : (xs : Exprs) → listed (bare_exprs xs) ≡ listed xs
 listed_same xs = listed_by xs (each_same xs)

@@ -5,6 +5,7 @@ use Rattle.bv_base.specs.declared.place.Place.{Place}
 use Rattle.bpl_ast.specs.Place.{Name, Params, Ty}
 use Rattle.bpl_ast.specs.Tree.{Expr, Exprs, no_exprs, item, Groups, no_groups, group}
 use Rattle.bpl_ast.specs.Statement.{Target, Guard, Invariant, Stmt, stmt, Action, assert, assume, havoc, assign, call, branches, loop, «break», «return», goto, Branches, branch, otherwise, no_branch, Stmts, no_stmts, next, Spec, requires, ensures, modifies, Body, Signature, Argument, DeclBody, constant, function, axiom_of, variables, synonym, procedure, implementation, Decl}
+use Rattle.bpl_ast.specs.declared.level.Level.TheVariants.{Equivalence}
 use Rattle.bpl_ast.specs.Glyph.{Glyph, plain, word, opening, closing, prefix, index, line}
 use Rattle.bpl_ast.specs.Expression.{expression}
 use Rattle.bpl_ast.specs.Lines.{semicolon, free_word, entries, more_targets, targets, guard, outs, labels, label, invariant_line, braced, statement, action, chain, others, statements, spec_line, local_line, body_lines, returned, signature, argument, more_arguments, arguments, value, unique_word, synonym_of, ended, optional_body, lines, text, program_text}
@@ -14,7 +15,7 @@ use Rattle.canonical_laws.specs.RoundTrip.{SameProgramsHaveOneText}
 use Rattle.canonical_laws.proofs.SameParens.{names_same, params_same, type_same, operand_same, groups_same, listed_same}
 
 expression_same : (x : Expr) → expression (bare x) ≡ expression x
-expression_same x = operand_same x 0 None
+expression_same x = operand_same x Equivalence None
 
 entries_same : (xs : Exprs) → entries (bare_exprs xs) ≡ entries xs
 entries_same no_exprs = refl

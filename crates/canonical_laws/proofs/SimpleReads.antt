@@ -6,6 +6,7 @@ use Rattle.bpl_ast.specs.Place.{Name}
 use Rattle.bpl_ast.specs.Tree.{Expr, Exprs, no_exprs, item}
 use Rattle.bpl_ast.specs.ExprView.{exprs_of}
 use Rattle.bpl_ast.specs.Statement.{Target, Guard, Invariant}
+use Rattle.bpl_ast.specs.declared.level.Level.TheVariants.{Equivalence}
 use Rattle.bpl_ast.specs.Glyph.{plain, word, opening, closing, index}
 use Rattle.bpl_ast.specs.Expression.{expression, listed as listed_tokens, more_listed}
 use Rattle.bpl_ast.specs.Lines.{semicolon, free_word, entries, targets, more_targets, guard}
@@ -31,8 +32,8 @@ use Rattle.canonical_laws.proofs.AtomReads.{inner_reads}
 use Rattle.canonical_laws.proofs.ExpressionReads.{operand_reads}
 
 -- an expression alone, before what doesn't go on with it
-pub alone_reads : (x : Expr) (room : ℕ) (ls us : List Lexeme) → IsWritten x → expression_depth x ≤ room → IsTrue (ahead None us) → Spelled (expression x) ls us → ReadsAt 0 room ls us x
-alone_reads x room ls us w d k g = operand_reads x w 0 None room ls us (omega arith) d refl k g
+pub alone_reads : (x : Expr) (room : ℕ) (ls us : List Lexeme) → IsWritten x → expression_depth x ≤ room → IsTrue (ahead None us) → Spelled (expression x) ls us → ReadsAt Equivalence room ls us x
+alone_reads x room ls us w d k g = operand_reads x w Equivalence None room ls us d refl k g
 
 -- no attributes are printed
 pub no_attrs : (room : ℕ) (ls : List Lexeme) → sees_text "{" ls ≡ false → read_attrs room ls ≡ Ok (tt, ls)

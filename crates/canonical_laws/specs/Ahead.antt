@@ -1,6 +1,9 @@
 -- What stands behind an expression: a sign that may go on with it, or none.
-use Rattle.std.specs.Prelude.{ℕ, Bool, true, false, not, ◌&&◌, ◌||◌, nat_lt, codes, List, Option, Some, None}
+use Rattle.std.specs.Prelude.{Bool, true, false, not, ◌&&◌, ◌||◌, codes, List, Option, Some, None}
 use Rattle.bpl_ast.specs.Tree.{Expr, Node}
+use Rattle.bpl_ast.specs.declared.level.Level.{Level}
+use Rattle.bpl_ast.specs.declared.level.Level.TheVariants.{Equivalence, Implication, Junction, Comparison, Sum, Product, Postfix}
+use Rattle.bpl_ast.specs.Level.{is_looser}
 use Rattle.bpl_ast.specs.declared.sign.Sign.{Sign}
 use Rattle.bpl_ast.specs.declared.sign.Sign.TheVariants.{IffSign, ImpliesSign, AndSign, OrSign, RelationSign, TermSign, FactorSign, IndexSign}
 use Rattle.bpl_ast.specs.Parens.{goes_on, chain_of, compared, operand_chain, operand_compared}
@@ -9,15 +12,15 @@ use Rattle.bpl_grammar.specs.Terminal.{fixed, sees}
 use Prim.Native.String.{String}
 
 -- the production that goes on with the sign
-abbrev pub weight : Sign → ℕ
-weight IffSign = 0
-weight ImpliesSign = 1
-weight AndSign = 2
-weight OrSign = 2
-weight RelationSign = 3
-weight TermSign = 4
-weight FactorSign = 5
-weight IndexSign = 7
+abbrev pub sign_level : Sign → Level
+sign_level IffSign = Equivalence
+sign_level ImpliesSign = Implication
+sign_level AndSign = Junction
+sign_level OrSign = Junction
+sign_level RelationSign = Comparison
+sign_level TermSign = Sum
+sign_level FactorSign = Product
+sign_level IndexSign = Postfix
 
 abbrev pub sees_text : String → List Lexeme → Bool
 sees_text w ls = sees (fixed (codes w)) ls
@@ -58,10 +61,10 @@ ahead s ls =
     && not (sees_text "(" ls)
 
 -- whether an expression that is read where a production of that level stands stops before the sign
-abbrev pub stops : ℕ → Option Sign → Node → Bool
+abbrev pub stops : Level → Option Sign → Node → Bool
 stops w None n = true
-stops w (Some s) n = nat_lt (weight s) w || not (goes_on s (chain_of n) (compared n))
+stops w (Some s) n = is_looser (sign_level s) w || not (goes_on s (chain_of n) (compared n))
 
-abbrev pub stops_operand : ℕ → Option Sign → Expr → Bool
+abbrev pub stops_operand : Level → Option Sign → Expr → Bool
 stops_operand w None x = true
-stops_operand w (Some s) x = nat_lt (weight s) w || not (goes_on s (operand_chain w x) (operand_compared w x))
+stops_operand w (Some s) x = is_looser (sign_level s) w || not (goes_on s (operand_chain w x) (operand_compared w x))

@@ -2,6 +2,8 @@
 use Rattle.std.specs.Prelude.{ℕ, suc, max, true, false, Option, Some, None}
 use Rattle.bpl_ast.specs.Place.{Ty, integer, boolean, named, map_type, Tys, no_tys, ty}
 use Rattle.bpl_ast.specs.Tree.{Expr, expr, Node, number, truth, variable, apply, old, choose, quantified, iffs, implies, ands, ors, related, sums, products, negation, minus, indexed, Exprs, no_exprs, item, Terms, no_terms, plus, less, Indices, no_indices, at_index, update, Triggers, no_triggers, trigger, Groups, no_groups, group, Clause, no_clause, clause}
+use Rattle.bpl_ast.specs.declared.level.Level.{Level}
+use Rattle.bpl_ast.specs.declared.level.Level.TheVariants.{Equivalence, Implication, Junction, Comparison, Sum, Product, Unary, Atom}
 use Rattle.bpl_ast.specs.declared.sign.Sign.{Sign}
 use Rattle.bpl_ast.specs.declared.sign.Sign.TheVariants.{IffSign, ImpliesSign, AndSign, OrSign, RelationSign, TermSign, FactorSign, IndexSign}
 use Rattle.bpl_ast.specs.Parens.{needs_parens}
@@ -19,7 +21,7 @@ abbrev mutual
   types_depth (ty t ts) = max (type_depth t) (types_depth ts)
 
 abbrev mutual
-  pub operand_depth : ℕ → Option Sign → Expr → ℕ
+  pub operand_depth : Level → Option Sign → Expr → ℕ
   operand_depth w s (expr p n) = elim (needs_parens w s n) [ true ↦ suc (node_depth None n) | false ↦ node_depth s n ]
 
   pub node_depth : Option Sign → Node → ℕ
@@ -27,38 +29,38 @@ abbrev mutual
   node_depth s (truth b) = 0
   node_depth s (variable n) = 0
   node_depth s (apply n xs) = enclosed_depth xs
-  node_depth s (old p x) = suc (operand_depth 0 None x)
-  node_depth s (choose c x y) = suc (max (operand_depth 0 None c) (max (operand_depth 0 None x) (operand_depth 0 s y)))
-  node_depth s (quantified q p ps gs rs x) = suc (max (groups_depth gs) (max (triggers_depth rs) (operand_depth 0 None x)))
-  node_depth s (iffs xs) = run_depth 1 IffSign s xs
-  node_depth s (implies xs) = run_depth 2 ImpliesSign s xs
-  node_depth s (ands xs) = run_depth 3 AndSign s xs
-  node_depth s (ors xs) = run_depth 3 OrSign s xs
-  node_depth s (related o x y) = max (operand_depth 4 (Some RelationSign) x) (operand_depth 4 s y)
-  node_depth s (sums x ts) = max (operand_depth 5 (Some TermSign) x) (terms_depth s ts)
-  node_depth s (products xs) = run_depth 6 FactorSign s xs
-  node_depth s (negation x) = suc (operand_depth 6 s x)
-  node_depth s (minus x) = suc (operand_depth 6 s x)
-  node_depth s (indexed x is) = max (operand_depth 8 (Some IndexSign) x) (indices_depth is)
+  node_depth s (old p x) = suc (operand_depth Equivalence None x)
+  node_depth s (choose c x y) = suc (max (operand_depth Equivalence None c) (max (operand_depth Equivalence None x) (operand_depth Equivalence s y)))
+  node_depth s (quantified q p ps gs rs x) = suc (max (groups_depth gs) (max (triggers_depth rs) (operand_depth Equivalence None x)))
+  node_depth s (iffs xs) = run_depth Implication IffSign s xs
+  node_depth s (implies xs) = run_depth Junction ImpliesSign s xs
+  node_depth s (ands xs) = run_depth Comparison AndSign s xs
+  node_depth s (ors xs) = run_depth Comparison OrSign s xs
+  node_depth s (related o x y) = max (operand_depth Sum (Some RelationSign) x) (operand_depth Sum s y)
+  node_depth s (sums x ts) = max (operand_depth Product (Some TermSign) x) (terms_depth s ts)
+  node_depth s (products xs) = run_depth Unary FactorSign s xs
+  node_depth s (negation x) = suc (operand_depth Unary s x)
+  node_depth s (minus x) = suc (operand_depth Unary s x)
+  node_depth s (indexed x is) = max (operand_depth Atom (Some IndexSign) x) (indices_depth is)
 
-  pub run_depth : ℕ → Sign → Option Sign → Exprs → ℕ
+  pub run_depth : Level → Sign → Option Sign → Exprs → ℕ
   run_depth w inner s no_exprs = 0
   run_depth w inner s (item x xs) = max (operand_depth w (behind inner s xs) x) (run_depth w inner s xs)
 
   -- each of them in brackets
   pub enclosed_depth : Exprs → ℕ
   enclosed_depth no_exprs = 0
-  enclosed_depth (item x xs) = max (suc (operand_depth 0 None x)) (enclosed_depth xs)
+  enclosed_depth (item x xs) = max (suc (operand_depth Equivalence None x)) (enclosed_depth xs)
 
   pub terms_depth : Option Sign → Terms → ℕ
   terms_depth s no_terms = 0
-  terms_depth s (plus x ts) = max (operand_depth 5 (behind_term s ts) x) (terms_depth s ts)
-  terms_depth s (less x ts) = max (operand_depth 5 (behind_term s ts) x) (terms_depth s ts)
+  terms_depth s (plus x ts) = max (operand_depth Product (behind_term s ts) x) (terms_depth s ts)
+  terms_depth s (less x ts) = max (operand_depth Product (behind_term s ts) x) (terms_depth s ts)
 
   pub indices_depth : Indices → ℕ
   indices_depth no_indices = 0
-  indices_depth (at_index x is) = max (suc (operand_depth 0 None x)) (indices_depth is)
-  indices_depth (update x y is) = max (suc (operand_depth 0 None x)) (max (suc (operand_depth 0 None y)) (indices_depth is))
+  indices_depth (at_index x is) = max (suc (operand_depth Equivalence None x)) (indices_depth is)
+  indices_depth (update x y is) = max (suc (operand_depth Equivalence None x)) (max (suc (operand_depth Equivalence None y)) (indices_depth is))
 
   pub triggers_depth : Triggers → ℕ
   triggers_depth no_triggers = 0
@@ -70,7 +72,7 @@ abbrev mutual
 
   pub clause_depth : Clause → ℕ
   clause_depth no_clause = 0
-  clause_depth (clause p x) = operand_depth 0 None x
+  clause_depth (clause p x) = operand_depth Equivalence None x
 
 abbrev pub expression_depth : Expr → ℕ
-expression_depth x = operand_depth 0 None x
+expression_depth x = operand_depth Equivalence None x
