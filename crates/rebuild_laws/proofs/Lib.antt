@@ -25,4 +25,11 @@ pub mod OrderAlike
 pub mod EntryAlike
 pub mod ClausesAlike
 pub mod ProceduresSame
+pub mod CalleesMoved
 pub mod Corresponding
+pub mod WithoutGotos
+pub mod InLists
+pub mod TextsAt
+pub mod OwnNames
+pub mod TextsOfProcedures
+pub mod UnplacedAlike

@@ -7,10 +7,11 @@ use Rattle.bpl_model.specs.Numbering.{defs_of, first_local}
 use Rattle.bpl_model.specs.NoGoto.{BodyHasNoGoto}
 use Rattle.bpl_model.specs.Typed.{IsTypedModule}
 use Rattle.bpl_model.specs.Reach.{reached_clauses}
+use Rattle.bpl_goto.specs.Forward.{AllGoForward}
 use Rattle.bpl_goto.specs.Removed.{body_without}
 use Rattle.vc_build.specs.declared.goal.Goal.{Goal}
 use Rattle.vc_build.specs.Depends.{reached_axioms}
-use Rattle.vc_build.specs.Goals.{goals_by_passes}
+use Rattle.vc_build.specs.Goals.{goals_by_passes, goals}
 use Rattle.rebuild_laws.specs.Alike.{AlikeStmts, AlikeLocals, AlikeTerms, AlikeSpecs}
 use Rattle.rebuild_laws.specs.Numbers.{new_all, Reads, Low, LowNumbers, GlobalsAlike}
 
@@ -78,6 +79,12 @@ abbrev pub CorrespondingHaveOneObligations : Type 0
 CorrespondingHaveOneObligations =
     (m n : Module) (p q : Proc) → IsTypedModule m → Contains m.procs p → BodyHasNoGoto p.body → Correspond m n p q
     → map (λ (g : Goal). g.obligation) (goals_by_passes n q) ≡ map (λ (g : Goal). g.obligation) (goals_by_passes m p)
+
+-- with gotos, where they go forward
+abbrev pub CorrespondingHaveEqualGoals : Type 0
+CorrespondingHaveEqualGoals =
+    (m n : Module) (p q : Proc) → IsTypedModule m → AllGoForward m → Contains m.procs p → Correspond m n p q
+    → map (λ (g : Goal). g.obligation) (goals n q) ≡ map (λ (g : Goal). g.obligation) (goals m p)
 
 -- bodies that go alike still do without their gotos
 abbrev pub BodiesWithoutGotosGoAlike : Type 0

@@ -1,7 +1,10 @@
 //! What renaming keeps. Each function does nothing; its contract is a law.
 ghost use Rattle.rebuild_laws.specs.CanonicalForms.{RenamedHaveOneForm, RenamedHaveOneFormWithTriggers};
-ghost use Rattle.rebuild_laws.specs.Procedures.{BodiesWithoutGotosGoAlike, CorrespondingHaveOneObligations};
+ghost use Rattle.rebuild_laws.specs.Procedures.{BodiesWithoutGotosGoAlike, CorrespondingHaveEqualGoals, CorrespondingHaveOneObligations};
+ghost use Rattle.rebuild_laws.specs.DependencyTexts.{DependencyTextsTell};
+ghost use Rattle.rebuild_laws.specs.Unplaced.{AlikeWhereverTheyStand};
 
+use bpl_goto::laws::{remove_gotos_keeps_failures, remove_gotos_stays_typed};
 use vc_build::laws::sequents_are_sorted;
 
 /// Where an obligation is another one with new numbers for the definitions and variables that it
@@ -29,3 +32,26 @@ pub fn corresponding_have_one_obligations()
 {
     sequents_are_sorted();
 }
+
+/// Of two procedures, each in a module of its own, of which the first is typed and its gotos go
+/// forward: where what the one reaches of its module stands in the other's too, at new numbers and
+/// whatever its places, their goals have equal obligations.
+pub fn corresponding_have_equal_goals()
+    ensures { CorrespondingHaveEqualGoals }
+{
+    corresponding_have_one_obligations();
+    remove_gotos_stays_typed();
+    remove_gotos_keeps_failures();
+}
+
+/// Where two programs without faults have procedures with one dependency text, these have the same
+/// declaration and implementation but for places, and the same declarations that they reach, in order,
+/// but for places and bodies of procedures.
+pub fn dependency_texts_tell()
+    ensures { DependencyTextsTell }
+{}
+
+/// Bodies that go alike over new numbers do so wherever they stand.
+pub fn alike_wherever_they_stand()
+    ensures { AlikeWhereverTheyStand }
+{}
