@@ -1,0 +1,4 @@
+//! Laws on the names of programs whose dependency texts are equal.
+#![tactic(auto)]
+
+pub mod laws;
