@@ -1,0 +1,4 @@
+mod GraphMarks
+mod BlockMarks
+mod CallMarks
+pub mod TextMarks
