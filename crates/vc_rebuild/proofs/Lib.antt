@@ -1,6 +1,3 @@
-pub mod Bare
-pub mod SameObligations
-pub mod Remade
 pub mod Positions
 pub mod MarksInOrder
 pub mod Digested

@@ -1,21 +1,18 @@
 -- Procedures, one after another: those with a body, their goals, and what is kept of them.
-use Rattle.std.specs.Prelude.{◌≡◌, refl, ℕ, zero, suc, ◌+◌, ◌<◌, Bool, true, false, not, cond, List, [], ◌∷◌, ◌++◌, map, length, filter, flat_map, slice_index_or, is_some, Option, Some, None, option_map}
+use Rattle.std.specs.Prelude.{◌≡◌, refl, ℕ, zero, suc, ◌+◌, ◌<◌, ◌≤◌, Bool, true, false, not, cond, List, [], ◌∷◌, ◌++◌, map, length, filter, flat_map, slice_index_or, is_some, Option, Some, None, option_map}
 use Rattle.std.specs.List.{AllByRecursion}
-use Rattle.std.proofs.Common.{ap, sym, arith, subst, ◌∙◌, drop, get_or, drop-cons}
+use Rattle.std.proofs.Common.{ap, sym, arith, subst, ◌∙◌, drop, get_or, drop-cons, inl, inr}
 use Rattle.std.proofs.lemmas.List.{append_assoc, at_drop_more}
-use Rattle.sha2.specs.Sha256.{sha256}
 use Rattle.bpl_model.specs.Module.{Stmts, Proc, Module}
 use Rattle.bpl_model.specs.Reach.{among, decl_at, positions, leads_to, reach_on, own_positions}
-use Rattle.bpl_model.specs.Numbering.{defs_of}
 use Rattle.bpl_goto.specs.Removed.{body_without, removed, remove_gotos}
 use Rattle.bpl_goto.proofs.NoneLeft.{none_left}
-use Rattle.vc_build.specs.Depends.{depends, reached_axioms}
-use Rattle.vc_build.specs.Goals.{passive_graph, goals_of_graph, goals_with_body, goals_by_passes, goals}
-use Rattle.vc_build.specs.Rebuild.{BuiltProc as built_proc, with_body, built, stands_in, rebuilt}
-use Rattle.vc_rebuild.specs.declared.kept.BuiltProc.{BuiltProc}
-use Rattle.vc_rebuild.specs.Obligations.{each_obligation}
-use Rattle.vc_rebuild.specs.Kept.{kept_of, having_body, all_goals, as_all_built, is_new}
-use Rattle.vc_rebuild.specs.Inside.{AreMade, HaveNoGoto}
+use Rattle.name_laws.specs.Resolved.{IsResolved}
+use Rattle.vc_build.specs.Depends.{depends}
+use Rattle.vc_build.specs.Goals.{goals_with_body, goals_by_passes, goals}
+use Rattle.vc_build.specs.Rebuild.{BuiltProc, with_body, built, rebuilt}
+use Rattle.vc_rebuild.specs.Kept.{kept_of, having_body, all_goals, is_new, new_in}
+use Rattle.vc_rebuild.specs.Inside.{AreBuilt, HaveNoGoto}
 
 -- the first, where it has a body, and then the others
 pub having_next : (p : Proc) (ps : List Proc) → having_body (p ∷ ps) ≡ having_body (p ∷ []) ++ having_body ps
@@ -32,12 +29,23 @@ none_having p h = ap (λ b. cond b (p ∷ []) []) h
 pub one_having : (p : Proc) → is_some p.body ≡ true → having_body (p ∷ []) ≡ p ∷ []
 one_having p h = ap (λ b. cond b (p ∷ []) []) h
 
-pub one_counted : (t : Proc → Bool) (p : Proc) → is_some p.body ≡ true → cond (t p) 0 1 ≡ length (filter (λ q. not (t q)) (having_body (p ∷ [])))
-one_counted t p h = by (t p) ∙ ap (λ qs. length (filter (λ q. not (t q)) qs)) (sym (one_having p h))
+pub one_counted : (t : Proc → Bool) (p : Proc) → is_some p.body ≡ true → cond (t p) 1 0 ≡ length (filter t (having_body (p ∷ [])))
+one_counted t p h = by (t p) ∙ ap (λ qs. length (filter t qs)) (sym (one_having p h))
   where
-    by : (b : Bool) → cond b 0 1 ≡ length (cond (not b) (p ∷ []) [])
+    by : (b : Bool) → cond b 1 0 ≡ length (cond b (p ∷ []) [])
     by true = refl
     by false = refl
+
+pub one_at_most : (t : Proc → Bool) (p : Proc) → length (filter t (having_body (p ∷ []))) ≤ 1
+one_at_most t p = by (is_some p.body)
+  where
+    at_most : (s : Bool) → length (cond s (p ∷ []) []) ≤ 1
+    at_most true = omega arith
+    at_most false = omega arith
+
+    by : (b : Bool) → length (filter t (cond b (p ∷ []) [])) ≤ 1
+    by true = at_most (t p)
+    by false = omega arith
 
 filtered_both : {A : Type 0} (t : A → Bool) (xs ys : List A) → filter t (xs ++ ys) ≡ filter t xs ++ filter t ys
 filtered_both t [] ys = refl
@@ -77,41 +85,8 @@ goals_having m (p ∷ ps) = by p.body refl (goals_having m ps)
     by None e h = ap (λ b. all_goals (map (kept_of m) (cond (is_some b) (p ∷ having_body ps) (having_body ps)))) e ∙ h ∙ ap (λ b. goals_with_body m p b ++ flat_map (goals_by_passes m) ps) (sym e)
     by (Some ss) e h = ap (λ b. all_goals (map (kept_of m) (cond (is_some b) (p ∷ having_body ps) (having_body ps)))) e ∙ ap (λ gs. goals_by_passes m p ++ gs) h
 
--- of a procedure with a body
-pub goals_with : (m : Module) (p : Proc) → is_some p.body ≡ true → goals_by_passes m p ≡ goals_of_graph (passive_graph m p) (defs_of m) (reached_axioms m p)
-goals_with m p h = by p.body h
-  where
-    by : (b : Option Stmts) → is_some b ≡ true → goals_with_body m p b ≡ goals_of_graph (passive_graph m p) (defs_of m) (reached_axioms m p)
-    by None e = absurd (cc)
-    by (Some ss) e = refl
-
-all_made_of : (m : Module) (ps : List Proc) → AreMade (defs_of m) (map (kept_of m) (having_body ps))
-all_made_of m [] = tt
-all_made_of m (p ∷ ps) = by (is_some p.body) refl (all_made_of m ps)
-  where
-    by : (b : Bool) → is_some p.body ≡ b → AreMade (defs_of m) (map (kept_of m) (having_body ps)) → AreMade (defs_of m) (map (kept_of m) (cond b (p ∷ having_body ps) (having_body ps)))
-    by true e h = (record { digest = refl; obligations = ap each_obligation (goals_with m p e) }, h)
-    by false e h = h
-
-pub all_made : (m : Module) → AreMade (defs_of m) (map (kept_of m) (with_body m))
-all_made m = all_made_of m m.procs
-
-pub all_digested : (m : Module) (ps : List Proc) → AllByRecursion (λ (b : BuiltProc). b.source.digest ≡ sha256 b.source.depends) (map (kept_of m) ps)
-all_digested m [] = tt
-all_digested m (p ∷ ps) = (refl, all_digested m ps)
-
--- how many texts of the procedures are new
-pub counted_new : (m : Module) (old : List BuiltProc) (ps : List Proc) → length (filter (is_new old) (map (kept_of m) ps)) ≡ length (filter (λ p. is_new old (kept_of m p)) ps)
-counted_new m old [] = refl
-counted_new m old (p ∷ ps) = by (is_new old (kept_of m p)) (counted_new m old ps)
-  where
-    by : (b : Bool) → length (filter (is_new old) (map (kept_of m) ps)) ≡ length (filter (λ q. is_new old (kept_of m q)) ps)
-        → length (cond b (kept_of m p ∷ filter (is_new old) (map (kept_of m) ps)) (filter (is_new old) (map (kept_of m) ps))) ≡ length (cond b (p ∷ filter (λ q. is_new old (kept_of m q)) ps) (filter (λ q. is_new old (kept_of m q)) ps))
-    by true h = ap suc h
-    by false h = h
-
 -- with gotos removed the same procedures have a body
-is_left : (o : Option Stmts) → is_some (option_map body_without o) ≡ is_some o
+pub is_left : (o : Option Stmts) → is_some (option_map body_without o) ≡ is_some o
 is_left None = refl
 is_left (Some ss) = refl
 
@@ -133,36 +108,32 @@ depends_same m p =
     let own = own_positions m p in
     ap (λ reached. flat_map (λ d. (decl_at m d).text) own ++ flat_map (λ d. (decl_at m d).contract) (filter (λ d. not (among own d)) reached)) (reach_same m (length m.texts + 1) (flat_map (λ d. (decl_at m d).leads) own))
 
-built_of : (m : Module) (ps : List Proc) → as_all_built (map (kept_of (remove_gotos m)) (map removed ps)) ≡ map (λ (p : Proc). record { name = p.name; depends = depends m p; goals = goals m p }) ps
+built_of : (m : Module) (ps : List Proc) → map (kept_of (remove_gotos m)) (map removed ps) ≡ map (λ (p : Proc). record { name = p.name; depends = depends m p; goals = goals m p }) ps
 built_of m [] = refl
 built_of m (p ∷ ps) = λ i. record { name = p.name; depends = depends_same m p i; goals = goals m p } ∷ built_of m ps i
 
 -- what is kept is what is built
-pub kept_built : (m : Module) → as_all_built (map (kept_of (remove_gotos m)) (with_body (remove_gotos m))) ≡ built m
-kept_built m = ap (λ ps. as_all_built (map (kept_of (remove_gotos m)) ps)) (left_bodies m.procs) ∙ built_of m (with_body m)
+pub kept_built : (m : Module) → map (kept_of (remove_gotos m)) (with_body (remove_gotos m)) ≡ built m
+kept_built m = ap (map (kept_of (remove_gotos m))) (left_bodies m.procs) ∙ built_of m (with_body m)
 
-abbrev new_ones : Module → List BuiltProc → List Proc → List Proc
-new_ones m old ps = filter (λ q. is_new old (kept_of (remove_gotos m) q)) (map removed ps)
+pub are_built : (m : Module) → IsResolved m → AreBuilt (map (kept_of (remove_gotos m)) (with_body (remove_gotos m)))
+are_built m resolved = inr (record { typed = m; resolved = resolved; are = kept_built m })
 
-abbrev made_of : Module → List Proc → List built_proc
-made_of m ps = map (λ (q : Proc). record { name = q.name; depends = depends m q; goals = goals m q }) ps
+pub none_built : AreBuilt []
+none_built = inl refl
 
-abbrev new_made : Module → List BuiltProc → List Proc → List built_proc
-new_made m old ps = filter (λ (b : built_proc). not (stands_in (as_all_built old) b.depends)) (made_of m ps)
-
-rebuilt_of : (m : Module) (old : List BuiltProc) (ps : List Proc) → length (new_ones m old ps) ≡ length (new_made m old ps)
-rebuilt_of m old [] = refl
-rebuilt_of m old (p ∷ ps) =
-    ap (λ text. length (cond (not (stands_in (as_all_built old) text)) (removed p ∷ new_ones m old ps) (new_ones m old ps))) (depends_same m p)
-    ∙ by (not (stands_in (as_all_built old) (depends m p))) (rebuilt_of m old ps)
+-- what is new of these, one after another, and all at once
+counted_of : (m : Module) (old : List BuiltProc) (ps : List Proc) → length (filter (λ p. is_new old (kept_of m p)) ps) ≡ length (filter (is_new old) (map (kept_of m) ps))
+counted_of m old [] = refl
+counted_of m old (p ∷ ps) = by (is_new old (kept_of m p)) (counted_of m old ps)
   where
-    by : (b : Bool) → length (new_ones m old ps) ≡ length (new_made m old ps)
-        → length (cond b (removed p ∷ new_ones m old ps) (new_ones m old ps)) ≡ length (cond b (record { name = p.name; depends = depends m p; goals = goals m p } ∷ new_made m old ps) (new_made m old ps))
+    by : (b : Bool) → length (filter (λ q. is_new old (kept_of m q)) ps) ≡ length (filter (is_new old) (map (kept_of m) ps))
+        → length (cond b (p ∷ filter (λ q. is_new old (kept_of m q)) ps) (filter (λ q. is_new old (kept_of m q)) ps)) ≡ length (cond b (kept_of m p ∷ filter (is_new old) (map (kept_of m) ps)) (filter (is_new old) (map (kept_of m) ps)))
     by true h = ap suc h
     by false h = h
 
-pub kept_rebuilt : (m : Module) (old : List BuiltProc) → length (filter (λ p. is_new old (kept_of (remove_gotos m) p)) (with_body (remove_gotos m))) ≡ rebuilt (as_all_built old) m
-kept_rebuilt m old = ap (λ ps. length (filter (λ p. is_new old (kept_of (remove_gotos m) p)) ps)) (left_bodies m.procs) ∙ rebuilt_of m old (with_body m)
+pub kept_rebuilt : (m : Module) (old : List BuiltProc) → new_in old (remove_gotos m) (remove_gotos m).procs ≡ rebuilt old m
+kept_rebuilt m old = counted_of (remove_gotos m) old (with_body (remove_gotos m)) ∙ ap (λ bs. length (filter (is_new old) bs)) (kept_built m)
 
 goals_left_of : (m : Module) (ps : List Proc) → flat_map (goals_by_passes (remove_gotos m)) (map removed ps) ≡ flat_map (goals m) ps
 goals_left_of m [] = refl

@@ -11,7 +11,7 @@ use Rattle.obligation_text.specs.Text.{obligation_text}
 use Rattle.vc_build.specs.declared.goal.Goal.{Goal}
 use Rattle.vc_build.specs.declared.fault.Measure.TheVariants.{Count, Bytes}
 use Rattle.vc_build.specs.Large.{count_limit, byte_limit, large_after, sizes_of, large}
-use Rattle.vc_rebuild.specs.declared.kept.BuiltProc.{BuiltProc}
+use Rattle.vc_build.specs.Rebuild.{BuiltProc}
 use Rattle.vc_rebuild.specs.Kept.{all_goals}
 use Rattle.vc_rebuild.specs.Within.{are_within}
 

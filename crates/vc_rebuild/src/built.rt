@@ -1,64 +1,66 @@
 // What is kept of a program.
 ghost use Rattle.std.specs.Prelude.{◌≡◌, []};
-ghost use Rattle.vc_rebuild.specs.Inside.{AreMade};
+ghost use Rattle.vc_rebuild.specs.Inside.{AreBuilt};
 
 use crate::kept::BuiltProc;
-use logic_core::{Def, Sequence};
+use logic_core::Sequence;
 use std::alloc::Global;
 use std::marker::Model;
 
-/// The goals of a program, of each procedure with a body in order, and what they are made of.
+/// The goals and dependency texts of a program without faults, of each procedure with a body in order;
+/// of no program at first.
 #[derive(Drop)]
 pub struct Built {
     procs: Sequence<BuiltProc>,
-    defs: Sequence<Def>,
     rebuilt: u64,
 }
 
 impl Model for Built {
     ghost use Rattle.vc_rebuild.specs.Kept.{Program};
-    ghost use Rattle.vc_rebuild.specs.Inside.{AreMade};
-    ghost use Rattle.vc_rebuild.specs.ProgramCodes.{coded_program};
+    ghost use Rattle.vc_rebuild.specs.Inside.{AreBuilt};
+    ghost use Rattle.vc_rebuild.specs.Codes.{coded_program};
 
     ghost Value = { Program };
 
     ghost coded = { coded_program };
 
-    ghost view = { λ a. record { procs = a.procs; defs = a.defs; rebuilt = a.rebuilt } };
+    ghost view = { λ a. record { procs = a.procs; rebuilt = a.rebuilt } };
 
-    ghost invariant = { λ a. AreMade a.defs a.procs };
+    ghost invariant = { λ a. AreBuilt a.procs };
 }
 
 impl Built {
-    /// Of a program without procedures.
+    /// Of no program.
+    #[tactic(auto, using(crate::proofs::Programs::none_built))]
     pub fn empty(alloc: Global) -> Built
-        ensures { result ≡ record { procs = []; defs = []; rebuilt = 0 } }
+        ensures { result ≡ record { procs = []; rebuilt = 0 } }
     {
         Built {
             procs: Sequence::new(alloc),
-            defs: Sequence::new(alloc),
             rebuilt: 0,
         }
     }
 
-    /// These procedures, whose obligations are made over these definitions.
-    pub(crate) fn of(procs: Sequence<BuiltProc>, defs: Sequence<Def>, rebuilt: u64) -> Built
-        requires { AreMade defs procs }
-        ensures { result ≡ record { procs = procs; defs = defs; rebuilt = rebuilt } }
+    /// These procedures, of which so many were built.
+    pub(crate) fn of(procs: Sequence<BuiltProc>, rebuilt: u64) -> Built
+        requires { AreBuilt procs }
+        ensures { result ≡ record { procs = procs; rebuilt = rebuilt } }
     {
-        Built {
-            procs,
-            defs,
-            rebuilt,
-        }
+        Built { procs, rebuilt }
     }
 
     /// The procedures with a body, in order.
     pub fn procs(&self) -> &[BuiltProc]
-        ensures same { result.now ≡ self.now.procs }
-        ensures made { AreMade self.now.defs result.now }
+        ensures { result.now ≡ self.now.procs }
     {
         self.procs.as_slice()
+    }
+
+    /// What is known of all that is kept: it is of some program without faults.
+    pub(crate) fn is_built(&self)
+        ensures { AreBuilt self.now.procs }
+    {
+        let _procs = &self.procs;
     }
 
     /// How many procedures have a dependency text that stood in no procedure before.
@@ -66,12 +68,5 @@ impl Built {
         ensures { result ≡ self.now.rebuilt }
     {
         self.rebuilt
-    }
-
-    /// The functions' definitions.
-    pub(crate) fn defs(&self) -> &[Def]
-        ensures { result.now ≡ self.now.defs }
-    {
-        self.defs.as_slice()
     }
 }

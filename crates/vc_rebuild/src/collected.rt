@@ -37,13 +37,13 @@ impl Model for Collected {
     ghost use Rattle.std.specs.Prelude.{◌≡◌, ◌≤◌, List, length, sum};
     ghost use Rattle.std.specs.Coded.{coded_list};
     ghost use Rattle.vc_build.specs.Large.{count_limit, byte_limit, sizes_of};
-    ghost use Rattle.vc_rebuild.specs.declared.kept.BuiltProc.{BuiltProc as kept_proc};
-    ghost use Rattle.vc_rebuild.specs.contracts.kept.BuiltProc as proc_row;
+    ghost use Rattle.vc_build.specs.Rebuild.{BuiltProc as built_proc};
+    ghost use Rattle.vc_rebuild.specs.Codes.{coded_proc};
     ghost use Rattle.vc_rebuild.specs.Kept.{all_goals};
 
-    ghost Value = { List kept_proc };
+    ghost Value = { List built_proc };
 
-    ghost coded = { coded_list proc_row.the_row.coded };
+    ghost coded = { coded_list coded_proc };
 
     ghost view = { λ a. a.procs.items };
 
@@ -75,8 +75,9 @@ impl Collected {
         requires { are_within (all_goals self.old ++ proc.goals) ≡ true }
         ensures { OnOk result (self.new ≡ self.old ++ proc ∷ []) }
     {
-        let count = self.count.saturating_add(proc.goals.len() as u64);
-        let bytes = self.bytes.saturating_add(bytes_of(proc.goals.as_slice()));
+        let goals = proc.goals();
+        let count = self.count.saturating_add(goals.len() as u64);
+        let bytes = self.bytes.saturating_add(bytes_of(goals));
         self.procs.push(proc)?;
         self.count = count;
         self.bytes = bytes;

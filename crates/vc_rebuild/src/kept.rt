@@ -1,30 +1,63 @@
 // What is kept of a procedure.
+ghost use Rattle.std.specs.Prelude.{◌≡◌};
+
+use crate::digest::DigestedText;
 use crate::shared::SharedGoal;
 use bpl_model::Name;
-use logic_core::{Formula, Sequence};
-use passive_form::Passive;
+use logic_core::Sequence;
+use std::marker::Model;
 
-/// What a procedure's goals are made of, but for the functions' definitions.
-#[derive(Drop)]
-pub struct Source {
-    /// Its dependency text: the canonical texts of its declarations, and those without bodies of
-    /// the others that its names reach.
-    pub depends: Sequence<u8>,
-    /// The SHA-256 of that text.
-    pub digest: Sequence<u8>,
-    /// The passive graph whose assertions the goals are.
-    pub graph: Passive,
-    /// The axioms of the goals' obligations.
-    pub axioms: Sequence<Formula>,
-}
-
-/// A procedure with a body.
+/// A procedure with a body: its dependency text, which is the canonical texts of its declarations and
+/// those without bodies of the others that its names reach, and its goals, by block of its graph and
+/// then by place.
 #[derive(Drop)]
 pub struct BuiltProc {
+    name: Name,
+    depends: DigestedText,
+    goals: Sequence<SharedGoal>,
+}
+
+impl Model for BuiltProc {
+    ghost use Rattle.vc_build.specs.Rebuild.{BuiltProc as built_proc};
+    ghost use Rattle.vc_rebuild.specs.Codes.{coded_proc};
+
+    ghost Value = { built_proc };
+
+    ghost coded = { coded_proc };
+
+    ghost view = { λ a. record { name = a.name; depends = a.depends; goals = a.goals } };
+}
+
+impl BuiltProc {
+    /// Of these parts.
+    pub(crate) fn of(name: Name, depends: DigestedText, goals: Sequence<SharedGoal>) -> BuiltProc
+        ensures { result ≡ record { name = name; depends = depends; goals = goals } }
+    {
+        BuiltProc {
+            name,
+            depends,
+            goals,
+        }
+    }
+
     /// Its name.
-    pub name: Name,
-    /// Its goals, by block of its graph and then by place.
-    pub goals: Sequence<SharedGoal>,
-    /// What they are made of.
-    pub source: Source,
+    pub fn name(&self) -> &Name
+        ensures { result.now ≡ self.now.name }
+    {
+        &self.name
+    }
+
+    /// Its dependency text.
+    pub(crate) fn depends(&self) -> &DigestedText
+        ensures { result.now ≡ self.now.depends }
+    {
+        &self.depends
+    }
+
+    /// Its goals.
+    pub fn goals(&self) -> &[SharedGoal]
+        ensures { result.now ≡ self.now.goals }
+    {
+        self.goals.as_slice()
+    }
 }

@@ -1,47 +1,61 @@
 // A procedure whose obligations are kept or built.
-ghost use Rattle.std.specs.Prelude.{◌≡◌, ◌+◌, cond, Contains, IfOk, IsSome, OnOk};
+ghost use Rattle.std.specs.Prelude.{◌≡◌, ◌+◌, cond, map, Contains, IfOk, IsSome, OnOk};
 ghost use Rattle.bpl_model.specs.NoGoto.{BodyHasNoGoto};
-ghost use Rattle.bpl_model.specs.Numbering.{defs_of};
+ghost use Rattle.vc_build.specs.Depends.{depends};
 ghost use Rattle.vc_build.specs.Goals.{goals_by_passes};
-ghost use Rattle.vc_rebuild.specs.Kept.{source_of, kept_of, keeps};
+ghost use Rattle.vc_rebuild.specs.Kept.{kept_of, is_new};
+ghost use Rattle.vc_rebuild.specs.Inside.{SameObligations, TextsDecide};
 ghost use Rattle.vc_rebuild.specs.Looked.{IsBefore};
-ghost use Rattle.vc_rebuild.specs.Marks.{marks_of, remarked};
 
-use crate::before::Before;
-use crate::candidate::candidate;
-use crate::digest::digest_of;
-use crate::kept::{BuiltProc, Source};
-use crate::marks::marks_of;
+use crate::candidate::{Before, candidate};
+use crate::digest::DigestedText;
+use crate::kept::BuiltProc;
 use crate::shared::{SharedGoal, remarked, share_all};
 use crate::text::depends;
 use bpl_model::{Links, Proc};
 use bv_base::Steps;
+use goal_marks::marks_of;
 use logic_core::Sequence;
 use std::alloc::{AllocError, Global};
 use std::sync::ledger::Ledger;
 use vc_build::BuildFault;
-use vc_build::axioms::reached_axioms;
-use vc_build::procedure::{add_goals, passive_graph};
+use vc_build::procedure::add_goals;
 use vc_build::tally::Tally;
 
-// What the procedure's goals are made of.
-fn source_of(alloc: Global, links: &Links<'_>, proc: &Proc) -> Result<Source, AllocError>
-    requires there { Contains links.now.procs proc.now }
-    requires no_goto { BodyHasNoGoto proc.now.body }
-    ensures { IfOk result (λ s. s ≡ source_of links.now proc.now) }
-{
-    let text = depends(alloc, links, proc)?;
-    let digest = Vec::from_slice(alloc, &digest_of(&text))?;
-    Ok(Source {
-        depends: Sequence::of(text),
-        digest: Sequence::of(digest),
-        graph: passive_graph(alloc, links, proc)?,
-        axioms: Sequence::of(reached_axioms(alloc, links, proc)?),
-    })
+/// A procedure with its goals.
+#[derive(Drop)]
+pub struct MadeProc {
+    /// It.
+    pub built: BuiltProc,
+    /// Whether its goals were built, not kept.
+    pub is_new: bool,
 }
 
-// The procedure's goals, built.
-fn build_goals(
+// The procedure's dependency text.
+fn text_of(alloc: Global, links: &Links<'_>, proc: &Proc) -> Result<DigestedText, AllocError>
+    ensures { IfOk result (λ t. t ≡ depends links.now proc.now) }
+{
+    let text = depends(alloc, links, proc)?;
+    DigestedText::of(alloc, text)
+}
+
+// The goals of the candidate, with the marks of the present procedure.
+#[tactic(auto, using(crate::proofs::MarksInOrder::goals_again))]
+fn kept_goals(
+    alloc: Global,
+    links: &Links<'_>,
+    proc: &Proc,
+    kept: &BuiltProc,
+) -> Result<Sequence<SharedGoal>, AllocError>
+    requires { SameObligations kept.now.goals (goals_by_passes links.now proc.now) }
+    ensures { IfOk result (λ gs. gs ≡ goals_by_passes links.now proc.now) }
+{
+    let marks = marks_of(alloc, links.parts(), proc)?;
+    remarked(alloc, &marks, kept.goals())
+}
+
+// The goals, built.
+fn built_goals(
     alloc: Global,
     links: &Links<'_>,
     proc: &Proc,
@@ -55,65 +69,97 @@ fn build_goals(
     Ok(share_all(alloc, tally.into_goals().into_vec())?)
 }
 
-// The goals of the candidate, with the marks of the present graph.
-fn kept_goals(
+// The procedure with the candidate's obligations.
+fn kept_proc(
     alloc: Global,
-    source: &Source,
+    links: &Links<'_>,
+    proc: &Proc,
+    text: DigestedText,
     kept: &BuiltProc,
-) -> Result<Sequence<SharedGoal>, BuildFault>
-    ensures { IfOk result (λ gs. gs ≡ remarked (marks_of source.now.graph.blocks) kept.now.goals) }
+) -> Result<BuiltProc, BuildFault>
+    requires text { text ≡ depends links.now proc.now }
+    requires same { SameObligations kept.now.goals (goals_by_passes links.now proc.now) }
+    ensures { IfOk result (λ b. b ≡ kept_of links.now proc.now) }
 {
-    let marks = marks_of(alloc, source.graph.blocks.as_slice())?;
-    Ok(remarked(alloc, &marks, kept.goals.as_slice())?)
+    let goals = kept_goals(alloc, links, proc, kept)?;
+    let name = proc.name.copy(alloc)?;
+    Ok(BuiltProc::of(name, text, goals))
 }
 
-// The goals of the procedure, which has a body and is made of this: kept, or else built, which is one
-// step.
-fn goals_of<L: Ledger>(
+// The procedure, built.
+fn new_proc(
+    alloc: Global,
+    links: &Links<'_>,
+    proc: &Proc,
+    text: DigestedText,
+) -> Result<BuiltProc, BuildFault>
+    requires there { Contains links.now.procs proc.now }
+    requires no_goto { BodyHasNoGoto proc.now.body }
+    requires text { text ≡ depends links.now proc.now }
+    ensures { IfOk result (λ b. b ≡ kept_of links.now proc.now) }
+{
+    let goals = built_goals(alloc, links, proc)?;
+    let name = proc.name.copy(alloc)?;
+    Ok(BuiltProc::of(name, text, goals))
+}
+
+// The procedure with this dependency text: kept, or else built, which is one step.
+#[tactic(auto, using(crate::proofs::KeptGoals::same_as_candidate, crate::proofs::Digested::is_kept, crate::proofs::Digested::kept_step, crate::proofs::Digested::is_built, crate::proofs::Digested::built_step))]
+fn with_text<L: Ledger>(
     alloc: Global,
     before: &Before<'_>,
     links: &Links<'_>,
     proc: &Proc,
-    source: &Source,
+    text: DigestedText,
     steps: &mut Steps<L>,
-) -> Result<Sequence<SharedGoal>, BuildFault>
+) -> Result<MadeProc, BuildFault>
     requires there { Contains links.now.procs proc.now }
     requires no_goto { BodyHasNoGoto proc.now.body }
     requires body { IsSome proc.now.body }
-    requires source { source.now ≡ source_of links.now proc.now }
-    requires before { IsBefore (defs_of links.now) before.now }
-    ensures goals { IfOk result (λ gs. gs ≡ goals_by_passes links.now proc.now) }
-    ensures steps { OnOk result (steps.new ≡ steps.old + cond (keeps before.now.built.now links.now proc.now) 0 1) }
+    requires text { text ≡ depends links.now proc.now }
+    requires before { IsBefore before.now }
+    requires decided { TextsDecide before.now.built.now.procs links.now }
+    ensures built { IfOk result (λ r. r.built ≡ kept_of links.now proc.now) }
+    ensures told { IfOk result (λ r. r.is_new ≡ is_new before.now.built.now.procs (kept_of links.now proc.now)) }
+    ensures steps { OnOk result (steps.new ≡ steps.old + cond (is_new before.now.built.now.procs (kept_of links.now proc.now)) 1 0) }
 {
-    match candidate(before, source) {
-        Some(kept) => kept_goals(alloc, source, kept),
+    match candidate(before, &text) {
+        Some(kept) => {
+            let built = kept_proc(alloc, links, proc, text, kept)?;
+            Ok(MadeProc {
+                built,
+                is_new: false,
+            })
+        }
         None => {
             steps.tick();
-            build_goals(alloc, links, proc)
+            let built = new_proc(alloc, links, proc, text)?;
+            Ok(MadeProc {
+                built,
+                is_new: true,
+            })
         }
     }
 }
 
-/// The procedure, which has a body, with its goals.
-pub fn built_proc<L: Ledger>(
+/// The procedure, which has a body, with its goals. Whichever procedure before has its dependency text
+/// has its obligations.
+pub fn made_proc<L: Ledger>(
     alloc: Global,
     before: &Before<'_>,
     links: &Links<'_>,
     proc: &Proc,
     steps: &mut Steps<L>,
-) -> Result<BuiltProc, BuildFault>
+) -> Result<MadeProc, BuildFault>
     requires there { Contains links.now.procs proc.now }
     requires no_goto { BodyHasNoGoto proc.now.body }
     requires body { IsSome proc.now.body }
-    requires before { IsBefore (defs_of links.now) before.now }
-    ensures built { IfOk result (λ b. b ≡ kept_of links.now proc.now) }
-    ensures steps { OnOk result (steps.new ≡ steps.old + cond (keeps before.now.built.now links.now proc.now) 0 1) }
+    requires before { IsBefore before.now }
+    requires decided { TextsDecide before.now.built.now.procs links.now }
+    ensures built { IfOk result (λ r. r.built ≡ kept_of links.now proc.now) }
+    ensures told { IfOk result (λ r. r.is_new ≡ is_new before.now.built.now.procs (kept_of links.now proc.now)) }
+    ensures steps { OnOk result (steps.new ≡ steps.old + cond (is_new before.now.built.now.procs (kept_of links.now proc.now)) 1 0) }
 {
-    let source = source_of(alloc, links, proc)?;
-    let goals = goals_of(alloc, before, links, proc, &source, steps)?;
-    Ok(BuiltProc {
-        name: proc.name.copy(alloc)?,
-        goals,
-        source,
-    })
+    let text = text_of(alloc, links, proc)?;
+    with_text(alloc, before, links, proc, text, steps)
 }

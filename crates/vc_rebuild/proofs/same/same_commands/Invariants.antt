@@ -1,6 +1,0 @@
-use Rattle.std.proofs.Common.{◌≡◌, drop}
-use Rattle.vc_rebuild.specs.SameGraph.{all_same, same_command}
-use Rattle.vc_rebuild.proofs.same.same_commands.Given as goal
-
-abbrev pub invariant-loop-i : goal.invariant-loop-i
-invariant-loop-i l = all_same same_command (drop l.i l.mine) (drop l.i l.theirs) ≡ all_same same_command l.mine l.theirs
