@@ -4,7 +4,7 @@ use Rattle.std.proofs.lemmas.List.{length-map}
 use Rattle.bpl_model.specs.Module.{Module}
 use Rattle.obligation_text.specs.Asked.{Asked, key_of}
 use Rattle.vc_build.specs.Large.{program_goals}
-use Rattle.vc_rebuild.specs.declared.kept.BuiltProc.{BuiltProc}
+use Rattle.vc_build.specs.Rebuild.{BuiltProc}
 use Rattle.tableau.specs.Settled.{Settled, settled_by}
 use Rattle.request_text.specs.Request.{accepted, reported, proved}
 use Rattle.board_core.specs.Board.{open_keys, look, opened, looked}

@@ -7,3 +7,6 @@ mod RefusedEdits
 mod ShortTexts
 mod TrueReports
 mod StaySpelled
+mod ErasedWritten
+mod EditedWritten
+pub mod OpenResolved

@@ -6,7 +6,7 @@ use Rattle.std.proofs.lemmas.List.Sums.{sum_by-cons}
 use Rattle.obligation_text.specs.Asked.{Asked}
 use Rattle.tableau.specs.Settled.{Settled, settled_by}
 use Rattle.vc_build.specs.declared.goal.Goal.{Goal}
-use Rattle.vc_rebuild.specs.declared.kept.BuiltProc.{BuiltProc}
+use Rattle.vc_build.specs.Rebuild.{BuiltProc}
 use Rattle.tableau.specs.Search.{Verdict}
 use Rattle.flow_core.specs.declared.mark.Mark.{Mark}
 use Rattle.bpl_ast.specs.Statement.{Decl}

@@ -14,9 +14,7 @@ use Rattle.vc_build.specs.Depends.{depends}
 use Rattle.obligation_text.specs.Text.{obligation_text}
 use Rattle.vc_build.specs.Goals.{goals_with_body, goals}
 use Rattle.vc_build.specs.Large.{count_limit, byte_limit, large_after, sizes_of, large, program_goals, program_large}
-use Rattle.vc_build.specs.Rebuild.{BuiltProc as built_proc, with_body, built}
-use Rattle.vc_rebuild.specs.declared.kept.BuiltProc.{BuiltProc}
-use Rattle.vc_rebuild.specs.Kept.{as_all_built}
+use Rattle.vc_build.specs.Rebuild.{BuiltProc, with_body, built}
 use Rattle.request_text.specs.Request.{Reply}
 use Rattle.program_opening.specs.Opening.{Opening, program, refused, Typing, typed, ill_typed, typing, opening, size_fault, unless_large, within_limits}
 use Rattle.program_opening.specs.ProcGoals.{ProcGoals, goals_of_proc, goals_by_proc}
@@ -33,19 +31,12 @@ use Rattle.edit_session.proofs.Parts.{map_flat}
 
 -- ---- what was built
 
-abbrev shown : built_proc → ProcGoals
-shown b = record { name = b.name; goals = b.goals }
-
-as_shown : (bs : List BuiltProc) → map proc_goals bs ≡ map shown (as_all_built bs)
-as_shown [] = refl
-as_shown (b ∷ bs) = ap (λ qs. proc_goals b ∷ qs) (as_shown bs)
-
-as_made : (m : Module) (ps : List Proc) → map shown (map (λ p. record { name = p.name; depends = depends m p; goals = goals m p }) ps) ≡ map (goals_of_proc m) ps
+as_made : (m : Module) (ps : List Proc) → map proc_goals (map (λ p. record { name = p.name; depends = depends m p; goals = goals m p }) ps) ≡ map (goals_of_proc m) ps
 as_made m [] = refl
 as_made m (p ∷ ps) = ap (λ qs. goals_of_proc m p ∷ qs) (as_made m ps)
 
-pub procs_are : (m : Module) (bs : List BuiltProc) → as_all_built bs ≡ built m → map proc_goals bs ≡ goals_by_proc m
-procs_are m bs e = as_shown bs ∙ ap (map shown) e ∙ as_made m (with_body m)
+pub procs_are : (m : Module) (bs : List BuiltProc) → bs ≡ built m → map proc_goals bs ≡ goals_by_proc m
+procs_are m bs e = ap (map proc_goals) e ∙ as_made m (with_body m)
 
 by_shown : (turns : ℕ) (bs : List BuiltProc) → questions_of turns bs ≡ flat_map (λ (p : ProcGoals). map (question turns) p.goals) (map proc_goals bs)
 by_shown turns [] = refl
@@ -71,7 +62,7 @@ pub questions_by : (turns : ℕ) (m : Module) (bs : List BuiltProc) → map proc
 questions_by turns m bs e =
     by_shown turns bs ∙ ap (flat_map (λ (p : ProcGoals). map (question turns) p.goals)) e ∙ of_bodies turns m m.procs ∙ sym (map_flat (goals m) (question turns) m.procs)
 
-pub questions_are : (turns : ℕ) (m : Module) (bs : List BuiltProc) → as_all_built bs ≡ built m → questions_of turns bs ≡ questions turns m
+pub questions_are : (turns : ℕ) (m : Module) (bs : List BuiltProc) → bs ≡ built m → questions_of turns bs ≡ questions turns m
 questions_are turns m bs e = questions_by turns m bs (procs_are m bs e)
 
 -- ---- there are few goals

@@ -1,7 +1,7 @@
 -- What was built of a program, as replies are made of it.
 use Rattle.std.specs.Prelude.{ℕ, List, [], ◌∷◌, map, length, take, drop, flat_map}
 use Rattle.program_opening.specs.ProcGoals.{ProcGoals}
-use Rattle.vc_rebuild.specs.declared.kept.BuiltProc.{BuiltProc}
+use Rattle.vc_build.specs.Rebuild.{BuiltProc}
 use Rattle.obligation_text.specs.Asked.{Asked}
 use Rattle.edit_session.specs.Program.{question}
 

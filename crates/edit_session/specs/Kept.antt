@@ -3,7 +3,8 @@ use Rattle.std.specs.Prelude.{◌≡◌, ℕ, ◌+◌, ◌-◌, ◌^◌, ◌<◌
 use Rattle.bpl_model.specs.Module.{Module}
 use Rattle.vc_build.specs.Large.{count_limit}
 use Rattle.vc_build.specs.Rebuild.{built}
-use Rattle.vc_rebuild.specs.Kept.{Program, as_all_built}
+use Rattle.vc_rebuild.specs.Kept.{Program}
+use Rattle.canonical_laws.specs.RoundTrip.{AreWrittenDecls}
 use Rattle.program_faults.specs.FaultView.{SourcesAreShort}
 use Rattle.goal_board.specs.Calls.{Board}
 use Rattle.goal_board.specs.Rests.{IsAtRest}
@@ -11,11 +12,12 @@ use Rattle.edit_session.specs.Program.{IsModuleOf, keys}
 use Rattle.edit_session.specs.Asking.{Taken}
 use Rattle.edit_session.specs.Answers.{State}
 
--- the declarations have no fault, the module is theirs, and what was built is built of it
+-- the declarations have no fault, the module is theirs, and what was built is built of it; tokens spell each declaration, which has its own name
 pub record IsOpen (p : Taken) (b : Program) : Type 0 where
   pub short : SourcesAreShort p.decls
+  pub written : AreWrittenDecls 0 p.decls
   pub is_module : IsModuleOf p.decls p.typed
-  pub built : as_all_built b.procs ≡ built p.typed
+  pub built : b.procs ≡ built p.typed
 
 -- a session with its turns
 pub record Session : Type 0 where

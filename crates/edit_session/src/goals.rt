@@ -16,7 +16,7 @@ pub fn names(alloc: Global, procs: &[BuiltProc]) -> Result<Vec<String>, AllocErr
 {
     let mut found = Vec::new(alloc);
     for proc in procs {
-        found.push(String::from_str(alloc, proc.name.text.as_str())?)?;
+        found.push(String::from_str(alloc, proc.name().text.as_str())?)?;
     }
     Ok(found)
 }
@@ -38,7 +38,7 @@ pub fn marks(alloc: Global, procs: &[BuiltProc]) -> Result<Vec<Vec<Mark>>, Alloc
 {
     let mut found = Vec::new(alloc);
     for proc in procs {
-        found.push(marks_of(alloc, proc.goals.as_slice())?)?;
+        found.push(marks_of(alloc, proc.goals())?)?;
     }
     Ok(found)
 }
@@ -49,7 +49,7 @@ pub fn counts(alloc: Global, procs: &[BuiltProc]) -> Result<Vec<usize>, AllocErr
 {
     let mut found = Vec::new(alloc);
     for proc in procs {
-        found.push(proc.goals.len())?;
+        found.push(proc.goals().len())?;
     }
     Ok(found)
 }
@@ -89,7 +89,7 @@ pub fn questions(
 {
     let mut found = Vec::new(alloc);
     for proc in procs {
-        push_questions(alloc, &mut found, proc.goals.as_slice(), turns)?;
+        push_questions(alloc, &mut found, proc.goals(), turns)?;
     }
     Ok(found)
 }

@@ -1,9 +1,10 @@
 // The program that is open, and declarations that are to be.
-ghost use Rattle.std.specs.Prelude.{◌≡◌, [], map, IfOk};
+ghost use Rattle.std.specs.Prelude.{◌≡◌, ◌<◌, ◌^◌, [], map, length, IfOk};
 ghost use Rattle.std.specs.Arc.{arc_value};
 ghost use Rattle.bpl_goto.specs.Forward.{AllGoForward};
+ghost use Rattle.canonical_laws.specs.RoundTrip.{AreWrittenDecls};
+ghost use Rattle.name_laws.specs.Resolved.{IsResolved};
 ghost use Rattle.vc_build.specs.Rebuild.{built};
-ghost use Rattle.vc_rebuild.specs.Kept.{as_all_built};
 ghost use Rattle.program_faults.specs.FaultView.{SourcesAreShort};
 ghost use Rattle.program_opening.specs.Opening.{typing, typed as typed_as};
 ghost use Rattle.program_opening.specs.ProcGoals.{goals_by_proc};
@@ -68,8 +69,10 @@ fn build<L: Ledger>(
 ) -> Result<Judged, AllocError>
     requires short { SourcesAreShort program }
     requires is_typed { typing program ≡ typed_as typed }
+    requires written { AreWrittenDecls 0 program }
     requires forward { AllGoForward typed }
-    ensures { IfOk result (IsJudged (as_all_built old.now.procs) program) }
+    requires resolved { IsResolved typed }
+    ensures { IfOk result (IsJudged old.now.procs program) }
 {
     match rebuild(alloc, old, &typed, steps) {
         Ok(built) => {
@@ -88,20 +91,31 @@ fn build<L: Ledger>(
     }
 }
 
+// A module has fewer declarations than a number of 64 bits can tell.
+fn has_few(typed: &Module)
+    ensures { length typed.now.texts < 2 ^ 64 }
+{
+    let _count = typed.parts().texts.len();
+}
+
 // What the declarations are, where this was built before.
-#[tactic(auto, using(crate::proofs::Programs::ill_denied))]
+#[tactic(auto, using(crate::proofs::Programs::ill_denied, crate::proofs::OpenResolved::typed_resolved))]
 fn judge<L: Ledger>(
     alloc: Global,
     old: &Built,
     decls: Vec<Decl>,
     steps: &mut Steps<L>,
 ) -> Result<Judged, AllocError>
-    requires { SourcesAreShort decls.items }
-    ensures { IfOk result (IsJudged (as_all_built old.now.procs) decls.items) }
+    requires short { SourcesAreShort decls.items }
+    requires written { AreWrittenDecls 0 decls.items }
+    ensures { IfOk result (IsJudged old.now.procs decls.items) }
 {
     let program = Program { decls };
     match type_check(alloc, &program)? {
-        Typed::Module(module) => build(alloc, old, program, module, steps),
+        Typed::Module(typed) => {
+            has_few(&typed);
+            build(alloc, old, program, typed, steps)
+        }
         Typed::Refused(fault) => Ok(Judged::Refused(fault_reply(fault)?)),
     }
 }
@@ -131,7 +145,8 @@ impl OpenProgram {
         decls: Vec<Decl>,
         steps: &mut Steps<L>,
     ) -> Result<Judged, AllocError>
-        requires { SourcesAreShort decls.items }
+        requires short { SourcesAreShort decls.items }
+        requires written { AreWrittenDecls 0 decls.items }
         ensures { IfOk result (IsJudged (built self.now.typed) decls.items) }
     {
         judge(alloc, &self.built, decls, steps)
@@ -149,6 +164,7 @@ impl OpenProgram {
     pub fn decls(&self) -> &[Decl]
         ensures decls { result.now ≡ self.now.decls }
         ensures short { SourcesAreShort self.now.decls }
+        ensures written { AreWrittenDecls 0 self.now.decls }
     {
         self.program.decls.as_slice()
     }

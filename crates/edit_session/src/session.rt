@@ -1,6 +1,7 @@
 // The session.
 ghost use Rattle.std.specs.Prelude.{◌≡◌, ◌<◌, ◌^◌, ◌-◌, Result, Ok, Err, IfOk};
 ghost use Rattle.bpl_model.specs.Module.{Module as typed_module};
+ghost use Rattle.canonical_laws.specs.RoundTrip.{AreWrittenDecls};
 ghost use Rattle.vc_build.specs.Rebuild.{built, rebuilt as rebuilt_of};
 ghost use Rattle.program_faults.specs.FaultView.{SourcesAreShort};
 ghost use Rattle.program_edits.specs.Edited.{IsEdited, edited as edited_to};
@@ -134,6 +135,7 @@ impl<L: Ledger> Session<L> {
     fn take(&mut self, decls: Vec<Decl>) -> Result<Reply, AllocError>
         requires room { HasRoom self.old }
         requires short { SourcesAreShort decls.items }
+        requires written { AreWrittenDecls 0 decls.items }
         ensures line { (r : asked.Request) → IsEdited self.old.state.decls r (edited_to decls.items) → Line self.old.turns 0 self.old.state (Ok r) (reply_of result) self.new.state }
         ensures later { IsLater self.old self.new }
     {

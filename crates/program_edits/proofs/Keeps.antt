@@ -59,7 +59,7 @@ neither : {A B : Type 0} → A ⊎ B → (A → ⊥) → (B → ⊥) → ⊥
 neither (inl a) f g = f a
 neither (inr b) f g = g b
 
-puts_refuse : (s : Texts) (ps : List Put) (new : List Decl) → puts_of s ps ≡ Err (edited new) → ⊥
+pub puts_refuse : (s : Texts) (ps : List Put) (new : List Decl) → puts_of s ps ≡ Err (edited new) → ⊥
 puts_refuse s [] new is = cc
 puts_refuse s (p ∷ ps) new is =
     neither (then_err (put_as p (s p.text)) (puts_of s ps) (edited new) is) (λ h. put_refuses p (s p.text) new h) (λ h. puts_refuse s ps new h)

@@ -1,5 +1,5 @@
 use Rattle.std.proofs.Common.{◌≡◌, map, take}
-use Rattle.vc_rebuild.specs.declared.kept.BuiltProc.{BuiltProc}
+use Rattle.vc_build.specs.Rebuild.{BuiltProc}
 use Rattle.edit_session.proofs.goals.marks.Given as goal
 
 abbrev pub invariant-loop-proc : goal.invariant-loop-proc

@@ -1,6 +1,6 @@
 use Rattle.std.proofs.Common.{◌≡◌, ◌∙◌, ap, map, string_bytes}
 use Rattle.vc_build.specs.declared.goal.Goal.{Goal}
-use Rattle.vc_rebuild.specs.declared.kept.BuiltProc.{BuiltProc}
+use Rattle.vc_build.specs.Rebuild.{BuiltProc}
 use Rattle.edit_session.proofs.Parts.{sums_told}
 use Rattle.edit_session.proofs.lines.sum_lines.Goals as goal
 

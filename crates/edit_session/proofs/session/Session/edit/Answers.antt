@@ -5,10 +5,14 @@ use Rattle.program_edits.specs.Edited.{IsEdited, edited}
 use Rattle.program_edits.specs.Refusals.{IsRefused}
 use Rattle.edit_session.specs.Kept.{Session}
 use Rattle.edit_session.proofs.Sessions.{refused_goes}
+use Rattle.edit_session.proofs.EditedWritten.{edited_written}
 use Rattle.edit_session.proofs.session.Session.edit.Goals as goal
 
 pub take-requires-clause-short : goal.take-requires-clause-short
 take-requires-clause-short g c = c.in-Ok.ensures.sources (subst SourcesAreShort (sym c.decls.ensures.decls) c.decls.ensures.short)
+
+pub take-requires-clause-written : goal.take-requires-clause-written
+take-requires-clause-written g c = edited_written c.self.inside.opened.decls c.in-Ok.decls.items (request_view c.args.request.now) (subst (λ ds. IsEdited ds (request_view c.args.request.now) (edited c.in-Ok.decls.items)) c.decls.ensures.decls c.in-Ok.ensures.ok) c.decls.ensures.written
 
 pub returns-in-Ok-clause-line : goal.returns-in-Ok-clause-line
 returns-in-Ok-clause-line g c =
