@@ -163,10 +163,10 @@ module _ (ds : List Decl) where
   module _ (none : fault_of E ≡ None) where
     -- ---- functions
 
-    function_there : (n : Text) (h : Heading) → entity_of TE n ≡ Some (a_function h) → slice_get hs (function_number TE n) ≡ Some (head_of ds (Some h))
+    function_there : (n : Text) (h : Heading) → entity_of TE n ≡ Some (a_function h) → slice_get hs (function_number TE n) ≡ Some (head_of (table_of ds) (Some h))
     unfolding function_number
-    function_there n h e = placed (λ m. head_of ds (function_in (entity_of TE m))) (in_number_order TE) n (order_has TE (synonyms_fine TE CE (fine E none)) (acyclic E none) n (ap is_function e))
-        ∙ ap (λ w. Some (head_of ds (function_in w))) e
+    function_there n h e = placed (λ m. head_of (table_of ds) (function_in (entity_of TE m))) (in_number_order TE) n (order_has TE (synonyms_fine TE CE (fine E none)) (acyclic E none) n (ap is_function e))
+        ∙ ap (λ w. Some (head_of (table_of ds) (function_in w))) e
 
     arguments_fit : (ins : List Argument) → EachFits (argument_sorts TE ins) (argument_sorts TA ins) (map (λ (a : Argument). type_of ds a.type) ins)
     arguments_fit [] = tt
@@ -189,7 +189,7 @@ module _ (ds : List Decl) where
     one_head n h j e i types =
         let q : h ≡ j = same_entity n h j (entity_of (table_of ds) n) (entity_of TE n) (entity_of TA n) refl (in_erased n) (in_apart n) e i in
         subst (λ w. IsHead types hs (type_of ds) TE TA n h w) q
-        (record { head = head_of ds (Some h); there = function_there n h e; arguments = arguments_fit h.ins; result = types_fit ds [] [] h.result })
+        (record { head = head_of (table_of ds) (Some h); there = function_there n h e; arguments = arguments_fit h.ins; result = types_fit ds [] [] h.result })
 
   -- a procedure in both readings
   pub same_procedure : (n : Text) (k j : ℕ) (d c : Contract) → entity_of TE n ≡ Some (a_procedure k d) → entity_of TA n ≡ Some (a_procedure j c) → d ≡ c

@@ -15,3 +15,7 @@ pub mod TypedProcs
 pub mod NarrowedHeads
 pub mod TypedFunctions
 pub mod TypedModules
+mod NestedTypes
+mod OrderedHeads
+mod AnsweredTypes
+mod ProcedureLists

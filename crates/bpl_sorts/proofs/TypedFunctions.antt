@@ -8,7 +8,7 @@ use Rattle.bpl_ast.specs.Statement.{Argument, Decl}
 use Rattle.bpl_model.specs.Numbering.{defs_of, const_sorts}
 use Rattle.bpl_model.specs.Typed.{IsTypedModule}
 use Rattle.bpl_scopes.specs.declared.part.Part.TheVariants.{Function as in_function}
-use Rattle.bpl_scopes.specs.Scopes.{Text, Heading, a_function, Table, BoundVar, entity_of}
+use Rattle.bpl_scopes.specs.Scopes.{table_of, Text, Heading, a_function, Table, BoundVar, entity_of}
 use Rattle.bpl_scopes.specs.Sorts.{sort_of_type, argument_sorts}
 use Rattle.bpl_scopes.specs.Functions.{function_in, in_number_order}
 use Rattle.bpl_faults.specs.ExprFaults.{expr_faults}
@@ -91,7 +91,7 @@ module _ (ds : List Decl) (none : fault_of (E ds) ≡ None) (nope : fault_of (A 
     pub sort : d.sort ≡ kind_of j.1
     pub body : HasType T.consts T.functions (reverse j.0) d.body j.1
 
-  function_typed : (n : Text) (h : Heading) → entity_of (TE ds) n ≡ Some (a_function h) → IsDefined (Def_of n h) (head_of ds (Some h))
+  function_typed : (n : Text) (h : Heading) → entity_of (TE ds) n ≡ Some (a_function h) → IsDefined (Def_of n h) (head_of (table_of ds) (Some h))
   function_typed n h q =
       let p = function_too ds n h q in
       let g : FunctionFine (TE ds) (CE ds) n h.ins h.result h.value = entity_fine (TE ds) (CE ds) (fine (E ds) none) n (a_function h) q in
@@ -110,13 +110,13 @@ module _ (ds : List Decl) (none : fault_of (E ds) ≡ None) (nope : fault_of (A 
       }
 
   abbrev head_at : Text → Head
-  head_at n = head_of ds (function_in (entity_of (TE ds) n))
+  head_at n = head_of (table_of ds) (function_in (entity_of (TE ds) n))
 
   each_defined : (ns : List Text) → AllFunctions (TE ds) ns → (f : ℕ) (j : Head) → slice_get (map head_at ns) f ≡ Some j → (d : Def) × (slice_get (defs_for (E ds) (TE ds) (CE ds) ns) f ≡ Some d) × IsDefined d j
   each_defined [] all f j e = absurd (cc)
   each_defined (n ∷ ns) all zero j e =
       let h = some_heading (entity_of (TE ds) n) (all n (inl refl)) in
-      let same : head_of ds (Some h.0) ≡ j = same_some _ _ (sym (ap (λ w. Some (head_of ds (function_in w))) h.1) ∙ e) in
+      let same : head_of (table_of ds) (Some h.0) ≡ j = same_some _ _ (sym (ap (λ w. Some (head_of (table_of ds) (function_in w))) h.1) ∙ e) in
       (Def_of n h.0, ap (λ w. slice_get w 0) (defs_step (E ds) (TE ds) (CE ds) n ns h.0 h.1), subst (IsDefined (Def_of n h.0)) same (function_typed n h.0 h.1))
   each_defined (n ∷ ns) all (suc f) j e =
       let h = some_heading (entity_of (TE ds) n) (all n (inl refl)) in

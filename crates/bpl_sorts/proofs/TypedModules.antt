@@ -31,7 +31,7 @@ use Rattle.module_laws.proofs.Procedures.{all_join}
 use Rattle.bpl_sorts.specs.Types.{Ty, kind_of, kinds_of}
 use Rattle.bpl_sorts.specs.TypeNames.{type_of}
 use Rattle.bpl_sorts.specs.UserTypes.{user_of}
-use Rattle.bpl_sorts.specs.Erased.{users_with, kept_unique, replaced_body, replaced_from, Unique, one_more, axioms_from, axioms_after, uniques, carrier_axioms, as_integers, maps_over}
+use Rattle.bpl_sorts.specs.Erased.{erased, users_with, kept_unique, replaced_body, replaced_from, Unique, one_more, axioms_from, axioms_after, uniques, carrier_axioms, as_integers, maps_over}
 use Rattle.bpl_sorts.specs.CarrierFaults.{carrier_fault}
 use Rattle.bpl_sorts.specs.DeclaredTypes.{ProcTypes, types_named, const_types_in, global_types_in, proc_types_in, Types, declared_types}
 use Rattle.bpl_sorts.specs.TypedModule.{with_own, IsTruth, IsOptional, IsTypedProc}
@@ -117,7 +117,7 @@ module _ (ds : List Decl) (none : fault_of (E ds) ≡ None) (nope : fault_of (A 
   -- ---- procedures
 
   abbrev proc_types_of : List Decl → List ProcTypes
-  proc_types_of xs = flat_map (λ (d : Decl). proc_types_in ds d.body) xs
+  proc_types_of xs = flat_map (λ (d : Decl). proc_types_in (table_of ds) (implementation_of (erased ds)) d.body) xs
 
   abbrev procs_of : List Decl → List Proc
   procs_of xs = flat_map (λ (d : Decl). procs_in (E ds) (TE ds) (CE ds) d.body) xs
@@ -127,7 +127,7 @@ module _ (ds : List Decl) (none : fault_of (E ds) ≡ None) (nope : fault_of (A 
   no_procs count k (u ∷ us) = no_procs (one_more count u.0) (suc k) us
 
   one_proc : (b c : Before) (k : ℕ) (x : DeclBody) (ts : List ProcTypes) (ps : List Proc) → FirstFine b (as_first k x) → SecondFine c (as_second k x) → StandsForIt (TE ds) (as_first k x)
-      → AllZip (IsTypedProc T) ts ps → AllZip (IsTypedProc T) (proc_types_in ds (as_first k x) ++ ts) (procs_in (E ds) (TE ds) (CE ds) (as_first k x) ++ ps)
+      → AllZip (IsTypedProc T) ts ps → AllZip (IsTypedProc T) (proc_types_in (table_of ds) (implementation_of (erased ds)) (as_first k x) ++ ts) (procs_in (E ds) (TE ds) (CE ds) (as_first k x) ++ ps)
   one_proc b c k (procedure n qs g ss y) ts ps e o q h =
       let i = or_else (own_body g y) (implementation_of (E ds) n.text) in (
         declared_proc ds none nope b c n qs g ss y i e o
@@ -152,7 +152,7 @@ module _ (ds : List Decl) (none : fault_of (E ds) ≡ None) (nope : fault_of (A 
   -- ---- the sorts of constants and globals are those of their types
 
   abbrev const_types_of : List Decl → List Ty
-  const_types_of xs = flat_map (λ (d : Decl). const_types_in ds d.body) xs
+  const_types_of xs = flat_map (λ (d : Decl). const_types_in (table_of ds) d.body) xs
 
   abbrev consts_of : List Decl → List Const
   consts_of xs = flat_map (λ (d : Decl). consts_in (TE ds) (CE ds) d.body) xs
@@ -176,7 +176,7 @@ module _ (ds : List Decl) (none : fault_of (E ds) ≡ None) (nope : fault_of (A 
       (types_fit ds [] [] s k.0 l.0 k.1 l.1).0 ∙ sym (ap sort_or_int k.1)
 
   one_const : (b c : Before) (k : ℕ) (x : DeclBody) (ts : List Ty) (cs : List Const) → FirstFine b (as_first k x) → SecondFine c (as_second k x) → kinds_of ts ≡ const_kinds cs
-      → kinds_of (const_types_in ds (as_first k x) ++ ts) ≡ const_kinds (consts_in (TE ds) (CE ds) (as_first k x) ++ cs)
+      → kinds_of (const_types_in (table_of ds) (as_first k x) ++ ts) ≡ const_kinds (consts_in (TE ds) (CE ds) (as_first k x) ++ cs)
   one_const b c k (constant u ns s) ts cs e o h = names_kinds ns s ts cs
       (one_kind s (second_empty (again twice b.names ns) _ (second_empty (unique_faults (kept_unique (user_of (table_of ds) s) u)) _ e)) (second_empty (again twice c.names ns) _ (second_empty (unique_faults (kept_unique (user_of (table_of ds) s) u)) _ o))) h
   one_const b c k (function m qs ins r y) ts cs e o h = h
@@ -194,7 +194,7 @@ module _ (ds : List Decl) (none : fault_of (E ds) ≡ None) (nope : fault_of (A 
       one_const b c l x.body (const_types_of (firsts l xs)) (consts_of (firsts l xs)) (h.0).0 (h.1).0 (each_const (before_with b (as_first l x.body)) (before_with c (as_second l x.body)) l xs ((h.0).1, (h.1).1))
 
   abbrev global_types_of : List Decl → List Ty
-  global_types_of xs = flat_map (λ (d : Decl). global_types_in ds d.body) xs
+  global_types_of xs = flat_map (λ (d : Decl). global_types_in (table_of ds) d.body) xs
 
   abbrev globals_of : List Decl → List Global
   globals_of xs = flat_map (λ (d : Decl). globals_in (TE ds) (CE ds) d.body) xs
@@ -207,7 +207,7 @@ module _ (ds : List Decl) (none : fault_of (E ds) ≡ None) (nope : fault_of (A 
   no_global_kinds count k (u ∷ us) = no_global_kinds (one_more count u.0) (suc k) us
 
   group_kinds : (ps : List (Name × Written)) (cs : List (Option Tree)) (ts : List Ty) (gs : List Global) → length cs ≡ length ps → TypesKnown (TE ds) [] ps → TypesKnown (TA ds) [] ps → kinds_of ts ≡ global_kinds gs
-      → kinds_of (types_named ds ps ++ ts) ≡ global_kinds (globals_with (TE ds) (CE ds) ps cs ++ gs)
+      → kinds_of (types_named (table_of ds) ps ++ ts) ≡ global_kinds (globals_with (TE ds) (CE ds) ps cs ++ gs)
   group_kinds [] cs ts gs l a b h = h
   group_kinds (p ∷ ps) [] ts gs l a b h = absurd (omega (arith, l))
   group_kinds (p ∷ ps) (c ∷ cs) ts gs l a b h =
@@ -215,7 +215,7 @@ module _ (ds : List Decl) (none : fault_of (E ds) ≡ None) (nope : fault_of (A 
       λ i. (f.0 ∙ sym (ap sort_or_int (a.0).1)) i ∷ group_kinds ps cs ts gs (ap pred l) a.1 b.1 h i
 
   one_global_kind : (b c : Before) (k : ℕ) (x : DeclBody) (ts : List Ty) (gs : List Global) → FirstFine b (as_first k x) → SecondFine c (as_second k x) → kinds_of ts ≡ global_kinds gs
-      → kinds_of (global_types_in ds (as_first k x) ++ ts) ≡ global_kinds (globals_in (TE ds) (CE ds) (as_first k x) ++ gs)
+      → kinds_of (global_types_in (table_of ds) (as_first k x) ++ ts) ≡ global_kinds (globals_in (TE ds) (CE ds) (as_first k x) ++ gs)
   one_global_kind b c k (variables vs) ts gs e o h = group_kinds (names_of vs) (clause_terms (scope_of (TE ds) (CE ds) in_clause_of_global []) vs) ts gs (length_clauses (scope_of (TE ds) (CE ds) in_clause_of_global []) vs)
       (groups_known (TE ds) [] (fine_type (TE ds) (CE ds) (fine (E ds) none) []) vs (first_empty _ _ (second_empty (again twice b.names (only_names (names_of vs))) _ e)))
       (groups_known (TA ds) [] (fine_type (TA ds) (CA ds) (fine (A ds) nope) []) vs (first_empty _ _ (second_empty (again twice c.names (only_names (names_of vs))) _ o))) h

@@ -8,7 +8,7 @@ use Rattle.bpl_ast.specs.Place.{Name, Ty as Written}
 use Rattle.bpl_ast.specs.Tree.{Expr, first_place, Exprs, no_exprs, item}
 use Rattle.bpl_ast.specs.Statement.{Decl}
 use Rattle.bpl_scopes.specs.declared.part.Part.{Part}
-use Rattle.bpl_scopes.specs.Scopes.{Text, Counts, no_counts, counts_after, Var, BoundVar, Scope}
+use Rattle.bpl_scopes.specs.Scopes.{table_of, Text, Counts, no_counts, counts_after, Var, BoundVar, Scope}
 use Rattle.bpl_scopes.specs.Sorts.{sort_of_type, sorts_of_names, sort_in}
 use Rattle.bpl_faults.specs.NameFaults.{same_sort_faults, map_faults}
 use Rattle.bpl_faults.specs.ExprFaults.{expr_faults, faults_as, argument_faults, count}
@@ -131,7 +131,7 @@ module _ (ds : List Decl) (none : fault_of (E ds) ≡ None) (nope : fault_of (A 
     -- ---- arguments
 
     pub arguments_typed : (hidden others : List Text) (ps : List (Name × Written)) (xs : Exprs) → TypesKnown (TE ds) hidden ps → TypesKnown (TA ds) others ps → length ps ≡ count xs
-        → argument_faults s (sorts_of_names (TE ds) hidden ps) xs ≡ [] → argument_faults u (sorts_of_names (TA ds) others ps) xs ≡ [] → AllZip (λ t e. HasIt e t) (types_named ds ps) (arguments s xs)
+        → argument_faults s (sorts_of_names (TE ds) hidden ps) xs ≡ [] → argument_faults u (sorts_of_names (TA ds) others ps) xs ≡ [] → AllZip (λ t e. HasIt e t) (types_named (table_of ds) ps) (arguments s xs)
     arguments_typed hidden others [] no_exprs h k l e g = tt
     arguments_typed hidden others [] (item x xs) h k l e g = absurd (omega (arith, l))
     arguments_typed hidden others (p ∷ ps) no_exprs h k l e g = absurd (omega (arith, l))

@@ -13,7 +13,7 @@ use Rattle.bpl_scopes.specs.Fault.{again, is_among, if_so}
 use Rattle.bpl_scopes.specs.declared.part.Part.{Part}
 use Rattle.bpl_scopes.specs.declared.part.Part.TheVariants.{Requires as in_requires, Ensures as in_ensures, Body as in_body, ClauseOfIn as in_clause_of_in, ClauseOfOut as in_clause_of_out, ClauseOfLocal as in_clause_of_local}
 use Rattle.bpl_scopes.specs.declared.part.Role.TheVariants.{In as in_parameter, Out as out_parameter, Local as local_variable}
-use Rattle.bpl_scopes.specs.Scopes.{Text, Contract, a_procedure, names_of, only_names, texts_of, signature_names, entity_of, Scope}
+use Rattle.bpl_scopes.specs.Scopes.{table_of, Text, Contract, a_procedure, names_of, only_names, texts_of, signature_names, entity_of, Scope}
 use Rattle.bpl_scopes.specs.Sorts.{sorts_of_names}
 use Rattle.bpl_scopes.specs.TypeFaults.{group_type_faults, group_where_faults}
 use Rattle.bpl_faults.specs.ExprFaults.{formula_faults, group_clause_faults}
@@ -66,7 +66,7 @@ module _ (ds : List Decl) (none : fault_of (E ds) ≡ None) (nope : fault_of (A 
   known_too : (g : Signature) (gs : Groups) → group_type_faults (TA ds) (texts_of (signature_names g)) gs ≡ [] → TypesKnown (TA ds) (texts_of (signature_names g)) (names_of gs)
   known_too g gs e = groups_known (TA ds) (texts_of (signature_names g)) (fine_type (TA ds) (CA ds) (fine (A ds) nope) (texts_of (signature_names g))) gs e
 
-  kinds_named : (hidden others : List Text) (ps : List (Name × Written)) → TypesKnown (TE ds) hidden ps → TypesKnown (TA ds) others ps → kinds_of (types_named ds ps) ≡ map sort_or_int (sorts_of_names (TE ds) hidden ps)
+  kinds_named : (hidden others : List Text) (ps : List (Name × Written)) → TypesKnown (TE ds) hidden ps → TypesKnown (TA ds) others ps → kinds_of (types_named (table_of ds) ps) ≡ map sort_or_int (sorts_of_names (TE ds) hidden ps)
   kinds_named hidden others [] h k = refl
   kinds_named hidden others (p ∷ ps) h k =
       let f = types_fit ds hidden others p.1 (h.0).0 (k.0).0 (h.0).1 (k.0).1 in
@@ -75,7 +75,7 @@ module _ (ds : List Decl) (none : fault_of (E ds) ≡ None) (nope : fault_of (A 
   -- ---- contracts
 
   abbrev contract : Signature → List Ty
-  contract g = with_own T (types_named ds (names_of g.ins) ++ types_named ds (names_of g.outs))
+  contract g = with_own T (types_named (table_of ds) (names_of g.ins) ++ types_named (table_of ds) (names_of g.outs))
 
   abbrev s_of : Part → Signature → Scope
   s_of w g = scope_of (TE ds) (CE ds) w (parameters (TE ds) (CE ds) g)
@@ -84,7 +84,7 @@ module _ (ds : List Decl) (none : fault_of (E ds) ≡ None) (nope : fault_of (A 
   u_of w g = scope_of (TA ds) (CA ds) w (parameters (TA ds) (CA ds) g)
 
   contract_truth : (w : Part) (g : Signature) → BothFine g → (x : Expr) → formula_faults (s_of w g) x ≡ [] → formula_faults (u_of w g) x ≡ [] → IsTruth T (contract g) (term_of (s_of w g) x)
-  contract_truth w g f x a b = truth_typed ds none nope (contract g) w (all_at ds (types_named ds (names_of g.ins) ++ types_named ds (names_of g.outs)) w) (parameters (TE ds) (CE ds) g) (parameters (TA ds) (CA ds) g) [] [] [] (parameters_alike ds g)
+  contract_truth w g f x a b = truth_typed ds none nope (contract g) w (all_at ds (types_named (table_of ds) (names_of g.ins) ++ types_named (table_of ds) (names_of g.outs)) w) (parameters (TE ds) (CE ds) g) (parameters (TA ds) (CA ds) g) [] [] [] (parameters_alike ds g)
       (parameters_known (E ds) none g f.first) (parameters_known (A ds) nope g f.second) tt tt tt true x a b
 
   specs_typed : (g : Signature) (ss : List SpecTree) → BothFine g → flat_map (spec_faults (TE ds) (CE ds) g) ss ≡ [] → flat_map (spec_faults (TA ds) (CA ds) g) ss ≡ []
@@ -140,8 +140,8 @@ module _ (ds : List Decl) (none : fault_of (E ds) ≡ None) (nope : fault_of (A 
   -- what implements a procedure with this contract
   pub record Implements (g : Signature) (h : Signature) (b : Body) : Type 0 where
     pub is_fine : BothFine h
-    pub ins_same : types_named ds (names_of h.ins) ≡ types_named ds (names_of g.ins)
-    pub outs_same : types_named ds (names_of h.outs) ≡ types_named ds (names_of g.outs)
+    pub ins_same : types_named (table_of ds) (names_of h.ins) ≡ types_named (table_of ds) (names_of g.ins)
+    pub outs_same : types_named (table_of ds) (names_of h.outs) ≡ types_named (table_of ds) (names_of g.outs)
     pub modified : Option (List Text)
     pub others : Option (List Text)
     pub first : body_faults (TE ds) (CE ds) h modified b ≡ []
@@ -151,26 +151,26 @@ module _ (ds : List Decl) (none : fault_of (E ds) ≡ None) (nope : fault_of (A 
   OptionOk g None = ⊤
   OptionOk g (Some i) = Implements g i.0 i.1
 
-  same_inside : (g h : Signature) (b : Body) → Implements g h b → inside h b.locals ≡ body_types T (proc_types ds g (Some (h, b)))
-  same_inside g h b i = λ j. with_own T (i.ins_same j ++ (i.outs_same j ++ types_named ds (locals_of b.locals)))
+  same_inside : (g h : Signature) (b : Body) → Implements g h b → inside h b.locals ≡ body_types T (proc_types (table_of ds) g (Some (h, b)))
+  same_inside g h b i = λ j. with_own T (i.ins_same j ++ (i.outs_same j ++ types_named (table_of ds) (locals_of b.locals)))
 
-  local_kinds : (n : Text) (g : Signature) (ss : List SpecTree) (i : Option Implemented) → OptionOk g i → kinds_of (proc_types ds g i).locals ≡ local_sorts (proc_of (TE ds) (CE ds) n g ss i).locals
+  local_kinds : (n : Text) (g : Signature) (ss : List SpecTree) (i : Option Implemented) → OptionOk g i → kinds_of (proc_types (table_of ds) g i).locals ≡ local_sorts (proc_of (TE ds) (CE ds) n g ss i).locals
   local_kinds n g ss None h = refl
   local_kinds n g ss (Some i) h =
       let hidden = texts_of (names_in_body i.0 i.1.locals) in
       kinds_named hidden hidden (locals_of i.1.locals) (locals_known (E ds) none i.0 i.1.locals i.1.locals (first_empty _ _ h.first)) (locals_known (A ds) nope i.0 i.1.locals i.1.locals (first_empty _ _ h.second))
       ∙ (sym (kinds_same (TE ds) hidden local_variable _ (locals_of i.1.locals)) ∙ sym (locals_sorts (E ds) none n g ss i.0 i.1))
 
-  body_ok : (g : Signature) (i : Option Implemented) → OptionOk g i → IsBody T (body_types T (proc_types ds g i)) (proc_body (TE ds) (CE ds) i)
+  body_ok : (g : Signature) (i : Option Implemented) → OptionOk g i → IsBody T (body_types T (proc_types (table_of ds) g i)) (proc_body (TE ds) (CE ds) i)
   body_ok g None h = tt
   body_ok g (Some i) h = subst (λ w. AreStmts T w (stmts_of (scope_of (TE ds) (CE ds) in_body (body_vars (TE ds) (CE ds) i.0 i.1.locals)) i.1.stmts)) (same_inside g i.0 i.1 h) (statements_typed i.0 i.1 h.is_fine h.modified h.others h.first h.second)
 
-  locals_ok : (g : Signature) (i : Option Implemented) → OptionOk g i → AreClauses T (body_types T (proc_types ds g i)) (proc_locals (TE ds) (CE ds) i)
+  locals_ok : (g : Signature) (i : Option Implemented) → OptionOk g i → AreClauses T (body_types T (proc_types (table_of ds) g i)) (proc_locals (TE ds) (CE ds) i)
   locals_ok g None h = tt
   locals_ok g (Some i) h = subst (λ w. AreClauses T w (proc_locals (TE ds) (CE ds) (Some i))) (same_inside g i.0 i.1 h) (locals_typed i.0 i.1 h.is_fine h.modified h.others h.first h.second)
 
   pub proc_typed : (n : Text) (g : Signature) (ss : List SpecTree) (i : Option Implemented) → BothFine g → parameter_clause_faults (TE ds) (CE ds) g ≡ [] → parameter_clause_faults (TA ds) (CA ds) g ≡ []
-      → flat_map (spec_faults (TE ds) (CE ds) g) ss ≡ [] → flat_map (spec_faults (TA ds) (CA ds) g) ss ≡ [] → OptionOk g i → IsTypedProc T (proc_types ds g i) (proc_of (TE ds) (CE ds) n g ss i)
+      → flat_map (spec_faults (TE ds) (CE ds) g) ss ≡ [] → flat_map (spec_faults (TA ds) (CA ds) g) ss ≡ [] → OptionOk g i → IsTypedProc T (proc_types (table_of ds) g i) (proc_of (TE ds) (CE ds) n g ss i)
   proc_typed n g ss i f a b c d k = record {
     ins = kinds_named _ _ (names_of g.ins) (known g g.ins f.first.ins_fine) (known_too g g.ins f.second.ins_fine) ∙ (sym (kinds_same (TE ds) _ in_parameter _ (names_of g.ins)) ∙ sym (ins_sorts (E ds) none n g ss i));
     outs = kinds_named _ _ (names_of g.outs) (known g g.outs f.first.outs_fine) (known_too g g.outs f.second.outs_fine) ∙ (sym (kinds_same (TE ds) _ out_parameter _ (names_of g.outs)) ∙ sym (outs_sorts (E ds) none n g ss i));
@@ -186,7 +186,7 @@ module _ (ds : List Decl) (none : fault_of (E ds) ≡ None) (nope : fault_of (A 
   -- ---- parameters that agree have the same types
 
   agreed : (h k : List Text) (ps qs : List (Name × Written)) → TypesKnown (TE ds) h ps → TypesKnown (TE ds) k qs → TypesKnown (TA ds) h ps → TypesKnown (TA ds) k qs
-      → agree (sorts_of_names (TE ds) h ps) (sorts_of_names (TE ds) k qs) ≡ true → agree (sorts_of_names (TA ds) h ps) (sorts_of_names (TA ds) k qs) ≡ true → types_named ds qs ≡ types_named ds ps
+      → agree (sorts_of_names (TE ds) h ps) (sorts_of_names (TE ds) k qs) ≡ true → agree (sorts_of_names (TA ds) h ps) (sorts_of_names (TA ds) k qs) ≡ true → types_named (table_of ds) qs ≡ types_named (table_of ds) ps
   agreed h k [] [] a b c d e f = refl
   agreed h k [] (q ∷ qs) a b c d e f = absurd (cc)
   agreed h k (p ∷ ps) [] a b c d e f = absurd (cc)
@@ -264,7 +264,7 @@ module _ (ds : List Decl) (none : fault_of (E ds) ≡ None) (nope : fault_of (A 
 
   -- a procedure's declaration, where this implements it
   pub declared_proc : (bf bg : Before) (n : Name) (ps : Option Params) (g : Signature) (ss : List SpecTree) (b : Option Body) (i : Option Implemented)
-      → decl_faults (TE ds) (CE ds) bf (procedure n ps g ss b) ≡ [] → decl_faults (TA ds) (CA ds) bg (procedure n ps g ss b) ≡ [] → OptionOk g i → IsTypedProc T (proc_types ds g i) (proc_of (TE ds) (CE ds) n.text g ss i)
+      → decl_faults (TE ds) (CE ds) bf (procedure n ps g ss b) ≡ [] → decl_faults (TA ds) (CA ds) bg (procedure n ps g ss b) ≡ [] → OptionOk g i → IsTypedProc T (proc_types (table_of ds) g i) (proc_of (TE ds) (CE ds) n.text g ss i)
   declared_proc bf bg n ps g ss b i e o k =
       let e2 = second_empty (if_so (has_body b && is_among bf.bodies n.text) twice n.at) _ (second_empty (again twice bf.names (n ∷ [])) _ e) in
       let o2 = second_empty (if_so (has_body b && is_among bg.bodies n.text) twice n.at) _ (second_empty (again twice bg.names (n ∷ [])) _ o) in

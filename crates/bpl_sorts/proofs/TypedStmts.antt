@@ -11,7 +11,7 @@ use Rattle.bpl_ast.specs.Tree.{Expr, expr, first_place, variable, Exprs, no_expr
 use Rattle.bpl_ast.specs.Statement.{Target, Guard, Invariant, Stmt as Statement, stmt as statement, Action, assert, assume, havoc, assign, call, branches, loop, «break», «return», goto, Branches, branch, otherwise, no_branch, Stmts as Statements, no_stmts as no_statements, next, Decl}
 use Rattle.bpl_model.specs.Module.{Stmt}
 use Rattle.bpl_scopes.specs.declared.part.Part.TheVariants.{Body as in_body}
-use Rattle.bpl_scopes.specs.Scopes.{Text, Contract, Entity, a_constant, a_global, a_function, a_synonym, a_procedure, names_of, texts_of, signature_names, entity_of, Var, Scope, Meaning, bound_to, stands_for, declared_as, nothing, meaning, var_in}
+use Rattle.bpl_scopes.specs.Scopes.{table_of, Text, Contract, Entity, a_constant, a_global, a_function, a_synonym, a_procedure, names_of, texts_of, signature_names, entity_of, Var, Scope, Meaning, bound_to, stands_for, declared_as, nothing, meaning, var_in}
 use Rattle.bpl_scopes.specs.Sorts.{sort_of_type, sorts_of_names, sort_of_meaning}
 use Rattle.bpl_scopes.specs.TypeFaults.{group_type_faults}
 use Rattle.bpl_faults.specs.NameFaults.{variable_faults, same_sort_faults}
@@ -137,7 +137,7 @@ module _ (ds : List Decl) (none : fault_of (E ds) ≡ None) (nope : fault_of (A 
 
   results_typed : (hidden others : List Text) (xs : List Name) (ps : List (Name × Written)) (q : Place) → AllTargets xs → TypesKnown (TE ds) hidden ps → TypesKnown (TA ds) others ps → length ps ≡ length xs
       → outs_faults (map (target_sort s) xs) (sorts_of_names (TE ds) hidden ps) q ≡ [] → outs_faults (map (target_sort u) xs) (sorts_of_names (TA ds) others ps) q ≡ []
-      → map (slice_get types) (target_numbers s xs) ≡ map (λ t. Some t) (types_named ds ps)
+      → map (slice_get types) (target_numbers s xs) ≡ map (λ t. Some t) (types_named (table_of ds) ps)
   results_typed hidden others [] [] q h k l z e g = refl
   results_typed hidden others [] (p ∷ ps) q h k l z e g = absurd (omega (arith, z))
   results_typed hidden others (n ∷ xs) [] q h k l z e g = absurd (omega (arith, z))

@@ -5,7 +5,7 @@ use Rattle.bpl_ast.specs.Tree.{Groups}
 use Rattle.bpl_ast.specs.Statement.{Signature, Body, Decl}
 use Rattle.bpl_scopes.specs.declared.part.Role.{Role}
 use Rattle.bpl_scopes.specs.declared.part.Role.TheVariants.{In as in_parameter, Out as out_parameter, Local as local_variable}
-use Rattle.bpl_scopes.specs.Scopes.{Text, Table, Counts, no_counts, counts_after, names_of, texts_of, signature_names, Var}
+use Rattle.bpl_scopes.specs.Scopes.{table_of, Text, Table, Counts, no_counts, counts_after, names_of, texts_of, signature_names, Var}
 use Rattle.bpl_declaration_faults.specs.Variables.{vars_from, first_parameter, locals_of, names_in_body, in_vars, out_vars, local_vars, parameters, body_vars}
 use Rattle.bpl_declaration_faults.specs.DeclFaults.{fault_of, local_faults}
 use Rattle.module_laws.proofs.HasSort.{first_empty, second_empty}
@@ -29,11 +29,11 @@ module _ (ds : List Decl) where
   CA = counts_after no_counts (A ds)
 
   some_alike : (pre more : List Ty) (hidden others : List Text) (r : Role) (k j : ℕ) (ps : List (Name × Written)) → length pre ≡ k
-      → VarsAlike (pre ++ (types_named ds ps ++ more)) (vars_from (TE ds) hidden r k ps) (vars_from (TA ds) others r j ps)
+      → VarsAlike (pre ++ (types_named (table_of ds) ps ++ more)) (vars_from (TE ds) hidden r k ps) (vars_from (TA ds) others r j ps)
   some_alike pre more hidden others r k j [] e = tt
   some_alike pre more hidden others r k j (p ∷ ps) e = (
     record { name = refl; role = refl; type = type_of ds p.1; there = slice_at pre (type_of ds p.1) _ k e; fits = types_fit ds hidden others p.1 },
-    subst (λ w. VarsAlike w (vars_from (TE ds) hidden r (k + 1) ps) (vars_from (TA ds) others r (j + 1) ps)) (append_assoc pre (type_of ds p.1 ∷ []) (types_named ds ps ++ more))
+    subst (λ w. VarsAlike w (vars_from (TE ds) hidden r (k + 1) ps) (vars_from (TA ds) others r (j + 1) ps)) (append_assoc pre (type_of ds p.1 ∷ []) (types_named (table_of ds) ps ++ more))
         (some_alike (pre ++ (type_of ds p.1 ∷ [])) more hidden others r (k + 1) (j + 1) ps (length-append pre (type_of ds p.1 ∷ []) ∙ ap (λ w. w + 1) e)),
   )
 
@@ -52,25 +52,25 @@ module _ (ds : List Decl) where
   behind : (own : List Ty) → before ++ own ≡ with_own (declared_types ds) own
   behind own = append_assoc (declared_types ds).consts _ own ∙ ap (λ w. (declared_types ds).consts ++ w) (append_assoc (declared_types ds).globals (declared_types ds).globals own)
 
-  longer : (pre : List Ty) (k : ℕ) (ps : List (Name × Written)) → length pre ≡ k → length (pre ++ types_named ds ps) ≡ k + length ps
+  longer : (pre : List Ty) (k : ℕ) (ps : List (Name × Written)) → length pre ≡ k → length (pre ++ types_named (table_of ds) ps) ≡ k + length ps
   longer pre k ps e = length-append pre _ ∙ λ i. e i + map_length (λ (p : Name × Written). type_of ds p.1) ps i
 
   abbrev pub own_types : Signature → List Groups → List Ty
-  own_types g vs = types_named ds (names_of g.ins) ++ (types_named ds (names_of g.outs) ++ types_named ds (locals_of vs))
+  own_types g vs = types_named (table_of ds) (names_of g.ins) ++ (types_named (table_of ds) (names_of g.outs) ++ types_named (table_of ds) (locals_of vs))
 
-  ins_alike : (g : Signature) (more : List Ty) → VarsAlike (with_own (declared_types ds) (types_named ds (names_of g.ins) ++ more)) (in_vars (TE ds) (CE ds) g) (in_vars (TA ds) CA g)
+  ins_alike : (g : Signature) (more : List Ty) → VarsAlike (with_own (declared_types ds) (types_named (table_of ds) (names_of g.ins) ++ more)) (in_vars (TE ds) (CE ds) g) (in_vars (TA ds) CA g)
   ins_alike g more = subst (λ w. VarsAlike w (in_vars (TE ds) (CE ds) g) (in_vars (TA ds) CA g)) (behind _) (some_alike before more (texts_of (signature_names g)) (texts_of (signature_names g)) in_parameter (first_parameter (CE ds)) (first_parameter CA) (names_of g.ins) before_long)
 
-  outs_alike : (g : Signature) (more : List Ty) → VarsAlike (with_own (declared_types ds) (types_named ds (names_of g.ins) ++ (types_named ds (names_of g.outs) ++ more))) (out_vars (TE ds) (CE ds) g) (out_vars (TA ds) CA g)
+  outs_alike : (g : Signature) (more : List Ty) → VarsAlike (with_own (declared_types ds) (types_named (table_of ds) (names_of g.ins) ++ (types_named (table_of ds) (names_of g.outs) ++ more))) (out_vars (TE ds) (CE ds) g) (out_vars (TA ds) CA g)
   outs_alike g more = subst (λ w. VarsAlike w (out_vars (TE ds) (CE ds) g) (out_vars (TA ds) CA g))
-      (append_assoc before (types_named ds (names_of g.ins)) _ ∙ behind _)
-      (some_alike (before ++ types_named ds (names_of g.ins)) more (texts_of (signature_names g)) (texts_of (signature_names g)) out_parameter (first_parameter (CE ds) + length (names_of g.ins)) (first_parameter CA + length (names_of g.ins)) (names_of g.outs) (longer before (first_parameter (CE ds)) (names_of g.ins) before_long))
+      (append_assoc before (types_named (table_of ds) (names_of g.ins)) _ ∙ behind _)
+      (some_alike (before ++ types_named (table_of ds) (names_of g.ins)) more (texts_of (signature_names g)) (texts_of (signature_names g)) out_parameter (first_parameter (CE ds) + length (names_of g.ins)) (first_parameter CA + length (names_of g.ins)) (names_of g.outs) (longer before (first_parameter (CE ds)) (names_of g.ins) before_long))
 
   locals_alike : (g : Signature) (vs : List Groups) → VarsAlike (with_own (declared_types ds) (own_types g vs)) (local_vars (TE ds) (CE ds) g vs) (local_vars (TA ds) CA g vs)
   locals_alike g vs =
-      let I = types_named ds (names_of g.ins) in
-      let O = types_named ds (names_of g.outs) in
-      let L = types_named ds (locals_of vs) in
+      let I = types_named (table_of ds) (names_of g.ins) in
+      let O = types_named (table_of ds) (names_of g.outs) in
+      let L = types_named (table_of ds) (locals_of vs) in
       let k = first_parameter (CE ds) in
       let l1 = longer before k (names_of g.ins) before_long in
       let l2 = longer (before ++ I) (k + length (names_of g.ins)) (names_of g.outs) l1 in
@@ -79,9 +79,9 @@ module _ (ds : List Decl) where
       (append_assoc (before ++ I) O (L ++ []) ∙ (append_assoc before I (O ++ (L ++ [])) ∙ (ap (λ w. before ++ (I ++ (O ++ w))) (append-nil L) ∙ behind _)))
       (some_alike ((before ++ I) ++ O) [] (texts_of (names_in_body g vs)) (texts_of (names_in_body g vs)) local_variable (k + (length (names_of g.ins) + length (names_of g.outs))) (first_parameter CA + (length (names_of g.ins) + length (names_of g.outs))) (locals_of vs) l3)
 
-  pub parameters_alike : (g : Signature) → VarsAlike (with_own (declared_types ds) (types_named ds (names_of g.ins) ++ types_named ds (names_of g.outs))) (parameters (TE ds) (CE ds) g) (parameters (TA ds) CA g)
+  pub parameters_alike : (g : Signature) → VarsAlike (with_own (declared_types ds) (types_named (table_of ds) (names_of g.ins) ++ types_named (table_of ds) (names_of g.outs))) (parameters (TE ds) (CE ds) g) (parameters (TA ds) CA g)
   parameters_alike g = alike_joined _ (in_vars (TE ds) (CE ds) g) (in_vars (TA ds) CA g) _ _ (ins_alike g _)
-      (subst (λ w. VarsAlike (with_own (declared_types ds) (types_named ds (names_of g.ins) ++ w)) (out_vars (TE ds) (CE ds) g) (out_vars (TA ds) CA g)) (append-nil (types_named ds (names_of g.outs))) (outs_alike g []))
+      (subst (λ w. VarsAlike (with_own (declared_types ds) (types_named (table_of ds) (names_of g.ins) ++ w)) (out_vars (TE ds) (CE ds) g) (out_vars (TA ds) CA g)) (append-nil (types_named (table_of ds) (names_of g.outs))) (outs_alike g []))
 
   pub body_alike : (g : Signature) (vs : List Groups) → VarsAlike (with_own (declared_types ds) (own_types g vs)) (body_vars (TE ds) (CE ds) g vs) (body_vars (TA ds) CA g vs)
   body_alike g vs = alike_joined _ (parameters (TE ds) (CE ds) g) (parameters (TA ds) CA g) _ _

@@ -13,3 +13,6 @@ pub mod CarrierFaults
 pub mod DeclaredTypes
 pub mod TypedModule
 pub mod TypedModules
+pub mod TypeShapes
+pub mod BodiesFound
+pub mod TypesView

@@ -40,6 +40,15 @@ abbrev pub type_after : Table → ℕ → Text → Ty
 type_after t zero n = integers
 type_after t (suc m) n = type_by (type_after t m) (number_of t n) (entity_of t n)
 
+-- over this table
+abbrev pub type_over : Table → Written → Ty
+type_over t w = type_in (type_after t (length t)) w
+
 -- in these declarations
 abbrev pub type_of : List Decl → Written → Ty
-type_of ds w = type_in (type_after (table_of ds) (length (table_of ds))) w
+type_of ds w = type_over (table_of ds) w
+
+-- how many user types stand before each name, and before the end, where k stand before the first
+abbrev pub users_before : ℕ → Table → List ℕ
+users_before k [] = k ∷ []
+users_before k (e ∷ t) = k ∷ users_before (k + users_in e.entity) t

@@ -3,9 +3,12 @@ ghost use Rattle.std.specs.Prelude.{◌≡◌, None, IfOk, IfErr};
 ghost use Rattle.bpl_declaration_faults.specs.DeclFaults.{fault_of};
 ghost use Rattle.bpl_sorts.specs.Erased.{erased};
 ghost use Rattle.bpl_sorts.specs.CarrierFaults.{carrier_fault, IsCarrierFault};
-ghost use Rattle.bpl_sorts.specs.TypedModules.{HasDeclaredTypes};
+ghost use Rattle.bpl_sorts.specs.DeclaredTypes.{declared_types};
+ghost use Rattle.bpl_sorts.specs.TypesView.{IsListed, AreItsTypes};
 
+use crate::declared_types::declared_types;
 use crate::erased::tell_apart;
+use crate::value_types::Types;
 use bpl_ast::Program;
 use bpl_first_fault::first_fault;
 use bv_base::place::Place;
@@ -34,17 +37,28 @@ impl From<AllocError> for CarrierFault {
     }
 }
 
-/// Whether the program takes carriers for carriers of their own user type alone. Where the erased
-/// program has no fault, user types are different from `int` and from each other; the fault is the
-/// first by declaration and place at which an operand, argument, right side, index or condition has
-/// another type than its place needs, an implementation has parameters of other types, or a map's
-/// domain is a user type. Without one, each expression of the program's own declarations has its type.
-/// `Memory` comes where memory runs out, and may come in place of any answer.
-#[tactic(auto, using(crate::proofs::TypedModules::passing_typed))]
-pub fn check_carriers(alloc: Global, program: &Program) -> Result<(), CarrierFault>
+// The types of what a program declares that takes carriers for carriers of their own user type alone.
+fn passing_types(alloc: Global, program: &Program) -> Result<Types, AllocError>
+    requires faultless { fault_of (erased program.now) ≡ None }
+    requires passing { carrier_fault program.now ≡ None }
+    ensures types { IfOk result (IsListed (declared_types program.now)) }
+    ensures typed { IfOk result (AreItsTypes program.now) }
+{
+    declared_types(alloc, program)
+}
+
+/// The types of what a program declares, where it takes carriers for carriers of their own user type
+/// alone. Where the erased program has no fault, user types are different from `int` and from each
+/// other; the fault is the first by declaration and place at which an operand, argument, right side,
+/// index or condition has another type than its place needs, an implementation has parameters of
+/// other types, or a map's domain is a user type. Without one, each expression of the program's own
+/// declarations has its type, where what is declared has the types of the answer. `Memory` comes
+/// where memory runs out, and may come in place of any answer.
+pub fn check_carriers(alloc: Global, program: &Program) -> Result<Types, CarrierFault>
     requires { fault_of (erased program.now) ≡ None }
     ensures faultless { IfOk result (λ _. carrier_fault program.now ≡ None) }
-    ensures typed { IfOk result (λ _. HasDeclaredTypes program.now) }
+    ensures types { IfOk result (IsListed (declared_types program.now)) }
+    ensures typed { IfOk result (AreItsTypes program.now) }
     ensures fault { IfErr result (IsCarrierFault program.now) }
 {
     let apart = tell_apart(alloc, program)?;
@@ -53,6 +67,6 @@ pub fn check_carriers(alloc: Global, program: &Program) -> Result<(), CarrierFau
             decl: fault.decl,
             at: fault.at,
         }),
-        None => Ok(()),
+        None => Ok(passing_types(alloc, program)?),
     }
 }

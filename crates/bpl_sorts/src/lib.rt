@@ -1,8 +1,8 @@
 //! User types and unique constants: a program is read without them, after which carriers are
-//! integers, and the first place is found at which it takes a user type for another type. It does so
-//! by a second reading, in which each user type is another sort. Laws say that the two readings tell
-//! types, that an expression with a sort in both has a type, and that a term with a type tells the
-//! carriers of a user type apart by equality alone.
+//! integers, and the first place is found at which it takes a user type for another type, or the
+//! types of what it declares. It does so by a second reading, in which each user type is another
+//! sort. Laws say that the two readings tell types, that an expression with a sort in both has a
+//! type, and that a term with a type tells the carriers of a user type apart by equality alone.
 #![tactic(auto)]
 
 // The user types for which types stand.
@@ -13,6 +13,14 @@ mod constants;
 pub mod erased;
 mod replaced;
 
+// The types of what a program declares.
+mod declared_types;
+mod function_types;
+mod procedure_types;
+mod type_names;
+pub mod value_types;
+mod variable_types;
+
 // The places at which carriers are taken for something else.
 pub mod carriers;
 
@@ -21,3 +29,4 @@ pub mod laws;
 
 pub use carriers::{CarrierFault, check_carriers};
 pub use erased::erase;
+pub use value_types::{Ty, Types};

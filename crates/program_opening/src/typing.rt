@@ -56,7 +56,10 @@ fn with_carriers(alloc: Global, program: &Program, module: Module) -> Result<Typ
     ensures { IfOk result (λ t. IsTypedAs (typing_by_carriers program.now (carrier_fault program.now)) t) }
 {
     match check_carriers(alloc, program) {
-        Ok(()) => Ok(Typed::Module(module)),
+        Ok(types) => {
+            drop(types);
+            Ok(Typed::Module(module))
+        }
         Err(CarrierFault::Carrier { decl, at }) => Ok(Typed::Refused(written_of_carrier(
             alloc,
             &program.decls,
