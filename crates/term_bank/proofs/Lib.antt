@@ -1,0 +1,12 @@
+pub mod Indexed
+pub mod Led
+pub mod Numbers
+pub mod NumberedLists
+pub mod Nodes
+pub mod Tables
+pub mod Candidates
+pub mod Steps
+pub mod Hashes
+pub mod MadeNodes
+pub mod Rows
+pub mod Smaller

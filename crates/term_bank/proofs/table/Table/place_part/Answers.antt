@@ -1,0 +1,12 @@
+use Rattle.std.proofs.Common.{◌≡◌, ap, ◌∙◌}
+use Rattle.term_bank.specs.Tabled.{Tabled}
+use Rattle.term_bank.specs.Table.{tabled}
+use Rattle.term_bank.proofs.Tables.{next_places, next_terms}
+use Rattle.term_bank.proofs.table.Table.place_part.Goals as goal
+
+pub invariant_of-self-2 : goal.invariant_of-self-2
+invariant_of-self-2 c = next_places c.self.inside.places c.push_part.new.self c.self.inside.entries.items c.self.inside.index _ c.self.invariant c.in_ok-place.ensures.ok
+
+pub returns-clause-terms : goal.returns-clause-terms
+returns-clause-terms c = let v : tabled c.self.inside ≡ c.args.self.now = c.self.view_is in
+    next_terms c.self.inside.places c.push_part.new.self c.self.inside.entries.items c.self.inside.index _ c.self.invariant c.in_ok-place.ensures.ok ∙ ap (λ (d : Tabled). d.terms) v

@@ -1,0 +1,9 @@
+pub mod LastAt
+pub mod Numbered
+pub mod Node
+pub mod Standing
+pub mod Hash
+pub mod Tabled
+pub mod Numbering
+pub mod Table
+pub mod Candidate
