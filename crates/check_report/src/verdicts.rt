@@ -4,10 +4,10 @@ ghost use Rattle.tableau.specs.RunView.{verdict_of};
 ghost use Rattle.check_report.specs.Scratch.{verdict_on, verdicts};
 
 use bpl_model::Mark;
+use clause_search::search::answer;
 use program_opening::goals::SharedGoal;
 use std::alloc::{AllocError, Global};
 use tableau::ended::Verdict;
-use tableau::search::answer;
 
 // What the search says of a goal.
 fn verdict_on(alloc: Global, goal: &SharedGoal, turns: u64) -> Result<Verdict, AllocError>

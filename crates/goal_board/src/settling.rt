@@ -11,10 +11,10 @@ ghost use Rattle.goal_board.specs.Rounds.{IsDeposited, IsNext, IsGivenUp};
 
 use board_core::{Board, Claim, Claimed};
 use bv_base::Answered;
+use clause_search::search::search;
 use obligation_text::Asked;
 use std::alloc::{AllocError, Global};
 use std::sync::Arc;
-use tableau::search::search_plain;
 use tableau::settled::Settled;
 
 // The search's answer to a question.
@@ -25,7 +25,7 @@ fn answer_to(
     ensures answer { IfOk result (λ a. arc_value a ≡ settled_by (arc_value question.now)) }
     ensures right { IfOk result (λ a. IsRight (arc_value a)) }
 {
-    let settled = search_plain(alloc, question)?;
+    let settled = search(alloc, question)?;
     let _question = settled.question();
     let shared = Arc::new(alloc, settled)?;
     Ok(shared)

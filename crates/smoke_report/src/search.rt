@@ -11,10 +11,10 @@ use bpl_goto::remove_gotos;
 use bpl_model::{GoalKind, Mark, Module};
 use bpl_smoke::laws::with_point_goes_forward;
 use bpl_smoke::with_point;
+use clause_search::search::answer;
 use logic_core::Sequence;
 use report_text::is_proof;
 use std::alloc::{AllocError, Global};
-use tableau::search::answer;
 use vc_build::{BuildFault, Goal, build};
 
 // Whether it is the kind of the point of this number.
