@@ -66,17 +66,19 @@ module _ (V C : ℕ → Type 0) where
     as_patterns_stand no_patterns h = tt
     as_patterns_stand (pattern ts ps) h = (as_each_stands ts (left (variables_of_each ts) (variables_of_patterns ps) (calls_of_each ts) (calls_of_patterns ps) h), as_patterns_stand ps (right (variables_of_each ts) (variables_of_patterns ps) (calls_of_each ts) (calls_of_patterns ps) h))
 
--- whatever the definitions
-module _ (V : ℕ → Type 0) where
-  abbrev Any : ℕ → Type 0
-  Any f = Unit {0}
+-- what everything has
+abbrev pub Any : ℕ → Type 0
+Any n = Unit {0}
 
-  of_any : (fs : List ℕ) → AllByRecursion Any fs
-  of_any [] = tt
-  of_any (f ∷ fs) = (tt, of_any fs)
+of_any : (ns : List ℕ) → AllByRecursion Any ns
+of_any [] = tt
+of_any (n ∷ ns) = (tt, of_any ns)
 
-  pub variables_stand : (t : Tree) → AllByRecursion V (variables t) → EachHas V Any t
-  variables_stand t h = as_it_stands V Any t (h, of_any (calls t))
+pub variables_stand : (V : ℕ → Type 0) (t : Tree) → AllByRecursion V (variables t) → EachHas V Any t
+variables_stand V t h = as_it_stands V Any t (h, of_any (calls t))
+
+pub all_stand : (t : Tree) → EachHas Any Any t
+all_stand t = variables_stand Any t (of_any (variables t))
 
 -- new numbers that agree on what has V and C
 module _ (defs vars defs' vars' : ℕ → ℕ) (V C : ℕ → Type 0) (same_var : (v : ℕ) → V v → vars v ≡ vars' v) (same_def : (f : ℕ) → C f → defs f ≡ defs' f) where

@@ -1,41 +1,26 @@
 -- Terms with other numbers for their free variables and for the definitions that they call.
-use Rattle.std.specs.Prelude.{ℕ, List, slice_index_or}
+use Rattle.std.specs.Prelude.{ℕ, Option, Some, None, List, slice_index_or}
 use Rattle.logic_core.specs.Tree.{Tree, num, truth, free, bound, linear, mul, read, write, choose, call, negation, all, some, equal, at_most, for_all, exists, Trees, no_trees, tree, Parts, no_parts, part, Patterns, no_patterns, pattern}
 use Rattle.logic_core.specs.Def.{Def}
+use Rattle.logic_core.specs.Traversed.{traversed, traversed_each, traversed_parts, traversed_patterns, as_deep}
+
+abbrev pub for_free : (ℕ → ℕ) → ℕ → Tree → Option Tree
+for_free new_var depth (free v) = Some (free (new_var v))
+for_free new_var depth t = None
 
 -- each definition that is called, and each free variable, by its new number
 module _ (new_def new_var : ℕ → ℕ) where
-  abbrev mutual
-    pub both_renamed : Tree → Tree
-    both_renamed (num n) = num n
-    both_renamed (truth x) = truth x
-    both_renamed (free v) = free (new_var v)
-    both_renamed (bound v) = bound v
-    both_renamed (linear ps c) = linear (parts_both_renamed ps) c
-    both_renamed (mul x y) = mul (both_renamed x) (both_renamed y)
-    both_renamed (read x y) = read (both_renamed x) (both_renamed y)
-    both_renamed (write x y z) = write (both_renamed x) (both_renamed y) (both_renamed z)
-    both_renamed (choose x y z) = choose (both_renamed x) (both_renamed y) (both_renamed z)
-    both_renamed (call f ts) = call (new_def f) (each_both_renamed ts)
-    both_renamed (negation x) = negation (both_renamed x)
-    both_renamed (all ts) = all (each_both_renamed ts)
-    both_renamed (some ts) = some (each_both_renamed ts)
-    both_renamed (equal x y) = equal (both_renamed x) (both_renamed y)
-    both_renamed (at_most x y) = at_most (both_renamed x) (both_renamed y)
-    both_renamed (for_all ss ps t) = for_all ss (patterns_both_renamed ps) (both_renamed t)
-    both_renamed (exists ss ps t) = exists ss (patterns_both_renamed ps) (both_renamed t)
+  abbrev pub both_renamed : Tree → Tree
+  both_renamed t = traversed (for_free new_var) as_deep new_def 0 t
 
-    pub each_both_renamed : Trees → Trees
-    each_both_renamed no_trees = no_trees
-    each_both_renamed (tree t ts) = tree (both_renamed t) (each_both_renamed ts)
+  abbrev pub each_both_renamed : Trees → Trees
+  each_both_renamed ts = traversed_each (for_free new_var) as_deep new_def 0 ts
 
-    pub parts_both_renamed : Parts → Parts
-    parts_both_renamed no_parts = no_parts
-    parts_both_renamed (part k t ps) = part k (both_renamed t) (parts_both_renamed ps)
+  abbrev pub parts_both_renamed : Parts → Parts
+  parts_both_renamed ps = traversed_parts (for_free new_var) as_deep new_def 0 ps
 
-    pub patterns_both_renamed : Patterns → Patterns
-    patterns_both_renamed no_patterns = no_patterns
-    patterns_both_renamed (pattern ts ps) = pattern (each_both_renamed ts) (patterns_both_renamed ps)
+  abbrev pub patterns_both_renamed : Patterns → Patterns
+  patterns_both_renamed ps = traversed_patterns (for_free new_var) as_deep new_def 0 ps
 
   abbrev pub def_renamed : Def → Def
   def_renamed d = record d { body = both_renamed d.body }

@@ -20,7 +20,7 @@ use Rattle.logic_laws.proofs.SameValue.{value_stable}
 use Rattle.logic_laws.proofs.Tables.{are_of_append}
 use Rattle.logic_laws.proofs.Gives.{Gives, GivesEach, Says, said, said_each, gives, gives_each, same_values}
 use Rattle.logic_laws.proofs.SortFrame.{within_more}
-use Rattle.logic_laws.proofs.Bodies.{body_sort, bodies_over}
+use Rattle.logic_laws.proofs.Bodies.{bodies_over}
 use Rattle.logic_laws.proofs.ValueSorts.{CallsHaveSorts, give_sorts}
 use Rattle.logic_laws.proofs.DefinedSorts.{value_sort, defined_sorts}
 use Rattle.logic_laws.proofs.FormulaValues.{negated_gives}
@@ -149,14 +149,14 @@ module _ (vars : List Kind) (defs : List Def) (frees : List Value) (assigned : I
       body : (vs : List Value) → GivesEach frees (calls_of frees defs) ts [] vs → calls_of frees defs f vs P ↔ With frees (calls_of frees defs) (substitute d.body (listed ts)) [] P
       body vs g =
           let called = same_unfolded frees vars defs assigned.0 f d e vs P s in
-          let put = same_substituted vars defs frees (calls_of frees defs) (has frees defs) (keep frees defs) d.params ts vs d.body d.sort sorts (body_sort vars defs f d assigned.0 e) g P s in
+          let put = same_substituted vars defs frees (calls_of frees defs) (has frees defs) (keep frees defs) d.params ts vs d.body sorts g P s in
           ((λ h. put.0 (called.0 h)), (λ h. called.1 (put.1 h)))
 
   -- where a ForAll holds, so does its body with closed terms of its sorts
   pub instance_holds : (ss : List Kind) (ps : Patterns) (body : Tree) (ts : Trees) → sort_of vars defs (reverse ss) body ≡ Some boolean → are vars defs [] ss ts ≡ true → HoldsThere frees defs (for_all ss ps body) [] → HoldsThere frees defs (substitute body (listed ts)) []
   instance_holds ss ps body ts s sorts h = holds_stable frees defs (substitute body (listed ts)) [] (λ none. gives_each frees (calls_of frees defs) (has frees defs) (keep frees defs) ts [] (λ vs g.
       let fit : are_of ss vs ≡ true = give_sorts vars defs frees (calls_of frees defs) (has frees defs) assigned.1 call_sorts ts [] [] ss vs sorts refl g in
-      let put = same_substituted vars defs frees (calls_of frees defs) (has frees defs) (keep frees defs) ss ts vs body boolean sorts s g (λ v. IsTrue (holds v)) (λ v. true_stable (holds v)) in
+      let put = same_substituted vars defs frees (calls_of frees defs) (has frees defs) (keep frees defs) ss ts vs body sorts g (λ v. IsTrue (holds v)) (λ v. true_stable (holds v)) in
       let untrue : false ≡ true = h.1 (λ every. none (put.0 (subst (HoldsThere frees defs body) (append-nil (reverse vs)) (every vs fit)))) in cc))
 
   -- more variables, and values for them

@@ -14,6 +14,7 @@ pub mod NormalValues
 pub mod DefinedSorts
 pub mod CarriedSorts
 pub mod SortFrame
+pub mod TraversedSorts
 pub mod ReplacedSorts
 pub mod SubstitutedSorts
 pub mod ValueFrame
@@ -21,6 +22,7 @@ pub mod MentionedVariables
 pub mod Unfolding
 pub mod Paired
 pub mod SubstitutedValues
+pub mod TraversedValues
 pub mod ReplacedValues
 pub mod Bodies
 pub mod WrittenTables

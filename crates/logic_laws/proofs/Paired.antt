@@ -1,5 +1,5 @@
 -- Two lists whose elements are paired by a relation.
-use Rattle.std.proofs.Common.{◌≡◌, refl, sym, ap, subst, ℕ, zero, suc, Some, List, [], ◌∷◌, ◌++◌, reverse, slice_get, length}
+use Rattle.std.proofs.Common.{Option, None, ◌≡◌, refl, sym, ap, subst, ℕ, zero, suc, Some, List, [], ◌∷◌, ◌++◌, reverse, slice_get, length}
 use mathlib.Core.List.{reverse-cons}
 
 module _ {A B : Type 0} (R : A → B → Type 0) where
@@ -23,13 +23,19 @@ module _ {A B : Type 0} (R : A → B → Type 0) where
   paired_reverse [] (y ∷ ys) p = absurd p
   paired_reverse (x ∷ xs) [] p = absurd p
 
-  -- the element at a place has a partner there
-  pub partner : (xs : List A) (ys : List B) (n : ℕ) (y : B) → Paired xs ys → slice_get ys n ≡ Some y → (x : A) × (slice_get xs n ≡ Some x) × R x y
-  partner [] [] n y p e = absurd (cc)
-  partner (x ∷ xs) (z ∷ ys) zero y p e = let q : z ≡ y = cc in (x, refl, subst (R x) q p.0)
-  partner (x ∷ xs) (z ∷ ys) (suc n) y p e = partner xs ys n y p.1 e
-  partner [] (z ∷ ys) n y p e = absurd p
-  partner (x ∷ xs) [] n y p e = absurd p
+  -- at each place both lists have elements, and these are partners, or both end before it
+  abbrev pub AtPlace : Option A → Option B → Type 0
+  AtPlace (Some x) (Some y) = R x y
+  AtPlace None None = Unit {0}
+  AtPlace (Some x) None = ⊥
+  AtPlace None (Some y) = ⊥
+
+  pub at_place : (xs : List A) (ys : List B) (n : ℕ) → Paired xs ys → AtPlace (slice_get xs n) (slice_get ys n)
+  at_place [] [] n p = tt
+  at_place (x ∷ xs) (y ∷ ys) zero p = p.0
+  at_place (x ∷ xs) (y ∷ ys) (suc n) p = at_place xs ys n p.1
+  at_place [] (y ∷ ys) n p = absurd p
+  at_place (x ∷ xs) [] n p = absurd p
 
   pub paired_length : (xs : List A) (ys : List B) → Paired xs ys → length xs ≡ length ys
   paired_length [] [] p = refl

@@ -11,7 +11,8 @@ use Rattle.logic_core.specs.Sorts.{is, sort_of}
 use Rattle.logic_core.specs.WellSorted.{IsFormula, IsWellSorted}
 use Rattle.logic_core.specs.Renamed.{both_renamed, def_renamed}
 use Rattle.logic_laws.specs.RenamingLaws.{Covers, IsRenamedObligation}
-use Rattle.logic_laws.proofs.RenamedSorts.{SameHead, same_sort, renaming_keeps_sorts}
+use Rattle.logic_laws.proofs.TraversedSorts.{SameHead}
+use Rattle.logic_laws.proofs.RenamedSorts.{same_sort, renaming_keeps_sorts}
 use Rattle.logic_laws.proofs.SortedNumbers.{body_has_sort, bodies_by_number}
 
 get_in_front : {A : Type 0} (xs : List A) (m n : ℕ) → n < m → slice_get (take m xs) n ≡ slice_get xs n

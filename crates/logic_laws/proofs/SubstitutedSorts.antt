@@ -1,86 +1,61 @@
--- A body whose binder is taken away keeps its sort, where the closed terms have the sorts of the binder's variables.
--- Here d is how many binders were passed, of the sorts cs, and e that these are as many.
-use Rattle.std.proofs.Common.{◌≡◌, sym, subst, ℕ, zero, suc, ◌+◌, ◌-◌, ◌<◌, ◌≤◌, nat_lt, unwrap_or, Some, List, [], ◌∷◌, ◌++◌, reverse, slice_get, length, length-append, append_assoc, arith, ltb-true, ltb-false}
+-- A body whose binder is taken away has its sort, where the closed terms have the sorts of the binder's variables, one by one.
+-- Here d is how many variables of inner binders were passed, of the sorts b'; b are these and the binder's.
+use Rattle.std.proofs.Common.{◌≡◌, ◌∙◌, refl, sym, ap, ℕ, zero, suc, ◌+◌, ◌-◌, ◌<◌, ◌≤◌, nat_lt, Option, Some, None, unwrap_or, List, [], ◌∷◌, ◌++◌, reverse, slice_get, length, length-append, append_assoc, arith, ltb-true, ltb-false}
+use Rattle.std.specs.Option.{IfSome}
 use Rattle.std.proofs.lemmas.List.{length-reverse}
-use Rattle.logic_core.specs.Tree.{Kind, Tree, num, truth, free, bound, linear, mul, read, write, choose, call, negation, all, some, equal, at_most, for_all, exists, Trees, no_trees, tree, Parts, no_parts, part, Patterns, no_patterns, pattern}
+use Rattle.std.proofs.lemmas.Option.{slice_get_past}
+use Rattle.logic_core.specs.Tree.{Kind, Tree, bound}
 use Rattle.logic_core.specs.Def.{Def}
 use Rattle.logic_core.specs.Sorts.{sort_of}
-use Rattle.logic_core.specs.Substitute.{bound_within, put_within, put_each, put_parts, put_patterns}
+use Rattle.logic_core.specs.Traversed.{deeper, kept}
+use Rattle.logic_core.specs.Renamed.{EachHas}
+use Rattle.logic_core.specs.Substitute.{for_bound, put_within}
+use Rattle.logic_core.proofs.Mentioned.{Any, all_stand}
 use Rattle.logic_laws.proofs.Options.{cond_has}
-use Rattle.logic_laws.proofs.CarriedSorts.{Carries, CarriesEach, CarriesFormulas, CarriesInts, CarriesSorts, CarriesPatterns, carries_linear, carries_mul, carries_read, carries_write, carries_choose, carries_call, carries_negation, carries_all, carries_some, carries_equal, carries_at_most, carries_quantifier, carries_first, carries_none, carries_formula, carries_int, carries_sort, carries_pattern}
+use Rattle.logic_laws.proofs.Paired.{Paired, AtPlace, at_place}
+use Rattle.logic_laws.proofs.TraversedSorts.{traversed_sort}
 use Rattle.logic_laws.proofs.ReplacedSorts.{closed_sort}
 
 -- an element of two lists joined stands in the one or the other
-pub within_first : {A : Type 0} (xs ys : List A) (n : ℕ) (x : A) → slice_get (xs ++ ys) n ≡ Some x → n < length xs → slice_get xs n ≡ Some x
-within_first [] ys n x e h = absurd (omega arith)
-within_first (z ∷ xs) ys zero x e h = e
-within_first (z ∷ xs) ys (suc n) x e h = within_first xs ys n x e (omega arith)
+pub get_first : {A : Type 0} (xs ys : List A) (n : ℕ) → n < length xs → slice_get (xs ++ ys) n ≡ slice_get xs n
+get_first [] ys n h = absurd (omega arith)
+get_first (z ∷ xs) ys zero h = refl
+get_first (z ∷ xs) ys (suc n) h = get_first xs ys n (omega arith)
 
-pub within_second : {A : Type 0} (xs ys : List A) (n : ℕ) (x : A) → slice_get (xs ++ ys) n ≡ Some x → length xs ≤ n → slice_get ys (n - length xs) ≡ Some x
-within_second [] ys n x e h = let q : n ≡ n - 0 = omega arith in subst (λ i. slice_get ys i ≡ Some x) q e
-within_second (z ∷ xs) ys zero x e h = absurd (omega arith)
-within_second (z ∷ xs) ys (suc n) x e h = let q : n - length xs ≡ suc n - suc (length xs) = omega arith in subst (λ i. slice_get ys i ≡ Some x) q (within_second xs ys n x e (omega arith))
+pub get_second : {A : Type 0} (xs ys : List A) (n : ℕ) → length xs ≤ n → slice_get (xs ++ ys) n ≡ slice_get ys (n - length xs)
+get_second [] ys n h = let q : n ≡ n - 0 = omega arith in ap (slice_get ys) q
+get_second (z ∷ xs) ys zero h = absurd (omega arith)
+get_second (z ∷ xs) ys (suc n) h = let q : n - length xs ≡ suc n - suc (length xs) = omega arith in get_second xs ys n (omega arith) ∙ ap (slice_get ys) q
+
+-- where a list has no element, it has ended
+pub past_end : {A : Type 0} (xs : List A) (n : ℕ) → slice_get xs n ≡ None → length xs ≤ n
+past_end [] n e = omega arith
+past_end (x ∷ xs) zero e = absurd (cc)
+past_end (x ∷ xs) (suc n) e = let p = past_end xs n e in omega arith
 
 -- one binder more
-pub deeper : (d : ℕ) (ss cs : List Kind) → d ≡ length cs → d + length ss ≡ length (reverse ss ++ cs)
-deeper d ss cs e = let p = length-append (reverse ss) cs in let q = length-reverse ss in omega arith
+pub one_deeper : {A : Type 0} (d : ℕ) (ss : List Kind) (vs b b' ks : List A) → length vs ≡ length ss → (d ≡ length b') × (b ≡ b' ++ ks) → (deeper d ss ≡ length (vs ++ b')) × (vs ++ b ≡ (vs ++ b') ++ ks)
+one_deeper d ss vs b b' ks e r = ((let p = length-append vs b' in let q = r.0 in omega arith), ap (λ c. vs ++ c) r.1 ∙ sym (append_assoc vs b' ks))
 
-module _ (vars : List Kind) (defs : List Def) (terms : List Tree) (ks : List Kind) where
-  -- each of these sorts has a closed term
-  abbrev pub TermsFit : Type 0
-  TermsFit = (n : ℕ) (k : Kind) → slice_get ks n ≡ Some k → (u : Tree) × (slice_get terms n ≡ Some u) × (sort_of vars defs [] u ≡ Some k)
+module _ (vars : List Kind) (defs : List Def) (terms : List Tree) (ks : List Kind) (sorts : Paired (λ u k. sort_of vars defs [] u ≡ Some k) terms ks) where
+  abbrev Reach : ℕ → List Kind → List Kind → Type 0
+  Reach d b b' = (d ≡ length b') × (b ≡ b' ++ ks)
 
-  module _ (fit : TermsFit) where
-    abbrev Goes : List Kind → Tree → Tree → Type 0
-    Goes cs t u = Carries vars defs vars defs (cs ++ ks) cs t u
+  beyond : (v d : ℕ) (b b' : List Kind) → Reach d b b' → d ≤ v → sort_of vars defs b' (unwrap_or (slice_get terms (v - d)) (bound (v - length terms))) ≡ slice_get b v
+  beyond v d b b' r h = by_place (slice_get terms (v - d)) (slice_get ks (v - d)) refl (at_place (λ u k. sort_of vars defs [] u ≡ Some k) terms ks (v - d) sorts) ∙ sym (ap (λ c. slice_get c v) r.1 ∙ get_second b' ks v (let q = r.0 in omega arith) ∙ ap (λ n. slice_get ks (v - n)) (sym r.0))
+    where
+      by_place : (o : Option Tree) (p : Option Kind) → slice_get terms (v - d) ≡ o → AtPlace (λ u k. sort_of vars defs [] u ≡ Some k) o p → sort_of vars defs b' (unwrap_or o (bound (v - length terms))) ≡ p
+      by_place (Some u) (Some k) e s = closed_sort vars defs u b' k s
+      by_place None None e s = slice_get_past b' (v - length terms) (let q = r.0 in let l = past_end terms (v - d) e in omega arith)
+      by_place (Some u) None e s = absurd s
+      by_place None (Some k) e s = absurd s
 
-    bound_sort : (v d : ℕ) (cs : List Kind) → d ≡ length cs → Goes cs (bound v) (bound_within terms d v)
-    bound_sort v d cs e k s = cond_has (λ x. sort_of vars defs cs x ≡ Some k) (nat_lt v d) (bound v) (unwrap_or (slice_get terms (v - d)) (bound (v - length terms)))
-        (λ p. within_first cs ks v k s (let l = ltb-true v d p in omega arith))
-        (λ p. let f = fit (v - length cs) k (within_second cs ks v k s (let l = ltb-false v d p in omega arith)) in
-        subst (λ i. sort_of vars defs cs (unwrap_or (slice_get terms (v - i)) (bound (v - length terms))) ≡ Some k) (sym e)
-        (subst (λ o. sort_of vars defs cs (unwrap_or o (bound (v - length terms))) ≡ Some k) (sym f.1) (closed_sort vars defs f.0 cs k f.2)))
+  new_sort : (t : Tree) (d : ℕ) (b b' : List Kind) → Reach d b b' → EachHas Any Any t → IfSome (for_bound terms d t) (λ u. sort_of vars defs b' u ≡ sort_of vars defs b t)
+  new_sort (bound v) d b b' r h = cond_has (λ x. sort_of vars defs b' x ≡ slice_get b v) (nat_lt v d) (bound v) (unwrap_or (slice_get terms (v - d)) (bound (v - length terms)))
+      (λ p. sym (ap (λ c. slice_get c v) r.1 ∙ get_first b' ks v (let l = ltb-true v d p in let q = r.0 in omega arith)))
+      (λ p. beyond v d b b' r (let l = ltb-false v d p in omega arith))
+  new_sort t d b b' r h = tt
 
-    mutual
-      pub put_within_sort : (t : Tree) (d : ℕ) (cs : List Kind) → d ≡ length cs → Carries vars defs vars defs (cs ++ ks) cs t (put_within terms d t)
-      put_within_sort (num n) d cs e = λ k s. s
-      put_within_sort (truth x) d cs e = λ k s. s
-      put_within_sort (free v) d cs e = λ k s. s
-      put_within_sort (bound v) d cs e = bound_sort v d cs e
-      put_within_sort (linear ps c) d cs e = carries_linear vars defs vars defs (cs ++ ks) cs ps (put_parts terms d ps) c (put_ints ps d cs e)
-      put_within_sort (mul x y) d cs e = carries_mul vars defs vars defs (cs ++ ks) cs x y (put_within terms d x) (put_within terms d y) (put_within_sort x d cs e) (put_within_sort y d cs e)
-      put_within_sort (read x y) d cs e = carries_read vars defs vars defs (cs ++ ks) cs x y (put_within terms d x) (put_within terms d y) (put_within_sort x d cs e) (put_within_sort y d cs e)
-      put_within_sort (write x y z) d cs e = carries_write vars defs vars defs (cs ++ ks) cs x y z (put_within terms d x) (put_within terms d y) (put_within terms d z) (put_within_sort x d cs e) (put_within_sort y d cs e) (put_within_sort z d cs e)
-      put_within_sort (choose x y z) d cs e = carries_choose vars defs vars defs (cs ++ ks) cs x y z (put_within terms d x) (put_within terms d y) (put_within terms d z) (put_within_sort x d cs e) (put_within_sort y d cs e) (put_within_sort z d cs e)
-      put_within_sort (call n ts) d cs e = carries_call vars defs vars defs (cs ++ ks) cs n ts (put_each terms d ts) (λ _ i. i) (put_sorts ts d cs e)
-      put_within_sort (negation x) d cs e = carries_negation vars defs vars defs (cs ++ ks) cs x (put_within terms d x) (put_within_sort x d cs e)
-      put_within_sort (all ts) d cs e = carries_all vars defs vars defs (cs ++ ks) cs ts (put_each terms d ts) (put_formulas ts d cs e)
-      put_within_sort (some ts) d cs e = carries_some vars defs vars defs (cs ++ ks) cs ts (put_each terms d ts) (put_formulas ts d cs e)
-      put_within_sort (equal x y) d cs e = carries_equal vars defs vars defs (cs ++ ks) cs x y (put_within terms d x) (put_within terms d y) (put_within_sort x d cs e) (put_within_sort y d cs e)
-      put_within_sort (at_most x y) d cs e = carries_at_most vars defs vars defs (cs ++ ks) cs x y (put_within terms d x) (put_within terms d y) (put_within_sort x d cs e) (put_within_sort y d cs e)
-      put_within_sort (for_all ss ps t) d cs e = carries_quantifier vars defs vars defs (cs ++ ks) cs ss ps (put_patterns terms (d + length ss) ps) t (put_within terms (d + length ss) t)
-          (subst (λ bs. CarriesPatterns vars defs vars defs bs (reverse ss ++ cs) ps (put_patterns terms (d + length ss) ps)) (append_assoc (reverse ss) cs ks) (put_patterns_sorts ps (d + length ss) (reverse ss ++ cs) (deeper d ss cs e)))
-          (subst (λ bs. Carries vars defs vars defs bs (reverse ss ++ cs) t (put_within terms (d + length ss) t)) (append_assoc (reverse ss) cs ks) (put_within_sort t (d + length ss) (reverse ss ++ cs) (deeper d ss cs e)))
-      put_within_sort (exists ss ps t) d cs e = carries_quantifier vars defs vars defs (cs ++ ks) cs ss ps (put_patterns terms (d + length ss) ps) t (put_within terms (d + length ss) t)
-          (subst (λ bs. CarriesPatterns vars defs vars defs bs (reverse ss ++ cs) ps (put_patterns terms (d + length ss) ps)) (append_assoc (reverse ss) cs ks) (put_patterns_sorts ps (d + length ss) (reverse ss ++ cs) (deeper d ss cs e)))
-          (subst (λ bs. Carries vars defs vars defs bs (reverse ss ++ cs) t (put_within terms (d + length ss) t)) (append_assoc (reverse ss) cs ks) (put_within_sort t (d + length ss) (reverse ss ++ cs) (deeper d ss cs e)))
-
-      put_sorts : (ts : Trees) (d : ℕ) (cs : List Kind) → d ≡ length cs → CarriesEach vars defs vars defs (cs ++ ks) cs ts (put_each terms d ts)
-      put_sorts no_trees d cs e = carries_none vars defs vars defs (cs ++ ks) cs
-      put_sorts (tree t ts) d cs e = carries_first vars defs vars defs (cs ++ ks) cs t (put_within terms d t) ts (put_each terms d ts) (put_within_sort t d cs e) (put_sorts ts d cs e)
-
-      put_formulas : (ts : Trees) (d : ℕ) (cs : List Kind) → d ≡ length cs → CarriesFormulas vars defs vars defs (cs ++ ks) cs ts (put_each terms d ts)
-      put_formulas no_trees d cs e = λ s. s
-      put_formulas (tree t ts) d cs e = carries_formula vars defs vars defs (cs ++ ks) cs t (put_within terms d t) ts (put_each terms d ts) (put_within_sort t d cs e) (put_formulas ts d cs e)
-
-      put_ints : (ps : Parts) (d : ℕ) (cs : List Kind) → d ≡ length cs → CarriesInts vars defs vars defs (cs ++ ks) cs ps (put_parts terms d ps)
-      put_ints no_parts d cs e = λ s. s
-      put_ints (part c t ps) d cs e = carries_int vars defs vars defs (cs ++ ks) cs c t (put_within terms d t) ps (put_parts terms d ps) (put_within_sort t d cs e) (put_ints ps d cs e)
-
-      put_have : (ts : Trees) (d : ℕ) (cs : List Kind) → d ≡ length cs → CarriesSorts vars defs vars defs (cs ++ ks) cs ts (put_each terms d ts)
-      put_have no_trees d cs e = λ s. s
-      put_have (tree t ts) d cs e = carries_sort vars defs vars defs (cs ++ ks) cs t (put_within terms d t) ts (put_each terms d ts) (put_within_sort t d cs e) (put_have ts d cs e)
-
-      put_patterns_sorts : (ps : Patterns) (d : ℕ) (cs : List Kind) → d ≡ length cs → CarriesPatterns vars defs vars defs (cs ++ ks) cs ps (put_patterns terms d ps)
-      put_patterns_sorts no_patterns d cs e = λ s. s
-      put_patterns_sorts (pattern ts ps) d cs e = carries_pattern vars defs vars defs (cs ++ ks) cs ts (put_each terms d ts) ps (put_patterns terms d ps) (put_have ts d cs e) (put_patterns_sorts ps d cs e)
+  pub put_within_sort : (t : Tree) (d : ℕ) (b b' : List Kind) → Reach d b b' → sort_of vars defs b' (put_within terms d t) ≡ sort_of vars defs b t
+  put_within_sort t d b b' r = traversed_sort (for_bound terms) deeper kept vars vars defs defs Any Any Reach (λ d b b' ss r. one_deeper d ss (reverse ss) b b' ks (length-reverse ss) r)
+      new_sort (λ v d h e. refl) (λ v d b b' r e. absurd (cc)) (λ f c g. refl) t d b b' r (all_stand t)

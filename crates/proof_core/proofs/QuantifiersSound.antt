@@ -69,7 +69,7 @@ module _ (defs : List Def) (c : Context) (s : IsSorted defs c) (ss : List Kind) 
       let give = variables_give (frees ++ vs) defs (length c.vars) ss vs h (next_value defs c ss s frees fit vs) in
       let all' = frees ++ vs in
       subst (λ us. HoldsIn defs (frees ++ vs) (substitute body us)) (listed_trees (new_variables c ss))
-      ((same_substituted (c.vars ++ ss) defs all' (calls_of all' defs) (has_defined all' defs) (keeps_defined all' defs) ss names vs body boolean names_sort inner_more give (λ v. IsTrue (holds v)) (λ v. true_stable (holds v))).0 over)
+      ((same_substituted (c.vars ++ ss) defs all' (calls_of all' defs) (has_defined all' defs) (keeps_defined all' defs) ss names vs body names_sort give (λ v. IsTrue (holds v)) (λ v. true_stable (holds v))).0 over)
 
 skolem_at : (defs : List Def) (c d : Context) (f : ℕ) (t : Tree) → IsSorted defs c → fact c f ≡ Some t → skolemized defs c t ≡ Some d → IsSorted defs d × (IsUnsatisfiable defs d → IsUnsatisfiable defs c)
 skolem_at defs c d f (exists ss ps body) s k e =
