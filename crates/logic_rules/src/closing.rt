@@ -79,8 +79,8 @@ pub fn close(alloc: Global, branch: Branch) -> Attempt
     ensures { Tries branch (Ok result) (close branch) }
 {
     match closing_numbers(&branch) {
-        Some((f, g)) => Attempt::Gives(Move {
-            ending: Ending::Closes(f, g),
+        Some((first, second)) => Attempt::Gives(Move {
+            ending: Ending::Closes { first, second },
             made: Vec::new(alloc),
         }),
         None => Attempt::Passes(branch),

@@ -1,10 +1,12 @@
 // Copies of proofs.
 ghost use Rattle.std.specs.Prelude.{◌≡◌, IfOk};
+ghost use Rattle.proof_core.specs.Proof.{by_cases, by_condition, by_past, by_trichotomy};
 ghost use Rattle.proof_core.specs.ProofView.{end_of};
-ghost use Rattle.proof_core.specs.View.{step_of, steps_of};
+ghost use Rattle.proof_core.specs.View.{step_of, steps_of, proofs_of};
 
 use crate::proof::{End, Proof, Step};
 use logic_core::copy::copy_terms;
+use logic_core::term::Term;
 use std::alloc::{AllocError, Global};
 
 impl Step {
@@ -84,62 +86,100 @@ fn copy_end(alloc: Global, end: &End) -> Result<End, AllocError>
             fact,
             first,
             others,
-        } => {
-            let first = copy_boxed(alloc, first)?;
-            Ok(End::Cases {
-                fact: *fact,
-                first,
-                others: copy_proofs(alloc, others)?,
-            })
-        }
+        } => copy_cases(alloc, *fact, first, others),
         End::Condition {
             fact,
             term,
             yes,
             no,
-        } => {
-            let term = term.copy(alloc)?;
-            let yes = copy_boxed(alloc, yes)?;
-            Ok(End::Condition {
-                fact: *fact,
-                term,
-                yes,
-                no: copy_boxed(alloc, no)?,
-            })
-        }
+        } => copy_condition(alloc, *fact, term, yes, no),
         End::Past {
             term,
             below,
             same,
             above,
-        } => {
-            let term = term.copy(alloc)?;
-            let below = copy_boxed(alloc, below)?;
-            let same = copy_boxed(alloc, same)?;
-            Ok(End::Past {
-                term,
-                below,
-                same,
-                above: copy_boxed(alloc, above)?,
-            })
-        }
+        } => copy_past(alloc, term, below, same, above),
         End::Trichotomy {
             term,
             below,
             same,
             above,
-        } => {
-            let term = term.copy(alloc)?;
-            let below = copy_boxed(alloc, below)?;
-            let same = copy_boxed(alloc, same)?;
-            Ok(End::Trichotomy {
-                term,
-                below,
-                same,
-                above: copy_boxed(alloc, above)?,
-            })
-        }
+        } => copy_trichotomy(alloc, term, below, same, above),
     }
+}
+
+#[cycle(copy)]
+fn copy_cases(alloc: Global, fact: u64, first: &Proof, others: &[Proof]) -> Result<End, AllocError>
+    ensures { IfOk result (λ e. end_of e ≡ by_cases fact first.now (proofs_of others.now)) }
+{
+    let first = copy_boxed(alloc, first)?;
+    Ok(End::Cases {
+        fact,
+        first,
+        others: copy_proofs(alloc, others)?,
+    })
+}
+
+#[cycle(copy)]
+fn copy_condition(
+    alloc: Global,
+    fact: u64,
+    term: &Term,
+    yes: &Proof,
+    no: &Proof,
+) -> Result<End, AllocError>
+    ensures { IfOk result (λ e. end_of e ≡ by_condition fact term.now yes.now no.now) }
+{
+    let term = term.copy(alloc)?;
+    let yes = copy_boxed(alloc, yes)?;
+    Ok(End::Condition {
+        fact,
+        term,
+        yes,
+        no: copy_boxed(alloc, no)?,
+    })
+}
+
+#[cycle(copy)]
+fn copy_past(
+    alloc: Global,
+    term: &Term,
+    below: &Proof,
+    same: &Proof,
+    above: &Proof,
+) -> Result<End, AllocError>
+    ensures { IfOk result (λ e. end_of e ≡ by_past term.now below.now same.now above.now) }
+{
+    let term = term.copy(alloc)?;
+    let below = copy_boxed(alloc, below)?;
+    let same = copy_boxed(alloc, same)?;
+    Ok(End::Past {
+        term,
+        below,
+        same,
+        above: copy_boxed(alloc, above)?,
+    })
+}
+
+#[cycle(copy)]
+fn copy_trichotomy(
+    alloc: Global,
+    term: &Term,
+    below: &Proof,
+    same: &Proof,
+    above: &Proof,
+) -> Result<End, AllocError>
+    ensures { IfOk result (λ e. end_of e ≡ by_trichotomy term.now below.now same.now above.now) }
+{
+    let term = term.copy(alloc)?;
+    let below = copy_boxed(alloc, below)?;
+    let same = copy_boxed(alloc, same)?;
+    Ok(End::Trichotomy {
+        term,
+        below,
+        same,
+        above: copy_boxed(alloc, above)?,
+    })
 }
 
 #[cycle(copy)]

@@ -227,13 +227,7 @@ fn proof_of(
 {
     match ending {
         Ending::GoesOn => Ok(only(alloc, begun)),
-        Ending::Closes(f, g) => Ok(ended(
-            alloc,
-            End::Close {
-                first: f,
-                second: g,
-            },
-        )),
+        Ending::Closes { first, second } => Ok(ended(alloc, End::Close { first, second })),
         Ending::Forks(f) => fork(alloc, f, begun),
         Ending::Chooses(f, condition) => chosen_proof(alloc, f, condition, begun),
         Ending::Passes(access) => passed_proof(alloc, access, begun),

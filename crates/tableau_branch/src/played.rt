@@ -14,7 +14,7 @@ pub enum Ending {
     /// On the one branch that the step made.
     GoesOn,
     /// By a close of these two facts: the branch goes.
-    Closes(u64, u64),
+    Closes { first: u64, second: u64 },
     /// By a split of this fact: a branch for each case.
     Forks(u64),
     /// By the condition of this If in this fact: a branch where it holds, and one where it doesn't.
