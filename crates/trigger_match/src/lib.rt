@@ -3,10 +3,10 @@
 #![tactic(auto)]
 
 // The terms found for a quantifier's variables.
-mod found;
+pub mod found;
 
 // A pattern and a term, and a trigger and ground terms.
-mod pattern;
+pub mod pattern;
 mod trigger;
 
 // What the tuples are.
