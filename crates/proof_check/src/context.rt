@@ -1,15 +1,18 @@
 // Where a node of a proof stands: the sorts of the variables there, and the normal facts so far.
-ghost use Rattle.std.specs.Prelude.{◌≡◌, [], ◌∷◌, IfOk, OnOk, option_copied};
+ghost use Rattle.std.specs.Prelude.{◌≡◌, [], ◌∷◌, IfOk, IfErr, OnOk, option_copied};
 ghost use Rattle.logic_core.specs.Normal.{normal};
-ghost use Rattle.proof_core.specs.Context.{Context as context, fact, named, with_fact, appended, appended_each};
+ghost use Rattle.proof_core.specs.Context.{Context as context, fact, named, with_fact, start, appended, appended_each};
 ghost use Rattle.proof_check.specs.Refusals.{Finds, FindsAs};
+ghost use Rattle.proof_check.specs.declared.fault.Refusal.TheVariants.{Unmet};
 ghost use Rattle.proof_check.specs.Added.{extended, with_facts, normal_forms};
 
 use crate::fault::Refusal;
+use logic_core::copy::{copy_sorts, copy_terms};
 use logic_core::def::Def;
 use logic_core::normal::normal_over;
 use logic_core::sort::Sort;
-use logic_core::term::Term;
+use logic_core::term::{Node, Term};
+use obligation_text::obligation::Obligation;
 use std::alloc::{AllocError, Global};
 use std::marker::Model;
 
@@ -81,7 +84,8 @@ impl Context {
 
     /// The fact of this number. Unmet where there is none.
     pub fn fact(&self, f: u64) -> Result<&Term, Refusal>
-        ensures { FindsAs (λ t. t.now) result (fact self.now f) }
+        ensures finds { FindsAs (λ t. t.now) result (fact self.now f) }
+        ensures known { IfErr result (λ e. e ≡ Unmet) }
     {
         self.known(f).ok_or(Refusal::Unmet)
     }
@@ -127,6 +131,25 @@ impl Context {
         self.facts.append(&mut facts)?;
         Ok(())
     }
+}
+
+/// The context at the start: the normal axioms in order, then the normal Not of the goal.
+pub fn start(alloc: Global, o: &Obligation) -> Result<Context, Refusal>
+    ensures { Finds result (start o.now) }
+{
+    let signature = o.signature();
+    let mut formulas = copy_terms(alloc, o.axioms())?;
+    let goal = o.goal().copy(alloc)?;
+    formulas.push(Term::new(Node::Not(Box::new(alloc, goal)?)))?;
+    let none = Context {
+        vars: copy_sorts(alloc, signature.vars())?,
+        facts: Vec::new(alloc),
+    };
+    let facts = none.normal_forms(alloc, signature.defs(), &formulas)?;
+    Ok(Context {
+        vars: none.vars,
+        facts,
+    })
 }
 
 /// The normal form of a formula, as a further fact.

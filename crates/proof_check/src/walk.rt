@@ -2,13 +2,14 @@
 // branch in a loop, and into each child by a call, with the child's facts added and taken away again.
 ghost use Rattle.std.specs.Prelude.{◌≡◌, ◌≢◌, if◌then◌else◌, Ok, IfOk, IfErr, OnOk, length, map};
 ghost use Rattle.logic_core.specs.Valid.{Valid};
+ghost use Rattle.proof_core.specs.Proof.{by_cases, by_condition, by_past, by_trichotomy};
 ghost use Rattle.proof_core.specs.View.{step_of, steps_of, proofs_of};
 ghost use Rattle.proof_core.specs.ProofView.{end_of};
-ghost use Rattle.proof_core.specs.Context.{with_fact, start};
+ghost use Rattle.proof_core.specs.Context.{with_fact};
 ghost use Rattle.proof_core.specs.Steps.{after_step};
 ghost use Rattle.proof_core.specs.Ends.{after_cases, after_condition};
 ghost use Rattle.proof_core.specs.Accepted.{IsAccepted};
-ghost use Rattle.proof_check.specs.Refusals.{Finds, FindsAs};
+ghost use Rattle.proof_check.specs.Refusals.{FindsAs};
 ghost use Rattle.proof_check.specs.Added.{extended, with_facts, Extends};
 ghost use Rattle.proof_core.specs.Close.{closes};
 ghost use Rattle.proof_core.specs.Rule.{first_rule, close};
@@ -18,14 +19,13 @@ ghost use Rattle.proof_check.specs.Checked.{placed, judged_three, JudgesAs, Judg
 ghost use Rattle.proof_check.specs.declared.fault.CheckFault.TheVariants.{Memory};
 
 use crate::children::{Branches, CaseFacts, Signs, past, split_cases, split_condition, trichotomy};
-use crate::context::{Added, Context};
+use crate::context::{Added, Context, start};
 use crate::fault::{CheckFault, Refusal};
 use crate::rules::{
     back, closes, combine, differ, instantiate, replace, skolem, split, tighten, unfold,
 };
-use logic_core::copy::{copy_sorts, copy_terms};
 use logic_core::def::Def;
-use logic_core::term::{Node, Term};
+use logic_core::term::Term;
 use obligation_text::obligation::Obligation;
 use proof_core::proof::{End, Proof, Step};
 use proof_core::rule::Rule;
@@ -200,53 +200,116 @@ fn judge_end(
             fact,
             first,
             others,
-        } => {
-            let cases = at_node(
-                after_cases(alloc, defs, context, *fact, others),
-                node,
-                Rule::Split,
-            )?;
-            let facts = Vec::from_array(alloc, [cases.first])?;
-            let node = judge_child(alloc, defs, context, next(node), facts, first)?;
-            judge_each(alloc, defs, context, node, &cases.others, others)
-        }
+        } => judge_cases(alloc, defs, context, node, *fact, first, others),
         End::Condition {
             fact,
             term,
             yes,
             no,
-        } => {
-            let facts = at_node(
-                after_condition(alloc, defs, context, *fact, term),
-                node,
-                Rule::Split,
-            )?;
-            let node = judge_child(alloc, defs, context, next(node), facts.yes, yes)?;
-            judge_child(alloc, defs, context, node, facts.no, no)
-        }
+        } => judge_condition(alloc, defs, context, node, *fact, term, yes, no),
         End::Past {
             term,
             below,
             same,
             above,
-        } => {
-            let facts = at_node(past(alloc, defs, context, term), node, Rule::Past)?;
-            judge_signs(alloc, defs, context, next(node), facts, below, same, above)
-        }
+        } => judge_past(alloc, defs, context, node, term, below, same, above),
         End::Trichotomy {
             term,
             below,
             same,
             above,
-        } => {
-            let facts = at_node(
-                trichotomy(alloc, defs, context, term),
-                node,
-                Rule::Trichotomy,
-            )?;
-            judge_signs(alloc, defs, context, next(node), facts, below, same, above)
-        }
+        } => judge_trichotomy(alloc, defs, context, node, term, below, same, above),
     }
+}
+
+// A split into cases, with the proofs of the first and of the others.
+#[cycle(judge)]
+fn judge_cases(
+    alloc: Global,
+    defs: &[Def],
+    context: &mut Context,
+    node: u64,
+    f: u64,
+    first: &Proof,
+    others: &[Proof],
+) -> Result<u64, CheckFault>
+    ensures judged { JudgesAs (λ n. n) result (judged_end defs.now node context.old (by_cases f first.now (proofs_of others.now))) }
+    ensures same { OnOk result (context.new ≡ context.old) }
+{
+    let cases = at_node(
+        after_cases(alloc, defs, context, f, others),
+        node,
+        Rule::Split,
+    )?;
+    let facts = Vec::from_array(alloc, [cases.first])?;
+    let node = judge_child(alloc, defs, context, next(node), facts, first)?;
+    judge_each(alloc, defs, context, node, &cases.others, others)
+}
+
+// A split by a condition, with the proofs where it holds and where it doesn't.
+#[cycle(judge)]
+fn judge_condition(
+    alloc: Global,
+    defs: &[Def],
+    context: &mut Context,
+    node: u64,
+    f: u64,
+    term: &Term,
+    yes: &Proof,
+    no: &Proof,
+) -> Result<u64, CheckFault>
+    ensures judged { JudgesAs (λ n. n) result (judged_end defs.now node context.old (by_condition f term.now yes.now no.now)) }
+    ensures same { OnOk result (context.new ≡ context.old) }
+{
+    let facts = at_node(
+        after_condition(alloc, defs, context, f, term),
+        node,
+        Rule::Split,
+    )?;
+    let node = judge_child(alloc, defs, context, next(node), facts.yes, yes)?;
+    judge_child(alloc, defs, context, node, facts.no, no)
+}
+
+// A Read moved past a Write, with the proofs for an index below, at and above the other.
+#[cycle(judge)]
+fn judge_past(
+    alloc: Global,
+    defs: &[Def],
+    context: &mut Context,
+    node: u64,
+    term: &Term,
+    below: &Proof,
+    same: &Proof,
+    above: &Proof,
+) -> Result<u64, CheckFault>
+    ensures judged { JudgesAs (λ n. n) result (judged_end defs.now node context.old (by_past term.now below.now same.now above.now)) }
+    ensures same { OnOk result (context.new ≡ context.old) }
+{
+    let facts = at_node(past(alloc, defs, context, term), node, Rule::Past)?;
+    judge_signs(alloc, defs, context, next(node), facts, below, same, above)
+}
+
+// Trichotomy of a term, with the proofs where it is below, at and above zero.
+#[cycle(judge)]
+fn judge_trichotomy(
+    alloc: Global,
+    defs: &[Def],
+    context: &mut Context,
+    node: u64,
+    term: &Term,
+    below: &Proof,
+    same: &Proof,
+    above: &Proof,
+) -> Result<u64, CheckFault>
+    ensures judged { JudgesAs (λ n. n) result (judged_end defs.now node context.old (by_trichotomy term.now below.now same.now above.now)) }
+    ensures same { OnOk result (context.new ≡ context.old) }
+{
+    let facts = at_node(
+        trichotomy(alloc, defs, context, term),
+        node,
+        Rule::Trichotomy,
+    )?;
+    judge_signs(alloc, defs, context, next(node), facts, below, same, above)
 }
 
 // The proofs of three children in order, each with facts of its own.
@@ -311,25 +374,6 @@ fn judge_each(
         node = judge_child(alloc, defs, context, node, own, &proofs[i])?;
     }
     Ok(node)
-}
-
-// The context at the start: the normal axioms in order, then the normal Not of the goal.
-fn start(alloc: Global, o: &Obligation) -> Result<Context, Refusal>
-    ensures { Finds result (start o.now) }
-{
-    let signature = o.signature();
-    let mut formulas = copy_terms(alloc, o.axioms())?;
-    let goal = o.goal().copy(alloc)?;
-    formulas.push(Term::new(Node::Not(Box::new(alloc, goal)?)))?;
-    let none = Context {
-        vars: copy_sorts(alloc, signature.vars())?,
-        facts: Vec::new(alloc),
-    };
-    let facts = none.normal_forms(alloc, signature.defs(), &formulas)?;
-    Ok(Context {
-        vars: none.vars,
-        facts,
-    })
 }
 
 /// Whether a proof shows its obligation. Ok exactly where every node meets its rule and every branch

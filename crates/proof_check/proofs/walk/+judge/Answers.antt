@@ -20,12 +20,12 @@ judge_child-returns-clause-same t c =
     let facts : c.truncate-2.new.self.items ≡ take (length old.facts) new.facts = search rules in
     cut_back old new c.args.facts.items c.truncate.new.self.items c.truncate-2.new.self.items vars facts more
 
-pub judge_end-returns-in_ok-node-in-Cases-clause-judged : goal.judge_end-returns-in_ok-node-in-Cases-clause-judged
-judge_end-returns-in_ok-node-in-Cases-clause-judged t c =
+pub judge_cases-returns-clause-judged : goal.judge_cases-returns-clause-judged
+judge_cases-returns-clause-judged t c =
     let old = c.args.context.now in
-    let cases = c.in_ok-cases-in-Cases.cases in
-    let others = proofs_of c.in-Cases.others.items in
-    let given : for_each others (after_cases c.args.defs.now old c.in-Cases.fact) ≡ Some (with_fact old cases.first, map (λ t. with_fact old t) cases.others.items) = search rules in
-    let first : judged c.args.defs.now (next c.args.node) (with_fact old cases.first) c.in-Cases.first.value ≡ Ok c.in_ok-node-in-Cases.node = search rules in
-    let each : JudgesAs (λ n. n) c.judge_each.result (judged_each c.args.defs.now c.in_ok-node-in-Cases.node (map (λ t. with_fact old t) cases.others.items) others) = search rules in
-    rw c.in-Cases.is (cases_judged (λ n. n) c.judge_each.result c.args.defs.now c.args.node c.in_ok-node-in-Cases.node old _ _ c.in-Cases.fact c.in-Cases.first.value others given first each)
+    let cases = c.in_ok-cases.cases in
+    let others = proofs_of c.args.others.now in
+    let given : for_each others (after_cases c.args.defs.now old c.args.f) ≡ Some (with_fact old cases.first, map (λ t. with_fact old t) cases.others.items) = search rules in
+    let first : judged c.args.defs.now (next c.args.node) (with_fact old cases.first) c.args.first.now ≡ Ok c.in_ok-node.node = search rules in
+    let each : JudgesAs (λ n. n) c.judge_each.result (judged_each c.args.defs.now c.in_ok-node.node (map (λ t. with_fact old t) cases.others.items) others) = search rules in
+    cases_judged (λ n. n) c.judge_each.result c.args.defs.now c.args.node c.in_ok-node.node old _ _ c.args.f c.args.first.now others given first each
