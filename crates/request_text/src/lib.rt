@@ -16,7 +16,7 @@ pub mod reply;
 mod generator;
 
 pub use generator::generate;
-pub use reading::read_request;
+pub use reading::{LONGEST, read_request};
 pub use replies::write_reply;
 pub use reply::Reply;
 pub use request::{BadRequest, Put, Request};

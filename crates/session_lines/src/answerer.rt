@@ -1,6 +1,7 @@
 // What answers the lines of a session.
 ghost use Rattle.std.specs.Prelude.{◌≡◌, ◌≤◌, ◌*◌, ◌+◌, ◌<◌, ◌^◌, ◌↔◌, ℕ, List, IsTrue, IfOk, OnOk, Err, length};
 ghost use Rattle.vc_build.specs.Large.{count_limit};
+ghost use Rattle.request_text.specs.Reading.{longest};
 ghost use Rattle.request_text.specs.Request.{ended, too_long};
 ghost use Rattle.request_text.specs.RequestView.{IsAnswer};
 ghost use Rattle.request_text.specs.ReplyView.{reply_view};
@@ -86,13 +87,13 @@ impl<L: Ledger> LineSession<L> {
 }
 
 impl<L: Ledger> Answerer for LineSession<L> {
-    ghost LONGEST = { 1_048_576 };
+    ghost LONGEST = { longest };
 
     ghost replies = { RepliesTo };
 
     ghost answered = { HasAnswered };
 
-    const LONGEST: usize = 1_048_576;
+    const LONGEST: usize = request_text::LONGEST;
 
     fn answer(&mut self, line: &[u8]) -> Result<Reply, AllocError> {
         let request = read_request(self.alloc, line);
