@@ -4,3 +4,4 @@ pub mod Sound
 pub mod Openings
 pub mod Counted
 pub mod Spelled
+pub mod SameDecls

@@ -3,3 +3,4 @@ pub mod Opening
 pub mod OpenedView
 pub mod Spelled
 pub mod Laws
+pub mod NoUsers

@@ -1,5 +1,6 @@
 // What declarations are by names and types.
-ghost use Rattle.std.specs.Prelude.{◌≡◌, ◌<◌, length, None, IfOk};
+ghost use Rattle.std.specs.Prelude.{◌≡◌, ◌<◌, length, false, None, IfOk};
+ghost use Rattle.bpl_ast.specs.DeclView.{body_of};
 ghost use Rattle.bpl_declaration_faults.specs.DeclFaults.{fault_of};
 ghost use Rattle.bpl_goto.specs.Forward.{AllGoForward};
 ghost use Rattle.module_laws.specs.Elaborate.{module_of};
@@ -7,9 +8,10 @@ ghost use Rattle.program_faults.specs.FaultView.{SourcesAreShort};
 ghost use Rattle.bpl_sorts.specs.Erased.{erased};
 ghost use Rattle.bpl_sorts.specs.CarrierFaults.{carrier_fault};
 ghost use Rattle.program_opening.specs.Opening.{told_carrier, typing_by_carriers, typing};
+ghost use Rattle.program_opening.specs.NoUsers.{is_user_type, has_user_types};
 ghost use Rattle.program_opening.specs.OpenedView.{IsTypedAs};
 
-use bpl_ast::{Decl, Program};
+use bpl_ast::{Decl, DeclBody, Program};
 use bpl_model::Module;
 use bpl_resolve::{ResolveFault, resolve};
 use bpl_scopes::TypeKind;
@@ -70,10 +72,53 @@ fn with_carriers(alloc: Global, program: &Program, module: Module) -> Result<Typ
     }
 }
 
-/// What the declarations are by names and types: user types are read as integers, and then told from
-/// them and from each other. The only error is want of memory.
+fn is_user_type(body: &DeclBody) -> bool
+    ensures { result ≡ is_user_type (body_of body.now) }
+{
+    match body {
+        DeclBody::TypeName {
+            name: _,
+            synonym: None,
+        } => true,
+        DeclBody::TypeName {
+            name: _,
+            synonym: Some(_),
+        } => false,
+        DeclBody::Const { .. } => false,
+        DeclBody::Function { .. } => false,
+        DeclBody::Axiom(_) => false,
+        DeclBody::Var(_) => false,
+        DeclBody::Procedure { .. } => false,
+        DeclBody::Implementation { .. } => false,
+    }
+}
+
+fn has_user_types(decls: &[Decl]) -> bool
+    ensures { result ≡ has_user_types decls.now }
+{
+    decls.iter().any(|decl| is_user_type(&decl.body))
+}
+
+// What declarations without user types are: as they stand there are no carriers to tell.
+#[tactic(auto, using(crate::proofs::SameDecls::same_typed, crate::proofs::SameDecls::same_faulty, module_laws::proofs::GoesForward::goes_forward, program_faults::proofs::Position::fault_there))]
+fn check_same(alloc: Global, program: &Program) -> Result<Typed, AllocError>
+    requires sources { SourcesAreShort program.now }
+    requires same { has_user_types program.now ≡ false }
+    ensures { IfOk result (λ t. IsTypedAs (typing program.now) t) }
+{
+    match resolve(alloc, program) {
+        Ok(module) => Ok(Typed::Module(module)),
+        Err(ResolveFault::Fault(fault)) => {
+            Ok(Typed::Refused(written_of_program(alloc, &program.decls, fault)?))
+        }
+        Err(ResolveFault::Memory) => Err(AllocError),
+    }
+}
+
+// What declarations are whose user types are read as integers, and then told from them and from each
+// other.
 #[tactic(auto, using(crate::proofs::Openings::faulty_is, crate::proofs::Openings::typed_as, crate::proofs::Openings::sources_stay, module_laws::proofs::GoesForward::goes_forward, program_faults::proofs::Position::fault_there))]
-pub fn type_check(alloc: Global, program: &Program) -> Result<Typed, AllocError>
+fn check_erased(alloc: Global, program: &Program) -> Result<Typed, AllocError>
     requires { SourcesAreShort program.now }
     ensures { IfOk result (λ t. IsTypedAs (typing program.now) t) }
 {
@@ -84,5 +129,18 @@ pub fn type_check(alloc: Global, program: &Program) -> Result<Typed, AllocError>
             Ok(Typed::Refused(written_of_program(alloc, &erased.decls, fault)?))
         }
         Err(ResolveFault::Memory) => Err(AllocError),
+    }
+}
+
+/// What the declarations are by names and types: user types are read as integers, and then told from
+/// them and from each other. The only error is want of memory.
+pub fn type_check(alloc: Global, program: &Program) -> Result<Typed, AllocError>
+    requires { SourcesAreShort program.now }
+    ensures { IfOk result (λ t. IsTypedAs (typing program.now) t) }
+{
+    if has_user_types(&program.decls) {
+        check_erased(alloc, program)
+    } else {
+        check_same(alloc, program)
     }
 }
