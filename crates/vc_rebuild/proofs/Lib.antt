@@ -4,3 +4,4 @@ pub mod Digested
 pub mod WithinLimits
 pub mod Programs
 pub mod KeptGoals
+pub mod NoGotos

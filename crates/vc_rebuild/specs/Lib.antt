@@ -4,3 +4,5 @@ pub mod Inside
 pub mod Looked
 pub mod Within
 pub mod Codes
+pub mod Gotos
+pub mod Plain

@@ -7,6 +7,9 @@
 mod digest;
 mod text;
 
+// Programs without gotos.
+mod gotos;
+
 // Goals that share their obligations, and what is kept of a procedure and of a program.
 pub mod built;
 pub mod kept;

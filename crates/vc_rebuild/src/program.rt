@@ -14,9 +14,9 @@ ghost use Rattle.vc_rebuild.specs.Looked.{IsBefore};
 use crate::built::Built;
 use crate::candidate::{Before, looked_at};
 use crate::collected::Collected;
+use crate::gotos::{plain_of, without_gotos};
 use crate::large::{fault_of, fault_with};
 use crate::procedure::{MadeProc, made_proc};
-use bpl_goto::remove_gotos;
 use bpl_model::{Links, Module, Proc};
 use bv_base::Steps;
 use logic_core::Sequence;
@@ -174,7 +174,8 @@ pub fn rebuild<L: Ledger>(
 {
     equal_dependency_texts_have_equal_obligations();
     old.is_built();
-    let plain = remove_gotos(alloc, module)?;
-    let links = Links::of(alloc, &plain)?;
+    let removed = without_gotos(alloc, module)?;
+    let plain = plain_of(&removed, module);
+    let links = Links::of(alloc, plain)?;
     rebuild_plain(alloc, old, &links, steps)
 }

@@ -18,15 +18,15 @@ abbrev goals_of : Module → List Goal
 goals_of m = flat_map (goals_by_passes m) m.procs
 
 pub rebuild_plain-requires-clause-no_goto : goal.rebuild_plain-requires-clause-no_goto
-rebuild_plain-requires-clause-no_goto g c = subst (λ (x : Module). HaveNoGoto x.procs) (sym (c.in_ok-links.ensures ∙ c.in_ok-plain.ensures.exact)) (without_gotos c.args.module.now)
+rebuild_plain-requires-clause-no_goto g c = subst (λ (x : Module). HaveNoGoto x.procs) (sym (c.in_ok-links.ensures ∙ c.plain_of-plain.ensures)) (without_gotos c.args.module.now)
 
 pub rebuild_plain-requires-clause-decided : goal.rebuild_plain-requires-clause-decided
 rebuild_plain-requires-clause-decided g c =
     let decided = texts_decide c.equal_dependency_texts_have_equal_obligations.ensures c.args.module.now c.requires.resolved c.args.old.now.procs c.is_built.ensures in
-    subst (TextsDecide c.args.old.now.procs) (sym (c.in_ok-links.ensures ∙ c.in_ok-plain.ensures.exact)) decided
+    subst (TextsDecide c.args.old.now.procs) (sym (c.in_ok-links.ensures ∙ c.plain_of-plain.ensures)) decided
 
 pub rebuild_plain-requires-clause-built : goal.rebuild_plain-requires-clause-built
-rebuild_plain-requires-clause-built g c = subst (λ (x : Module). AreBuilt (map (kept_of x) (with_body x))) (sym (c.in_ok-links.ensures ∙ c.in_ok-plain.ensures.exact)) (are_built c.args.module.now c.requires.resolved)
+rebuild_plain-requires-clause-built g c = subst (λ (x : Module). AreBuilt (map (kept_of x) (with_body x))) (sym (c.in_ok-links.ensures ∙ c.plain_of-plain.ensures)) (are_built c.args.module.now c.requires.resolved)
 
 pub returns-clause-goals : goal.returns-clause-goals
 returns-clause-goals g c =
@@ -34,7 +34,7 @@ returns-clause-goals g c =
     let old = c.args.old.now.procs in
     IfOk-weaker c.rebuild_plain.result (λ b. b ≡ program_after old (remove_gotos m)) (λ b. b.procs ≡ built m)
     (λ b e. ap (λ (x : Program). x.procs) e ∙ kept_built m)
-    (subst (λ (x : Module). IfOk c.rebuild_plain.result (λ b. b ≡ program_after old x)) (c.in_ok-links.ensures ∙ c.in_ok-plain.ensures.exact) c.rebuild_plain.ensures.program)
+    (subst (λ (x : Module). IfOk c.rebuild_plain.result (λ b. b ≡ program_after old x)) (c.in_ok-links.ensures ∙ c.plain_of-plain.ensures) c.rebuild_plain.ensures.program)
 
 pub returns-clause-rebuilt : goal.returns-clause-rebuilt
 returns-clause-rebuilt g c =
@@ -42,18 +42,18 @@ returns-clause-rebuilt g c =
     let old = c.args.old.now.procs in
     IfOk-weaker c.rebuild_plain.result (λ b. b ≡ program_after old (remove_gotos m)) (λ b. b.rebuilt ≡ rebuilt old m)
     (λ b e. ap (λ (x : Program). x.rebuilt) e ∙ kept_rebuilt m old)
-    (subst (λ (x : Module). IfOk c.rebuild_plain.result (λ b. b ≡ program_after old x)) (c.in_ok-links.ensures ∙ c.in_ok-plain.ensures.exact) c.rebuild_plain.ensures.program)
+    (subst (λ (x : Module). IfOk c.rebuild_plain.result (λ b. b ≡ program_after old x)) (c.in_ok-links.ensures ∙ c.plain_of-plain.ensures) c.rebuild_plain.ensures.program)
 
 pub returns-clause-within : goal.returns-clause-within
 returns-clause-within g c =
-    subst (λ gs. IfOk c.rebuild_plain.result (λ b. large gs ≡ None)) (ap goals_of (c.in_ok-links.ensures ∙ c.in_ok-plain.ensures.exact) ∙ goals_left c.args.module.now) c.rebuild_plain.ensures.within
+    subst (λ gs. IfOk c.rebuild_plain.result (λ b. large gs ≡ None)) (ap goals_of (c.in_ok-links.ensures ∙ c.plain_of-plain.ensures) ∙ goals_left c.args.module.now) c.rebuild_plain.ensures.within
 
 pub returns-clause-fault : goal.returns-clause-fault
 returns-clause-fault g c =
-    subst (λ gs. IfErr c.rebuild_plain.result (IsFaultOf gs)) (ap goals_of (c.in_ok-links.ensures ∙ c.in_ok-plain.ensures.exact) ∙ goals_left c.args.module.now) c.rebuild_plain.ensures.fault
+    subst (λ gs. IfErr c.rebuild_plain.result (IsFaultOf gs)) (ap goals_of (c.in_ok-links.ensures ∙ c.plain_of-plain.ensures) ∙ goals_left c.args.module.now) c.rebuild_plain.ensures.fault
 
 pub returns-clause-steps : goal.returns-clause-steps
 returns-clause-steps g c =
     let m = c.args.module.now in
     let old = c.args.old.now.procs in
-    subst (λ n. OnOk c.rebuild_plain.result (c.rebuild_plain.new.steps ≡ c.args.steps.now + n)) (ap (λ (x : Module). new_in old x x.procs) (c.in_ok-links.ensures ∙ c.in_ok-plain.ensures.exact) ∙ kept_rebuilt m old) c.rebuild_plain.ensures.steps
+    subst (λ n. OnOk c.rebuild_plain.result (c.rebuild_plain.new.steps ≡ c.args.steps.now + n)) (ap (λ (x : Module). new_in old x x.procs) (c.in_ok-links.ensures ∙ c.plain_of-plain.ensures) ∙ kept_rebuilt m old) c.rebuild_plain.ensures.steps
