@@ -131,16 +131,16 @@ pub fn run_alone<R: AllocGlobal, S: Source, K: Sink>(
 /// those before. `SessionFull` comes exactly where 16,777,216 bytes were taken and a further one was read.
 /// `Memory` is the one free answer. `Done`, `NotAll` and `Refused` come only where the input was read to
 /// its end and the whole answer was written: exactly the report from scratch, what is said of the proofs
-/// or of the points, or the line of the program's first fault. Where no count rises and the input is
-/// within the total, one of these three comes, or `Memory`. Of `gen` the answer is exactly the summary of
-/// the generated program, and neither `ReadFault` nor `SessionFull` comes.
+/// or of the points, or the line of the program's first fault. Where no count rises and the input tells
+/// its bytes and is within the total, one of these three comes, or `Memory`. Of `gen` the answer is
+/// exactly the summary of the generated program, and neither `ReadFault` nor `SessionFull` comes.
 ///
 /// In `serve` what is written are exactly the replies of a session over the lines of the input (clause
 /// `served`): with `Done` to all of them, up to the end or to the quit that ended it; with `ReadFault`, and
 /// with `SessionFull`, which comes exactly where 4,294,967,296 bytes were taken and a further one was read,
 /// to the whole lines taken before; with `WriteFault` a front of the replies, and with `Memory` those to
-/// the first lines. `NotAll` and `Refused` never come; where no count rises and the input is within the
-/// total, `Done` comes, or `Memory`.
+/// the first lines. `NotAll` and `Refused` never come; where no count rises and the input tells its bytes
+/// and is within the total, `Done` comes, or `Memory`.
 ///
 /// Where the text isn't refused, no execution of a procedure that a line of the report calls correct
 /// fails from an entry state; where `accepted` is written, none of any procedure; and none comes to a

@@ -69,6 +69,14 @@ fn a_read_that_fails_leaves_the_replies_before(rt: HostRuntime) -> Result<(), Fa
         Vec::new(rt.alloc()),
     )?;
     assert!(rt; ended == Status::Done && written.as_slice() == REPLIES.as_slice());
+    // an input of one line, whose end isn't found
+    let (ended, written) = serve(
+        &rt,
+        &REQUESTS[..54],
+        failing(rt.alloc(), 54)?,
+        Vec::new(rt.alloc()),
+    )?;
+    assert!(rt; ended == Status::ReadFault && written.as_slice() == &REPLIES[..36]);
     Ok(())
 }
 
@@ -83,13 +91,13 @@ fn a_write_that_fails_leaves_the_bytes_of_the_replies_before(rt: HostRuntime) ->
         )?;
         assert!(rt; ended == Status::WriteFault && written.as_slice() == &REPLIES[..k]);
     }
-    let (ended, _) = serve(
+    let (ended, written) = serve(
         &rt,
         REQUESTS.as_slice(),
         Vec::new(rt.alloc()),
         failing(rt.alloc(), 108)?,
     )?;
-    assert!(rt; ended == Status::Done);
+    assert!(rt; ended == Status::Done && written.as_slice() == REPLIES.as_slice());
     Ok(())
 }
 
