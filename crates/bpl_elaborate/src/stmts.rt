@@ -1,13 +1,14 @@
 // Statements with their terms: an `else if` is the only statement of the other branch.
 ghost use Rattle.std.specs.Prelude.{◌≡◌, option_map, IfOk};
 ghost use Rattle.bpl_ast.specs.ExprView.{exprs_of};
-ghost use Rattle.bpl_ast.specs.Statement.{call};
+ghost use Rattle.bpl_ast.specs.Place.{Name as NameTree};
+ghost use Rattle.bpl_ast.specs.Statement.{assert, assume, call};
 ghost use Rattle.bpl_ast.specs.StmtView.{action_of as action_tree, stmts_of as stmts_tree, branches_of, last_of};
 ghost use Rattle.bpl_scopes.specs.Functions.{in_number_order};
 ghost use Rattle.bpl_scopes.specs.TableView.{entity_seen};
 ghost use Rattle.bpl_faults.specs.ScopeView.{scope_seen};
 ghost use Rattle.bpl_model.specs.StmtView.{stmts_of as module_stmts};
-ghost use Rattle.bpl_model.specs.Module.{if_else, while};
+ghost use Rattle.bpl_model.specs.Module.{«break», if_else, while};
 ghost use Rattle.module_laws.specs.Elaborate.{labelled_as, procedure_number, guard_of, invariants_of, stmts_of, stmt_of, action_of, chain_of, others_of};
 
 use crate::names::{name_of, names_of};
@@ -57,6 +58,50 @@ fn labelled_as(alloc: Global, labels: &[Name], stmt: Typed) -> Result<Typed, All
     }
     let labels = names_of(alloc, labels)?;
     Ok(Typed::new(TypedForm::Labelled(labels, Box::new(alloc, stmt)?)))
+}
+
+fn assert_of<'a>(
+    alloc: Global,
+    scope: &Scope<'_, 'a>,
+    order: &Positions,
+    at: Place,
+    formula: &'a Expr,
+) -> Result<Typed, AllocError>
+    requires { order.now ≡ in_number_order (scope_seen scope.now).table }
+    ensures { IfOk result (λ s. s ≡ action_of (scope_seen scope.now) at (assert formula.now)) }
+{
+    let mark = Mark {
+        place: at,
+        kind: GoalKind::Assert,
+    };
+    let formula = term_of(alloc, scope, order, formula)?;
+    Ok(Typed::new(TypedForm::Assert(mark, formula)))
+}
+
+fn assume_of<'a>(
+    alloc: Global,
+    scope: &Scope<'_, 'a>,
+    order: &Positions,
+    at: Place,
+    formula: &'a Expr,
+) -> Result<Typed, AllocError>
+    requires { order.now ≡ in_number_order (scope_seen scope.now).table }
+    ensures { IfOk result (λ s. s ≡ action_of (scope_seen scope.now) at (assume formula.now)) }
+{
+    let formula = term_of(alloc, scope, order, formula)?;
+    Ok(Typed::new(TypedForm::Assume(at, formula)))
+}
+
+fn break_of(alloc: Global, at: Place, label: &Option<Name>) -> Result<Typed, AllocError>
+    ensures { IfOk result (λ s. s ≡ «break» at (option_map (λ (n : NameTree). n.text) label.now)) }
+{
+    match label {
+        None => Ok(Typed::new(TypedForm::Break(at, None))),
+        Some(label) => {
+            let label = name_of(alloc, label)?;
+            Ok(Typed::new(TypedForm::Break(at, Some(label))))
+        }
+    }
 }
 
 #[tactic(auto, using(crate::proofs::StmtLists::arguments_are))]
@@ -141,18 +186,8 @@ fn action_of<'a>(
     ensures { IfOk result (λ s. s ≡ action_of (scope_seen scope.now) at (action_tree form.now)) }
 {
     match form {
-        StmtForm::Assert(formula) => {
-            let mark = Mark {
-                place: at,
-                kind: GoalKind::Assert,
-            };
-            let formula = term_of(alloc, scope, order, formula)?;
-            Ok(Typed::new(TypedForm::Assert(mark, formula)))
-        }
-        StmtForm::Assume(formula) => {
-            let formula = term_of(alloc, scope, order, formula)?;
-            Ok(Typed::new(TypedForm::Assume(at, formula)))
-        }
+        StmtForm::Assert(formula) => assert_of(alloc, scope, order, at, formula),
+        StmtForm::Assume(formula) => assume_of(alloc, scope, order, at, formula),
         StmtForm::Havoc(names) => {
             let targets = target_numbers(alloc, scope, names)?;
             Ok(Typed::new(TypedForm::Havoc(at, targets)))
@@ -169,11 +204,7 @@ fn action_of<'a>(
             let body = stmts_of(alloc, scope, order, body)?;
             while_of(alloc, scope, order, at, guard, invariants, body)
         }
-        StmtForm::Break(None) => Ok(Typed::new(TypedForm::Break(at, None))),
-        StmtForm::Break(Some(label)) => {
-            let label = name_of(alloc, label)?;
-            Ok(Typed::new(TypedForm::Break(at, Some(label))))
-        }
+        StmtForm::Break(label) => break_of(alloc, at, label),
         StmtForm::Return => Ok(Typed::new(TypedForm::Return(at))),
         StmtForm::Goto(labels) => {
             let labels = names_of(alloc, labels)?;

@@ -1,41 +1,26 @@
 // The faults and the sort of an expression, in one walk.
-ghost use Rattle.std.specs.Prelude.{◌≡◌, [], ◌∷◌, ◌&&◌, true, false, Some, IfOk, OnOk, drop, slice_get};
+ghost use Rattle.std.specs.Prelude.{◌≡◌, ◌&&◌, false, Some, IfOk, OnOk};
 ghost use Rattle.logic_core.specs.Sorts.{is, choice_sort};
 ghost use Rattle.logic_core.specs.Wide.{when};
 ghost use Rattle.logic_core.specs.Tree.{int, boolean};
 ghost use Rattle.bpl_ast.specs.Tree.{variable, apply, choose, related, sums, indexed, quantified};
 ghost use Rattle.bpl_ast.specs.ExprView.{exprs_of, terms_of, indices_of, triggers_of, groups_of, relation_of, quantifier_of};
 ghost use Rattle.bpl_scopes.specs.Fault.{earlier, first_fault};
-ghost use Rattle.bpl_scopes.specs.Sorts.{node_sort, sort_in, sorts_in, all_are, are_same, are_ints, are_patterns, all_known, indices_sort, relation_sort, sort_of_meaning};
+ghost use Rattle.bpl_scopes.specs.Sorts.{node_sort, sort_in, sorts_in, all_are, are_ints, indices_sort, relation_sort};
 ghost use Rattle.bpl_scopes.specs.Shape.{kind_of, kind_seen};
-ghost use Rattle.bpl_scopes.specs.KnownSorts.{shapes_seen};
-ghost use Rattle.bpl_faults.specs.ExprFaults.{expr_faults, node_faults, operand_faults, argument_faults, term_faults, index_faults, trigger_faults, pattern_faults, comparison_faults, faults_as};
-ghost use Rattle.bpl_faults.specs.Arguments.{argument_fits, one_argument_faults, texts_seen};
-ghost use Rattle.bpl_faults.specs.ScopeView.{scope_seen, meaning_seen};
+ghost use Rattle.bpl_faults.specs.ExprFaults.{expr_faults, node_faults, operand_faults, faults_as};
+ghost use Rattle.bpl_faults.specs.ScopeView.{scope_seen};
 
 use crate::listed::{group_names, note_again, texts_of};
-use crate::name_faults::{note_map, note_old, note_same_sort, note_sort, note_variable};
-use crate::patterns::is_trigger;
+use crate::name_faults::{note_old, note_same_sort, note_sort, note_variable};
 use crate::scope::Scope;
-use crate::sorts::{
-    choice_sort, entry_sort, is_same, note_comparison, read_sort, relation_sort, when, write_sort,
-};
+use crate::sorts::{choice_sort, note_comparison, relation_sort, when};
 use bpl_ast::{
     Expr, ExprForm, Group, Index, Name, Quantifier, Relation, Term, Trigger, TypeParams,
 };
 use bpl_scopes::{Faults, Shape, TypeKind, is};
 use bv_base::place::Place;
 use std::alloc::{AllocError, Global};
-
-// The sorts behind the first.
-fn tail(sorts: &[Option<Shape>]) -> &[Option<Shape>]
-    ensures { result.now ≡ drop 1 sorts.now }
-{
-    match sorts.split_first() {
-        Some((_, rest)) => rest,
-        None => sorts,
-    }
-}
 
 impl<'s, 'a> Scope<'s, 'a> {
     /// The sort of an expression; its faults are found.
@@ -115,7 +100,7 @@ impl<'s, 'a> Scope<'s, 'a> {
         self.sort_of_meaning(meaning)
     }
 
-    // The sort of an expression and its faults, where it has to have that sort.
+    /// The sort of an expression and its faults, where it has to have that sort.
     #[cycle(exprs)]
     #[tactic(auto, using(bpl_scopes::proofs::FirstFault::joins))]
     pub fn expr_as(
@@ -132,28 +117,6 @@ impl<'s, 'a> Scope<'s, 'a> {
         let found = self.expr(alloc, is_formula, x, faults)?;
         note_sort(faults, wanted, found, x.at);
         Ok(is(wanted, found))
-    }
-
-    // Whether all operands have that sort.
-    #[cycle(exprs)]
-    #[tactic(auto, using(bpl_scopes::proofs::FirstFault::joins))]
-    fn operands(
-        &self,
-        alloc: Global,
-        is_formula: bool,
-        wanted: Shape,
-        xs: &'a [Expr],
-        faults: &mut Faults,
-    ) -> Result<bool, AllocError>
-        ensures sorts { IfOk result (λ b. b ≡ all_are (kind_of wanted) (sorts_in (scope_seen self.now) (exprs_of xs.now))) }
-        ensures faults { OnOk result (faults.new.first ≡ earlier faults.old.first (first_fault (operand_faults (scope_seen self.now) is_formula (kind_of wanted) (exprs_of xs.now)))) }
-    {
-        let mut all = true;
-        for x in xs {
-            let fits = self.expr_as(alloc, is_formula, wanted, x, faults)?;
-            all = all && fits;
-        }
-        Ok(all)
     }
 
     #[cycle(exprs)]
@@ -271,36 +234,6 @@ impl<'s, 'a> Scope<'s, 'a> {
     }
 
     #[cycle(exprs)]
-    fn term(&self, alloc: Global, term: &'a Term, faults: &mut Faults) -> Result<bool, AllocError>
-        ensures sort { IfOk result (λ b. b ≡ are_ints (scope_seen self.now) (terms_of (term.now ∷ []))) }
-        ensures faults { OnOk result (faults.new.first ≡ earlier faults.old.first (first_fault (term_faults (scope_seen self.now) (terms_of (term.now ∷ []))))) }
-    {
-        match term {
-            Term::Plus(x) => self.expr_as(alloc, false, Shape::int(), x, faults),
-            Term::Less(x) => self.expr_as(alloc, false, Shape::int(), x, faults),
-        }
-    }
-
-    #[cycle(exprs)]
-    #[tactic(auto, using(bpl_scopes::proofs::FirstFault::joins))]
-    fn terms(
-        &self,
-        alloc: Global,
-        terms: &'a [Term],
-        faults: &mut Faults,
-    ) -> Result<bool, AllocError>
-        ensures sorts { IfOk result (λ b. b ≡ are_ints (scope_seen self.now) (terms_of terms.now)) }
-        ensures faults { OnOk result (faults.new.first ≡ earlier faults.old.first (first_fault (term_faults (scope_seen self.now) (terms_of terms.now)))) }
-    {
-        let mut all = true;
-        for term in terms {
-            let fits = self.term(alloc, term, faults)?;
-            all = all && fits;
-        }
-        Ok(all)
-    }
-
-    #[cycle(exprs)]
     #[tactic(auto, using(bpl_scopes::proofs::FirstFault::joins))]
     fn indexed(
         &self,
@@ -314,55 +247,6 @@ impl<'s, 'a> Scope<'s, 'a> {
     {
         let map = self.expr(alloc, false, x, faults)?;
         self.indices(alloc, x.at, map, indices, faults)
-    }
-
-    // The sort after an index of what begins there.
-    #[cycle(exprs)]
-    #[tactic(auto, using(bpl_scopes::proofs::FirstFault::joins))]
-    fn index(
-        &self,
-        alloc: Global,
-        at: Place,
-        map: Option<Shape>,
-        index: &'a Index,
-        faults: &mut Faults,
-    ) -> Result<Option<Shape>, AllocError>
-        ensures sort { IfOk result (λ r. kind_seen r ≡ indices_sort (scope_seen self.now) (kind_seen map) (indices_of (index.now ∷ []))) }
-        ensures faults { OnOk result (faults.new.first ≡ earlier faults.old.first (first_fault (index_faults (scope_seen self.now) at (kind_seen map) (indices_of (index.now ∷ []))))) }
-    {
-        note_map(faults, map, at);
-        match index {
-            Index::Read(x) => {
-                let is_int = self.expr_as(alloc, false, Shape::int(), x, faults)?;
-                Ok(read_sort(map, is_int))
-            }
-            Index::Write(x, y) => {
-                let is_int = self.expr_as(alloc, false, Shape::int(), x, faults)?;
-                let value = self.expr(alloc, false, y, faults)?;
-                note_same_sort(faults, entry_sort(map), value, y.at);
-                Ok(write_sort(map, is_int, value))
-            }
-        }
-    }
-
-    #[cycle(exprs)]
-    #[tactic(auto, using(bpl_scopes::proofs::FirstFault::joins))]
-    fn indices(
-        &self,
-        alloc: Global,
-        at: Place,
-        map: Option<Shape>,
-        indices: &'a [Index],
-        faults: &mut Faults,
-    ) -> Result<Option<Shape>, AllocError>
-        ensures sort { IfOk result (λ r. kind_seen r ≡ indices_sort (scope_seen self.now) (kind_seen map) (indices_of indices.now)) }
-        ensures faults { OnOk result (faults.new.first ≡ earlier faults.old.first (first_fault (index_faults (scope_seen self.now) at (kind_seen map) (indices_of indices.now)))) }
-    {
-        let mut sort = map;
-        for index in indices {
-            sort = self.index(alloc, at, sort, index, faults)?;
-        }
-        Ok(sort)
     }
 
     #[cycle(exprs)]
@@ -390,52 +274,6 @@ impl<'s, 'a> Scope<'s, 'a> {
         let sorts = self.parameter_sorts(alloc, meaning)?;
         let fit = self.arguments(alloc, &sorts, xs, faults)?;
         self.value_sort(meaning, fit)
-    }
-
-    /// Whether arguments have these sorts, and are as many.
-    #[cycle(exprs)]
-    #[tactic(auto, using(bpl_scopes::proofs::FirstFault::joins))]
-    pub fn arguments(
-        &self,
-        alloc: Global,
-        sorts: &[Option<Shape>],
-        xs: &'a [Expr],
-        faults: &mut Faults,
-    ) -> Result<bool, AllocError>
-        ensures sorts { IfOk result (λ b. b ≡ are_same (shapes_seen sorts.now) (sorts_in (scope_seen self.now) (exprs_of xs.now))) }
-        ensures faults { OnOk result (faults.new.first ≡ earlier faults.old.first (first_fault (argument_faults (scope_seen self.now) (shapes_seen sorts.now) (exprs_of xs.now)))) }
-    {
-        let mut all = true;
-        let mut rest = sorts;
-        for x in xs {
-            let fits = self.argument(alloc, rest, x, faults)?;
-            all = all && fits;
-            rest = tail(rest);
-        }
-        Ok(all && rest.is_empty())
-    }
-
-    // Whether an argument has the first of these sorts, where there is one.
-    #[cycle(exprs)]
-    #[tactic(auto, using(bpl_scopes::proofs::FirstFault::joins))]
-    fn argument(
-        &self,
-        alloc: Global,
-        sorts: &[Option<Shape>],
-        x: &'a Expr,
-        faults: &mut Faults,
-    ) -> Result<bool, AllocError>
-        ensures sort { IfOk result (λ b. b ≡ argument_fits (slice_get sorts.now 0) (sort_in (scope_seen self.now) x.now)) }
-        ensures faults { OnOk result (faults.new.first ≡ earlier faults.old.first (first_fault (one_argument_faults (scope_seen self.now) (slice_get sorts.now 0) x.now))) }
-    {
-        let found = self.expr(alloc, false, x, faults)?;
-        match sorts.first() {
-            Some(wanted) => {
-                note_same_sort(faults, *wanted, found, x.at);
-                Ok(is_same(*wanted, found))
-            }
-            None => Ok(false),
-        }
     }
 
     #[cycle(exprs)]
@@ -468,47 +306,5 @@ impl<'s, 'a> Scope<'s, 'a> {
         let is_body = inner.expr_as(alloc, true, Shape::boolean(), body, faults)?;
         let are_known = self.are_known(groups)?;
         Ok(when(are_known && (are_patterns && is_body), Shape::boolean()))
-    }
-
-    // Whether each pattern has a sort.
-    #[cycle(exprs)]
-    #[tactic(auto, using(bpl_scopes::proofs::FirstFault::joins))]
-    fn triggers(
-        &self,
-        alloc: Global,
-        variables: &[&[u8]],
-        triggers: &'a [Trigger],
-        faults: &mut Faults,
-    ) -> Result<bool, AllocError>
-        ensures sorts { IfOk result (λ b. b ≡ are_patterns (scope_seen self.now) (triggers_of triggers.now)) }
-        ensures faults { OnOk result (faults.new.first ≡ earlier faults.old.first (first_fault (trigger_faults (scope_seen self.now) (texts_seen variables.now) (triggers_of triggers.now)))) }
-    {
-        let mut all = true;
-        for trigger in triggers {
-            let is_built = is_trigger(variables, &trigger.patterns);
-            faults.note_unless(is_built, TypeKind::Trigger, trigger.at);
-            let known = self.patterns(alloc, &trigger.patterns, faults)?;
-            all = all && known;
-        }
-        Ok(all)
-    }
-
-    #[cycle(exprs)]
-    #[tactic(auto, using(bpl_scopes::proofs::FirstFault::joins))]
-    fn patterns(
-        &self,
-        alloc: Global,
-        xs: &'a [Expr],
-        faults: &mut Faults,
-    ) -> Result<bool, AllocError>
-        ensures sorts { IfOk result (λ b. b ≡ all_known (sorts_in (scope_seen self.now) (exprs_of xs.now))) }
-        ensures faults { OnOk result (faults.new.first ≡ earlier faults.old.first (first_fault (pattern_faults (scope_seen self.now) (exprs_of xs.now)))) }
-    {
-        let mut all = true;
-        for x in xs {
-            let sort = self.expr(alloc, false, x, faults)?;
-            all = all && sort.is_some();
-        }
-        Ok(all)
     }
 }

@@ -13,8 +13,9 @@ pub mod name_faults;
 mod patterns;
 pub mod sorts;
 
-// The walk over expressions.
+// The walk over expressions, and over what they have several of.
 pub mod exprs;
+mod parts;
 
 pub use meaning::Meaning;
 pub use scope::Scope;

@@ -12,6 +12,7 @@ use crate::scope::Scope;
 use bpl_scopes::{Entity, Faults, Part, Shape, TypeKind};
 use bv_base::place::Place;
 
+/// Whether globals may be read in such a part.
 pub fn reads_globals(part: Part) -> bool
     ensures { result ≡ reads_globals part }
 {

@@ -17,6 +17,7 @@ use Rattle.bpl_scopes.specs.Scopes.{Text, Contract, Entity, a_constant, a_global
 use Rattle.bpl_scopes.specs.Sorts.{sort_in, sort_of_meaning, sorts_of_names}
 use Rattle.bpl_faults.specs.NameFaults.{same_sort_faults, map_faults}
 use Rattle.bpl_faults.specs.ExprFaults.{faults_as, formula_faults, argument_faults, count}
+use Rattle.bpl_statement_faults.specs.declared.labels.TheConstants.{LABELS}
 
 -- the global variables that a procedure modifies
 abbrev pub spec_names : Spec → List Name
@@ -78,9 +79,9 @@ abbrev pub first_label_faults : List Name → List Fault
 first_label_faults [] = []
 first_label_faults (n ∷ ns) = fault many_labels n.at
 
--- the 501st of them
+-- the first of them that is one too many
 abbrev pub many_labels_faults : Stmts → List Fault
-many_labels_faults ss = first_label_faults (drop 500 (named_labels ss))
+many_labels_faults ss = first_label_faults (drop LABELS (named_labels ss))
 
 -- where a body stands: its scope, what its procedure modifies, where it is one's, and the labels of all its statements
 pub record BodyScope : Type 0 where

@@ -7,12 +7,16 @@ ghost use Rattle.bpl_scopes.specs.Fault.{is_among, earlier, first_fault};
 ghost use Rattle.bpl_scopes.specs.Scopes.{texts_of};
 ghost use Rattle.bpl_faults.specs.Arguments.{names_seen};
 ghost use Rattle.bpl_statement_faults.specs.StackView.{let_through};
+ghost use Rattle.bpl_statement_faults.specs.declared.labels.TheConstants.{LABELS};
 ghost use Rattle.bpl_statement_faults.specs.StmtFaults.{labels_of, labels_in, branch_labels, goto_labels, goto_labels_in, branch_goto_labels, first_label_faults, many_labels_faults};
 
 use bpl_ast::{Branch, Name, Stmt, StmtForm};
 use bpl_faults::listed::push_names;
 use bpl_scopes::{Faults, Positions, TypeKind};
 use std::alloc::{AllocError, Global};
+
+/// How many labels gotos may name in one body.
+pub const LABELS: usize = 500;
 
 /// Puts the labels of statements, those inside them too, behind others.
 #[cycle(labels)]
@@ -145,7 +149,7 @@ fn push_named<'a>(found: &mut Positions<'a>, labels: &'a [Name]) -> Result<(), A
     Ok(())
 }
 
-/// Finds the 501st of the labels that gotos name.
+/// Finds the first of the labels that gotos name that is one too many.
 pub(crate) fn note_many(
     alloc: Global,
     labels: &[&Name],
@@ -175,11 +179,11 @@ fn let_through(left: usize, is_named: bool) -> Option<usize>
     Some(left - 1)
 }
 
-// Finds the 501st of the labels that are named.
+// Finds the first of the labels that are named that is one too many.
 fn note_beyond(named: &Positions, labels: &[&Name], faults: &mut Faults)
-    ensures { faults.new.first ≡ earlier faults.old.first (first_fault (first_label_faults (drop 500 (filter (λ (n : name). is_among named.now n.text) (names_seen labels.now))))) }
+    ensures { faults.new.first ≡ earlier faults.old.first (first_fault (first_label_faults (drop LABELS (filter (λ (n : name). is_among named.now n.text) (names_seen labels.now))))) }
 {
-    let mut left: usize = 500;
+    let mut left: usize = LABELS;
     for label in labels {
         match let_through(left, named.contains(label.text.as_bytes())) {
             Some(next) => left = next,

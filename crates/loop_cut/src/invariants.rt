@@ -10,7 +10,7 @@ use flow_core::command::copy_numbers;
 use flow_core::{Block, Command, GoalKind, Invariant, LoopHead, Mark};
 use std::alloc::{AllocError, Global};
 
-// At a head: any values for the targets with which every invariant holds, free or not.
+/// At a head: any values for the targets with which every invariant holds, free or not.
 pub fn push_at_head(
     alloc: Global,
     head: &Option<LoopHead>,
@@ -38,7 +38,7 @@ fn push_assumed(
     Ok(())
 }
 
-// Before the edges of block `b`: the invariants of the heads to which they go.
+/// Before the edges of block `b`: the invariants of the heads to which they go.
 pub fn push_before_edges(
     alloc: Global,
     blocks: &[Block],

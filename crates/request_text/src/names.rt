@@ -9,7 +9,7 @@ use indexmap::IndexSet;
 use std::alloc::{AllocError, Global};
 use std::marker::Model;
 
-// Names that have been seen.
+/// Names that have been seen.
 #[derive(Drop)]
 pub struct Seen<'a> {
     names: IndexSet<&'a [u8]>,
