@@ -4,6 +4,7 @@ use Rattle.std.specs.List.{AllByRecursion, range_with_len}
 use Rattle.std.proofs.Common.{arith, ⊎_elim}
 use Rattle.std.proofs.lemmas.List.{length-map}
 use Rattle.std.proofs.lemmas.List.Elements.{All-from_recursion, All-contains}
+use Rattle.logic_core.proofs.Booleans.{both_true}
 use Rattle.logic_core.specs.Tree.{Kind}
 use Rattle.logic_core.specs.Def.{Def}
 use Rattle.logic_core.specs.Sorts.{is, sort_of, bodies_sorted}
@@ -19,7 +20,6 @@ use Rattle.bpl_model.specs.Contract.{end_checks}
 use Rattle.bpl_model.specs.Typed.{MayBeSet}
 use Rattle.bpl_blocks.specs.Targets.{list_size}
 use Rattle.bpl_blocks.specs.Blocks.{block, assume_all, at_entry, list_blocks, blocks_of, to_blocks}
-use Rattle.bpl_blocks.proofs.RunSorts.{and_left, and_right}
 use Rattle.bpl_blocks.proofs.RunMentions.{below, below_is}
 use Rattle.bpl_blocks.proofs.RunWell.{BodyIsWell}
 use Rattle.bpl_blocks.proofs.RunSets.{Only, of_each, of_assumes, of_clauses, list_set}
@@ -38,8 +38,8 @@ bodies_below vars before [] h = tt
 bodies_below vars before (d ∷ ds) h =
     let s = is d.sort (sort_of vars before (reverse d.params) d.body) in
     let rest = bodies_sorted vars (before ++ d ∷ []) ds in (
-      below_is vars before d.body (reverse d.params) d.sort (below vars before d.body (reverse d.params)) (and_left (is d.sort (sort_of vars before (reverse d.params) d.body)) (bodies_sorted vars (before ++ d ∷ []) ds) h),
-      bodies_below vars (before ++ d ∷ []) ds (and_right (is d.sort (sort_of vars before (reverse d.params) d.body)) (bodies_sorted vars (before ++ d ∷ []) ds) h),
+      below_is vars before d.body (reverse d.params) d.sort (below vars before d.body (reverse d.params)) (both_true (is d.sort (sort_of vars before (reverse d.params) d.body)) (bodies_sorted vars (before ++ d ∷ []) ds) h).0,
+      bodies_below vars (before ++ d ∷ []) ds (both_true (is d.sort (sort_of vars before (reverse d.params) d.body)) (bodies_sorted vars (before ++ d ∷ []) ds) h).1,
     )
 
 olds_above : (a k n : ℕ) → AllByRecursion (λ v. a ≤ v) (map (λ (p : ℕ × ℕ). p.1) (map (λ g. (g, g + k)) (range_with_len a n)))

@@ -1,6 +1,7 @@
 -- In a program in which no function leads to itself no name stands twice in the order of functions.
-use Rattle.std.proofs.Common.{◌≡◌, refl, ap, sym, ◌∙◌, inl, inr, ◌⊎◌, subst, ℕ, zero, suc, ◌+◌, ◌-◌, ◌≤◌, arith, Bool, true, false, ◌||◌, List, [], ◌∷◌, ◌++◌, length, Option, Some, None}
+use Rattle.std.proofs.Common.{◌≡◌, refl, ap, sym, ◌∙◌, inl, inr, ◌⊎◌, subst, ℕ, zero, suc, ◌+◌, ◌-◌, ◌≤◌, arith, Bool, true, false, List, [], ◌∷◌, ◌++◌, length, Option, Some, None}
 use Rattle.std.specs.Prelude.{bytes_eq, fold, cond, option_map, slice_get}
+use Rattle.logic_core.proofs.Booleans.{neither}
 use Rattle.logic_laws.proofs.DefinedSorts.{last_or_before}
 use Rattle.bpl_scopes.specs.Fault.{is_among}
 use Rattle.bpl_scopes.specs.Positions.{first_at}
@@ -14,18 +15,10 @@ use Rattle.module_laws.proofs.FunctionOrder.{IsFunction, NextOf, either_side, ne
 abbrev pub Distinct : List Text → Type 0
 Distinct os = (k : ℕ) (n : Text) → slice_get os k ≡ Some n → first_at n os ≡ Some k
 
-none_first : (a b : Bool) → (a || b) ≡ false → a ≡ false
-none_first true b e = e
-none_first false b e = refl
-
-none_second : (a b : Bool) → (a || b) ≡ false → b ≡ false
-none_second true b e = cc
-none_second false b e = e
-
 at_behind : (n : Text) (os : List Text) → is_among os n ≡ false → first_at n (os ++ n ∷ []) ≡ Some (length os)
 at_behind n [] e = ap (λ r. cond r (Some 0) (option_map suc (first_at n []))) (text_itself n)
-at_behind n (m ∷ os) e = ap (λ r. cond r (Some 0) (option_map suc (first_at n (os ++ n ∷ [])))) (none_first (bytes_eq n m) (is_among os n) e)
-    ∙ ap (option_map suc) (at_behind n os (none_second (bytes_eq n m) (is_among os n) e))
+at_behind n (m ∷ os) e = ap (λ r. cond r (Some 0) (option_map suc (first_at n (os ++ n ∷ [])))) (neither (bytes_eq n m) (is_among os n) e).0
+    ∙ ap (option_map suc) (at_behind n os (neither (bytes_eq n m) (is_among os n) e).1)
 
 first_stays : (m : Text) (os ns : List Text) (k : ℕ) → first_at m os ≡ Some k → first_at m (os ++ ns) ≡ Some k
 first_stays m [] ns k e = cc

@@ -21,6 +21,14 @@ pub and_both : (a b : Bool) → IsTrue a → IsTrue b → IsTrue (a && b)
 and_both true b h k = k
 and_both false b h k = absurd (cc)
 
+pub or_first : (a b : Bool) → IsTrue a → IsTrue (a || b)
+or_first true b h = refl
+or_first false b h = absurd (cc)
+
+pub or_second : (a b : Bool) → IsTrue b → IsTrue (a || b)
+or_second true b h = refl
+or_second false b h = h
+
 pub no_and_second : (a b : Bool) → b ≡ false → (a && b) ≡ false
 no_and_second true b h = h
 no_and_second false b h = refl

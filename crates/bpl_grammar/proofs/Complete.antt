@@ -1,7 +1,7 @@
 -- A part's spellings and beginnings go on in what is left after their first token.
-use Rattle.std.specs.Prelude.{◌≡◌, ℕ, zero, suc, Bool, true, false, ◌&&◌, ◌||◌, List, [], ◌∷◌, IsTrue, Option, Some, None, ◌⊎◌}
+use Rattle.std.specs.Prelude.{◌≡◌, ℕ, zero, suc, Bool, true, false, ◌&&◌, List, [], ◌∷◌, IsTrue, Option, Some, None, ◌⊎◌}
 use Rattle.std.proofs.Common.{refl, inl, inr, ◌∙◌}
-use Rattle.bpl_grammar.proofs.Booleans.{and_both, and_parts as and_true}
+use Rattle.bpl_grammar.proofs.Booleans.{and_both, and_parts as and_true, or_first, or_second}
 use Rattle.bpl_lex.specs.Token.{Kind}
 use Rattle.bpl_grammar.specs.Lexeme.{Lexeme, is_kind, reads}
 use Rattle.bpl_grammar.specs.Part.{Part, inside, nothing, ◌⨟◌, ◌∣◌, maybe, many}
@@ -37,14 +37,6 @@ in_order_back : (b : Bool) → IsTrue b → (l m : Option Part) (q : Part) (ts v
 in_order_back true e l m q ts vs h = takes_right (onto l q) m ts vs h
 in_order_back false e l m q ts vs h = absurd (cc)
 
-pub or_left : (a b : Bool) → IsTrue a → IsTrue (a || b)
-or_left true b h = refl
-or_left false b h = absurd (cc)
-
-pub or_right : (a b : Bool) → IsTrue b → IsTrue (a || b)
-or_right true b h = refl
-or_right false b h = h
-
 pub enough_next : (a b c : Bool) → IsTrue (c && elim a [ true ↦ b | false ↦ true ]) → IsTrue a → IsTrue b
 enough_next true b true h e = h
 enough_next true b false h e = absurd (cc)
@@ -71,11 +63,11 @@ cut_both n p q ts us vs (inl h) d ih = cut_back n p q ts us vs h.0 h.1 (ih h.1)
 cut_both n p q ts us vs (inr h) d ih = inr (h.0, h.1, h.2, in_order_front (empties n p) (left_after n h.0 p) (left_after n h.0 q) q h.1 vs (takes_onto (left_after n h.0 p) q h.1 us vs h.3 d))
 
 cut_left : (n : ℕ) (p q : Part) (ts us : List Lexeme) → IsCut n p ts us → IsCut n (p ∣ q) ts us
-cut_left n p q ts us (inl h) = inl (h.0, or_left (empties n p) (empties n q) h.1)
+cut_left n p q ts us (inl h) = inl (h.0, or_first (empties n p) (empties n q) h.1)
 cut_left n p q ts us (inr h) = inr (h.0, h.1, h.2, takes_left (left_after n h.0 p) (left_after n h.0 q) h.1 us h.3)
 
 cut_right : (n : ℕ) (p q : Part) (ts us : List Lexeme) → IsCut n q ts us → IsCut n (p ∣ q) ts us
-cut_right n p q ts us (inl h) = inl (h.0, or_right (empties n p) (empties n q) h.1)
+cut_right n p q ts us (inl h) = inl (h.0, or_second (empties n p) (empties n q) h.1)
 cut_right n p q ts us (inr h) = inr (h.0, h.1, h.2, takes_right (left_after n h.0 p) (left_after n h.0 q) h.1 us h.3)
 
 cut_present : (n : ℕ) (p : Part) (ts us : List Lexeme) → IsCut n p ts us → IsCut n (maybe p) ts us

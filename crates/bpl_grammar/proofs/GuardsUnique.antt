@@ -1,6 +1,7 @@
 -- Guards, invariants and variables that lexemes spell are those that are read.
 use Rattle.std.specs.Prelude.{◌≡◌, ℕ, zero, suc, ◌+◌, Bool, true, false, ◌||◌, List, [], ◌∷◌, codes, Ok, Some, None}
 use Rattle.std.proofs.Common.{refl, inl, ap, ◌∙◌, arith}
+use Rattle.bpl_grammar.proofs.Booleans.{or_first, or_second}
 use Rattle.bpl_ast.specs.Tree.{Expr, Groups}
 use Rattle.bpl_ast.specs.Statement.{Guard, Invariant}
 use Rattle.bpl_grammar.specs.Lexeme.{Lexeme}
@@ -14,7 +15,6 @@ use Rattle.bpl_grammar.specs.ReadStatements.{guard_with, read_guard, read_expr, 
 use Rattle.bpl_grammar.specs.Types.{Is}
 use Rattle.bpl_grammar.specs.Expressions.{E}
 use Rattle.bpl_grammar.specs.Statements as s
-use Rattle.bpl_grammar.proofs.Complete.{or_left, or_right}
 use Rattle.bpl_grammar.proofs.Agree.{takes_e, groups_listed}
 use Rattle.bpl_grammar.proofs.AgreeStatements as agree
 use Rattle.bpl_grammar.proofs.Found.{same_found, followed_ok, read_as_ok}
@@ -47,8 +47,8 @@ an_inv us = sees (fixed (codes "free")) us || sees (fixed (codes "invariant")) u
 
 invs_rep : {ls us : List Lexeme} {is : List Invariant} → s.Invs placed ls us is → Rep an_inv InvAt ls us is
 invs_rep s.Invs.none = ended
-invs_rep (s.Invs.checked {t = t} i d r) = further (or_right (is (fixed (codes "free")) t) (is (fixed (codes "invariant")) t) i) (checked i d) (invs_rep r)
-invs_rep (s.Invs.free {t = t} i j d r) = further (or_left (is (fixed (codes "free")) t) (is (fixed (codes "invariant")) t) i) (free i j d) (invs_rep r)
+invs_rep (s.Invs.checked {t = t} i d r) = further (or_second (is (fixed (codes "free")) t) (is (fixed (codes "invariant")) t) i) (checked i d) (invs_rep r)
+invs_rep (s.Invs.free {t = t} i j d r) = further (or_first (is (fixed (codes "free")) t) (is (fixed (codes "invariant")) t) i) (free i j d) (invs_rep r)
 
 var_leaves : Leaves VarAt
 var_leaves = λ ls us x d. left ls us x d

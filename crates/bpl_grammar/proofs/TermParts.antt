@@ -1,6 +1,7 @@
 -- Expressions, taken apart as they are read, from operands on, and the tokens that go on with them.
 use Rattle.std.specs.Prelude.{◌≡◌, false, List, [], ◌∷◌, codes, IsTrue, Some, None}
 use Rattle.std.proofs.Common.{refl, ap, sym, ◌∙◌}
+use Rattle.bpl_grammar.proofs.Booleans.{or_first, or_second}
 use Rattle.bpl_ast.specs.Tree.{Relation, Expr, expr, sums, Exprs, no_exprs, item as one_more, Terms, plus, less, Node, first_place, run}
 use Rattle.bpl_ast.specs.ExprView.{exprs_of, terms_of}
 use Rattle.bpl_ast.specs.declared.expr.Term.{Term}
@@ -10,7 +11,6 @@ use Rattle.bpl_grammar.specs.Terminal.{Terminal, fixed, is, sees_any}
 use Rattle.bpl_grammar.specs.ReadExpressions.{joined, sum_of, relation_at}
 use Rattle.bpl_grammar.specs.Types.{Is}
 use Rattle.bpl_grammar.specs.Expressions.{IsRelation, is_eq, is_ne, is_lt, is_le, is_gt, is_ge, Iffs, Imp, Chain, Log, Ands, Ors, Rel, Sum, Terms', Prod, Factors, Un, iffs_last, iffs_more, chain_last, chain_more, ands_last, ands_more, ors_last, ors_more, sum_alone, sum_more, last_plus, last_less, more_plus, more_less, factors_last, factors_more}
-use Rattle.bpl_grammar.proofs.Complete.{or_left, or_right}
 use Rattle.bpl_grammar.proofs.TypeTrees.{placed}
 use Rattle.bpl_grammar.proofs.TermTrees.{joined_run, TermAt, by_plus, by_less, a_term}
 use Rattle.bpl_grammar.proofs.Spelled.{other}
@@ -101,10 +101,10 @@ record TermsOf (ls us : List Lexeme) (ts : Terms) : Type 0 where
   same : terms_of (first ∷ others) ≡ ts
 
 plus_begins : (t : Lexeme) (ts : List Lexeme) → Is "+" t → IsTrue (a_term (t ∷ ts))
-plus_begins t ts i = or_left (is (fixed (codes "+")) t) (is (fixed (codes "-")) t) i
+plus_begins t ts i = or_first (is (fixed (codes "+")) t) (is (fixed (codes "-")) t) i
 
 less_begins : (t : Lexeme) (ts : List Lexeme) → Is "-" t → IsTrue (a_term (t ∷ ts))
-less_begins t ts i = or_right (is (fixed (codes "+")) t) (is (fixed (codes "-")) t) i
+less_begins t ts i = or_second (is (fixed (codes "+")) t) (is (fixed (codes "-")) t) i
 
 terms_parts : {ls us : List Lexeme} {ts : Terms} → Terms' placed ls us ts → TermsOf ls us ts
 terms_parts (last_plus {t = t} {ts = ts} {x = x} i d) = record { first = Plus x; others = []; rep = further (plus_begins t ts i) (by_plus i d) ended; same = refl }

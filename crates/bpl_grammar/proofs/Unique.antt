@@ -1,6 +1,7 @@
 -- What lexemes spell and what is read of them are the same, with as many lexemes: items one after another.
-use Rattle.std.specs.Prelude.{◌≡◌, ℕ, zero, suc, ◌<◌, ◌≤◌, Bool, true, false, ◌||◌, List, [], ◌∷◌, drop, length, IsTrue, Ok, Err, ◌⊎◌}
+use Rattle.std.specs.Prelude.{◌≡◌, ℕ, zero, suc, ◌<◌, ◌≤◌, Bool, true, false, List, [], ◌∷◌, drop, length, IsTrue, Ok, Err, ◌⊎◌}
 use Rattle.std.proofs.Common.{refl, inl, inr, ap, sym, ◌∙◌, arith}
+use Rattle.bpl_grammar.proofs.Booleans.{neither}
 use Rattle.bpl_grammar.specs.Lexeme.{Lexeme}
 use Rattle.bpl_grammar.specs.Judge.{Narrow, syntax}
 use Rattle.bpl_grammar.specs.Terminal.{Terminal, is, is_any, sees, sees_any, apart_from}
@@ -37,21 +38,13 @@ Leaves {A} P = (ls us : List Lexeme) (x : A) → P ls us x → Suffix ls us
 
 -- none of several tokens is there
 
-or_first : (a b : Bool) → (a || b) ≡ false → a ≡ false
-or_first true b h = absurd (cc (h))
-or_first false b h = refl
-
-or_second : (a b : Bool) → (a || b) ≡ false → b ≡ false
-or_second true b h = absurd (cc (h))
-or_second false b h = h
-
 pub quiet_head : (c : Terminal) (cs : List Terminal) (us : List Lexeme) → sees_any (c ∷ cs) us ≡ false → sees c us ≡ false
 quiet_head c cs [] h = refl
-quiet_head c cs (t ∷ ts) h = or_first (is c t) (is_any cs t) h
+quiet_head c cs (t ∷ ts) h = (neither (is c t) (is_any cs t) h).0
 
 pub quiet_tail : (c : Terminal) (cs : List Terminal) (us : List Lexeme) → sees_any (c ∷ cs) us ≡ false → sees_any cs us ≡ false
 quiet_tail c cs [] h = refl
-quiet_tail c cs (t ∷ ts) h = or_second (is c t) (is_any cs t) h
+quiet_tail c cs (t ∷ ts) h = (neither (is c t) (is_any cs t) h).1
 
 pub quiet_behind : (c : Terminal) (cs : List Terminal) (us : List Lexeme) → IsTrue (apart_from c cs) → IsTrue (sees c us) → sees_any cs us ≡ false
 quiet_behind c cs [] a h = refl

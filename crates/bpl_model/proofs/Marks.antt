@@ -4,6 +4,7 @@ use Rattle.std.specs.List.{list_any, flat_map}
 use Rattle.std.proofs.Common.{arith, sym, ap, ◌∙◌, subst, get_or, drop, length-set, get_or-set_same, get_or-set_other}
 use Rattle.std.proofs.lemmas.Bool.{eqb-true, eqb-false, or_cases, or_left, or_right, cases_lt}
 use Rattle.std.proofs.lemmas.List.{get_or_default, get_or_past, at_drop_more}
+use Rattle.logic_core.proofs.Booleans.{or_true, or_false}
 use mathlib.Core.Logic.{inl, inr}
 use Rattle.bpl_model.specs.Module.{DeclText}
 use Rattle.bpl_model.specs.Marking.{Marking, is_marked, mark, mark_all, settled, follow_on}
@@ -29,17 +30,9 @@ marks_length s (d ∷ ds) = marks_length (mark s d) ds ∙ mark_length s d
 pub set_at : (ms : List Bool) (d e : ℕ) → e < length ms → is_marked (slice_set ms d true) e ≡ (is_marked ms e || (d == e))
 set_at ms d e l = by (d == e) refl
   where
-    or_true : (b : Bool) → true ≡ (b || true)
-    or_true true = refl
-    or_true false = refl
-
-    or_false : (b : Bool) → b ≡ (b || false)
-    or_false true = refl
-    or_false false = refl
-
     by : (b : Bool) → (d == e) ≡ b → is_marked (slice_set ms d true) e ≡ (is_marked ms e || b)
-    by true k = let s : d ≡ e = eqb-true d e k in subst (λ x. is_marked (slice_set ms x true) e ≡ true) (sym s) (get_or-set_same ms e true false l) ∙ or_true (is_marked ms e)
-    by false k = let s : e ≡ d → ⊥ = λ q. eqb-false d e k (sym q) in get_or-set_other ms d e true false s ∙ or_false (is_marked ms e)
+    by true k = let s : d ≡ e = eqb-true d e k in subst (λ x. is_marked (slice_set ms x true) e ≡ true) (sym s) (get_or-set_same ms e true false l) ∙ sym (or_true (is_marked ms e))
+    by false k = let s : e ≡ d → ⊥ = λ q. eqb-false d e k (sym q) in get_or-set_other ms d e true false s ∙ sym (or_false (is_marked ms e))
 
 mark_at : (s : Marking) (d e : ℕ) → e < length s.marks → is_marked (mark s d).marks e ≡ (is_marked s.marks e || (d == e))
 mark_at s d e l = by (slice_index_or s.marks d true) refl
@@ -49,11 +42,7 @@ mark_at s d e l = by (slice_index_or s.marks d true) refl
         let q : d ≡ e = eqb-true d e k in
         let m : is_marked s.marks e ≡ true = get_or_default s.marks e false true l ∙ subst (λ x. slice_index_or s.marks x true ≡ true) q h in
         m ∙ sym (or_left (is_marked s.marks e) true m)
-    there false k h = same (is_marked s.marks e)
-      where
-        same : (b : Bool) → b ≡ (b || false)
-        same true = refl
-        same false = refl
+    there false k h = sym (or_false (is_marked s.marks e))
 
     by : (b : Bool) → slice_index_or s.marks d true ≡ b → is_marked (cond b s (record { marks = slice_set s.marks d true; fresh = s.fresh ++ d ∷ [] })).marks e ≡ (is_marked s.marks e || (d == e))
     by true h = there (d == e) refl h ∙ refl
@@ -61,11 +50,7 @@ mark_at s d e l = by (slice_index_or s.marks d true) refl
 
 -- a mark stands where one stood, or at one of the positions
 pub marks_after : (s : Marking) (ds : List ℕ) (e : ℕ) → e < length s.marks → is_marked (mark_all s ds).marks e ≡ (is_marked s.marks e || list_any (λ y. y == e) ds)
-marks_after s [] e l = same (is_marked s.marks e)
-  where
-    same : (b : Bool) → b ≡ (b || false)
-    same true = refl
-    same false = refl
+marks_after s [] e l = sym (or_false (is_marked s.marks e))
 marks_after s (d ∷ ds) e l =
     marks_after (mark s d) ds e (subst (λ n. e < n) (sym (mark_length s d)) l)
     ∙ ap (λ b. b || list_any (λ y. y == e) ds) (mark_at s d e l)

@@ -4,7 +4,7 @@ use Rattle.std.specs.List.{list_any, range_with_len, flat_map}
 use Rattle.std.proofs.Common.{arith, sym, ap, ◌∙◌, subst}
 use Rattle.std.proofs.lemmas.Bool.{eqb-true, eq-eqb, or_cases, or_left, or_right}
 use Rattle.std.proofs.lemmas.List.Folds.{list_any-append}
-use Rattle.logic_core.proofs.Booleans.{same_test as agree}
+use Rattle.logic_core.proofs.Booleans.{same_test as agree, and_false}
 use mathlib.Core.Logic.{inl, inr}
 
 abbrev pub In : List ℕ → ℕ → Type 0
@@ -57,14 +57,10 @@ among_filter t (y ∷ ys) x = by (y == x) refl (t y) refl (among_filter t ys x)
   where
     by : (b : Bool) → (y == x) ≡ b → (c : Bool) → t y ≡ c → list_any (λ z. z == x) (filter t ys) ≡ (list_any (λ z. z == x) ys && t x) → list_any (λ z. z == x) (cond c (y ∷ filter t ys) (filter t ys)) ≡ ((b || list_any (λ z. z == x) ys) && t x)
     by true e true k h = ap (λ b. b || list_any (λ z. z == x) (filter t ys)) e ∙ sym (ap t (sym (eqb-true y x e)) ∙ k)
-    by true e false k h = h ∙ (λ i. list_any (λ z. z == x) ys && f i) ∙ none (list_any (λ z. z == x) ys) ∙ sym f
+    by true e false k h = h ∙ (λ i. list_any (λ z. z == x) ys && f i) ∙ and_false (list_any (λ z. z == x) ys) ∙ sym f
       where
         f : t x ≡ false
         f = ap t (sym (eqb-true y x e)) ∙ k
-
-        none : (b : Bool) → (b && false) ≡ false
-        none true = refl
-        none false = refl
     by false e true k h = ap (λ b. b || list_any (λ z. z == x) (filter t ys)) e ∙ h
     by false e false k h = h
 

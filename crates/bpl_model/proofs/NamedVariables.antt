@@ -1,10 +1,10 @@
 -- A variable is among those that a term names exactly where it occurs in the term, and what no such variable is.
-use Rattle.std.proofs.Common.{◌≡◌, ◌∙◌, refl, sym, ap, subst, ℕ, nat_eq, eq-eqb, Bool, true, false, ◌||◌, not, List, [], ◌∷◌, ◌++◌, ◌↔◌}
+use Rattle.std.proofs.Common.{◌≡◌, ◌∙◌, refl, sym, ap, subst, ℕ, nat_eq, eq-eqb, Bool, true, ◌||◌, not, List, [], ◌∷◌, ◌++◌, ◌↔◌}
 use Rattle.std.specs.Prelude.{Contains}
 use Rattle.std.specs.List.{list_any}
 use Rattle.std.proofs.lemmas.List.Folds.{Any-from_list_any, list_any-from_Any}
 use Rattle.std.proofs.lemmas.Bool.{both_ways, not-true, not_from_false, false_from_ne_true, eqb-true}
-use Rattle.logic_core.proofs.Booleans.{or_false}
+use Rattle.logic_core.proofs.Booleans.{or_false, or_assoc}
 use Rattle.logic_core.specs.Tree.{Tree, num, truth, free, bound, linear, mul, read, write, choose, call, negation, all, some, equal, at_most, for_all, exists, Trees, no_trees, tree, Parts, no_parts, part, Patterns, no_patterns, pattern}
 use Rattle.logic_core.specs.Same.{same_term}
 use Rattle.logic_core.specs.Subterm.{has_any, has_part, has_pattern, occurs}
@@ -19,13 +19,9 @@ pub any_passes : {X : Type 0} (p : X → Bool) (xs : List X) (x : X) → Contain
 any_passes p xs x m h = list_any-from_Any p xs (m.0, x, m.1, m.2, h)
 
 -- of two lists one after another
-or_assoc : (a b c : Bool) → (a || (b || c)) ≡ ((a || b) || c)
-or_assoc true b c = refl
-or_assoc false b c = refl
-
 any_of_both : (p : ℕ → Bool) (xs ys : List ℕ) → list_any p (xs ++ ys) ≡ (list_any p xs || list_any p ys)
 any_of_both p [] ys = refl
-any_of_both p (x ∷ xs) ys = ap (λ r. p x || r) (any_of_both p xs ys) ∙ or_assoc (p x) (list_any p xs) (list_any p ys)
+any_of_both p (x ∷ xs) ys = ap (λ r. p x || r) (any_of_both p xs ys) ∙ sym (or_assoc (p x) (list_any p xs) (list_any p ys))
 
 module _ (v : ℕ) where
   abbrev among : List ℕ → Bool

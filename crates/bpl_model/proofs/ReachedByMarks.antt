@@ -7,6 +7,7 @@ use Rattle.std.proofs.lemmas.List.{length-replicate}
 use Rattle.std.proofs.lemmas.List.Concat.{flat_map-append}
 use Rattle.std.proofs.lemmas.List.Elements.{All-from_recursion, All-get_or}
 use Rattle.std.proofs.lemmas.List.Folds.{list_any-append}
+use Rattle.logic_core.proofs.Booleans.{both_true}
 use mathlib.Core.Logic.{inl, inr}
 use lib.ListN.{replicate}
 use Rattle.bpl_model.specs.Module.{Name, DeclText, Proc, Module}
@@ -88,14 +89,10 @@ module _ (m : Module) (typed : AllByRecursion (IsText m) m.texts) where
   leads_inside : (n : Name) (r : ℕ) → In (leads_of ts (positions m) n) r → r < count
   leads_inside n r h =
       let o = in_flat (λ d. (text_at ts d).leads) (filter (is_named m n) (positions m)) r h in
-      let at : In (positions m) o.0 = fst_true (among (positions m) o.0) (is_named m n o.0) (sym (among_filter (is_named m n) (positions m) o.0) ∙ o.1) in
+      let at : In (positions m) o.0 = (both_true (among (positions m) o.0) (is_named m n o.0) (sym (among_filter (is_named m n) (positions m) o.0) ∙ o.1)).0 in
       let below = (range_in 0 count o.0 at).1 in
       let text : IsText m (decl_at m o.0) = All-get_or (IsText m) m.texts o.0 (record { name = []; text = []; contract = []; leads = []; contract_leads = [] }) (omega (below, arith)) (All-from_recursion (IsText m) m.texts typed) in
       each_in (λ k. k < count) (decl_at m o.0).leads r text.0 o.2
-    where
-      fst_true : (a b : Bool) → (a && b) ≡ true → a ≡ true
-      fst_true true b e = refl
-      fst_true false b e = e
 
   same_rounds : (n : ℕ) (R : List ℕ) → reach_on m n R ≡ rounds.reach_on count leads (mentioned m) (is_axiom m) n R
   same_rounds zero R = refl

@@ -8,6 +8,7 @@ use Rattle.std.proofs.lemmas.List.{get_or-take, get_or_default, length-take}
 use Rattle.std.proofs.lemmas.List.Folds.{list_any-append, list_any_none, list_any_at}
 use Rattle.std.proofs.lemmas.List.Elements.{All-weaker}
 use Rattle.std.proofs.lemmas.List.Sorted.{list_any-IsPermutation}
+use Rattle.logic_core.proofs.Booleans.{or_false, or_true}
 use Rattle.bpl_model.specs.Rising.{inside}
 
 abbrev has : List ℕ → ℕ → Bool
@@ -30,14 +31,6 @@ filter_none p low (suc n) h =
 
 has_more : (xs : List ℕ) (x v : ℕ) → has (xs ++ x ∷ []) v ≡ (has xs v || (x == v || false))
 has_more xs x v = list_any-append (λ y. y == v) xs (x ∷ [])
-
-or_false : (a : Bool) → (a || (false || false)) ≡ a
-or_false true = refl
-or_false false = refl
-
-or_true : (a : Bool) → (a || (true || false)) ≡ true
-or_true true = refl
-or_true false = refl
 
 other_stays : (xs : List ℕ) (x v : ℕ) → ¬ (x ≡ v) → has (xs ++ x ∷ []) v ≡ has xs v
 other_stays xs x v ne = has_more xs x v ∙ (ap (λ b. has xs v || (b || false)) (ne_eqb x v ne) ∙ or_false (has xs v))

@@ -6,6 +6,7 @@ use Rattle.std.proofs.Common.{sym, ap, ◌∙◌, subst, get_or, length-set, get
 use Rattle.std.proofs.lemmas.Bool.{eqb-true, eqb-false}
 use Rattle.std.proofs.lemmas.List.{length-replicate, map-set, get_or-map}
 use Rattle.std.proofs.lemmas.List.Folds.{list_any-append}
+use Rattle.logic_core.proofs.Booleans.{or_false, and_false}
 use lib.ListN.{replicate}
 use Rattle.bpl_model.specs.Module.{Name, DeclText}
 use Rattle.bpl_model.specs.Walk.{text_at, is_at, rows_of, row, with_entry, with_mentions, with_axioms}
@@ -13,15 +14,11 @@ use Rattle.bpl_model.specs.Walk.{text_at, is_at, rows_of, row, with_entry, with_
 abbrev among : List ℕ → ℕ → Bool
 among xs x = list_any (λ y. y == x) xs
 
-or_false : (b : Bool) → b ≡ (b || false)
-or_false true = refl
-or_false false = refl
-
 entry_at : (T : List (List ℕ)) (l d r x : ℕ) → r < length T → among (row (with_entry T l d) r) x ≡ (among (row T r) x || ((l == r) && (d == x)))
 entry_at T l d r x lt = by (l == r) refl
   where
     one : among (d ∷ []) x ≡ (d == x)
-    one = sym (or_false (d == x))
+    one = or_false (d == x)
 
     by : (b : Bool) → (l == r) ≡ b → among (row (with_entry T l d) r) x ≡ (among (row T r) x || (b && (d == x)))
     by true e =
@@ -30,7 +27,7 @@ entry_at T l d r x lt = by (l == r) refl
         ap (λ ys. among ys x) same ∙ list_any-append (λ y. y == x) (row T r) (d ∷ []) ∙ ap (λ b. among (row T r) x || b) one
     by false e =
         let s : r ≡ l → ⊥ = λ q. eqb-false l r e (sym q) in
-        ap (λ ys. among ys x) (get_or-set_other T l r (row T l ++ d ∷ []) [] s) ∙ or_false (among (row T r) x)
+        ap (λ ys. among ys x) (get_or-set_other T l r (row T l ++ d ∷ []) [] s) ∙ sym (or_false (among (row T r) x))
 
 pub empty_row : (n r : ℕ) → row (replicate n []) r ≡ []
 empty_row zero r = refl
@@ -54,7 +51,7 @@ module _ (ts : List DeclText) (symbols : List Name) where
 
   mentions_at : (d : ℕ) (T : List (List ℕ)) (ls : List ℕ) (r x : ℕ) → r < length T
       → among (row (with_mentions ts symbols d T ls) r) x ≡ (among (row T r) x || (among (filter (is_at ts symbols) ls) r && (d == x)))
-  mentions_at d T [] r x lt = or_false (among (row T r) x)
+  mentions_at d T [] r x lt = sym (or_false (among (row T r) x))
   mentions_at d T (l ∷ ls) r x lt = by (is_at ts symbols l) (λ U k. mentions_at d U ls r x k)
     where
       F : Bool
@@ -81,7 +78,7 @@ module _ (ts : List DeclText) (symbols : List Name) where
     names x r = is_at ts axioms x && among (filter (is_at ts symbols) (text_at ts x).leads) r
 
     axioms_at : (T : List (List ℕ)) (ds : List ℕ) (r x : ℕ) → r < length T → among (row (with_axioms ts symbols axioms T ds) r) x ≡ (among (row T r) x || (among ds x && names x r))
-    axioms_at T [] r x lt = or_false (among (row T r) x)
+    axioms_at T [] r x lt = sym (or_false (among (row T r) x))
     axioms_at T (d ∷ ds) r x lt = by (is_at ts axioms d) refl (λ U k. axioms_at U ds r x k)
       where
         -- one that names r, at d
@@ -113,11 +110,7 @@ module _ (ts : List DeclText) (symbols : List Name) where
             other : (e : Bool) → (d == x) ≡ e → (among ds x && names x r) ≡ ((e || among ds x) && names x r)
             other true k =
                 let n : names x r ≡ false = subst (λ z. names z r ≡ false) (eqb-true d x k) (ap (λ b. b && among (filter (is_at ts symbols) (text_at ts d).leads) r) t) in
-                (λ i. among ds x && n i) ∙ nothing (among ds x) ∙ sym n
-              where
-                nothing : (b : Bool) → (b && false) ≡ false
-                nothing true = refl
-                nothing false = refl
+                (λ i. among ds x && n i) ∙ and_false (among ds x) ∙ sym n
             other false k = refl
 
     pub row_is : (ds : List ℕ) (r x : ℕ) → r < length ts → among ds x ≡ true → among (row (with_axioms ts symbols axioms (replicate (length ts) []) ds) r) x ≡ names x r

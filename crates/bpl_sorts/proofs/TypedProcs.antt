@@ -2,6 +2,7 @@
 use Rattle.std.proofs.Common.{◌≡◌, ◌∙◌, refl, sym, ap, subst, ℕ, Bool, true, false, ◌&&◌, bytes_eq, Option, Some, None, List, [], ◌∷◌, ◌++◌, map}
 use Rattle.std.specs.Prelude.{⊤, flat_map}
 use Rattle.std.specs.List.{AllByRecursion}
+use Rattle.logic_core.proofs.Booleans.{both_true}
 use Rattle.logic_core.specs.Tree.{Kind}
 use Rattle.logic_core.specs.Same.{same_kind}
 use Rattle.bpl_ast.specs.Place.{Name, Ty as Written, Params}
@@ -22,7 +23,7 @@ use Rattle.bpl_declaration_faults.specs.Variables.{in_vars, out_vars, local_vars
 use Rattle.bpl_declaration_faults.specs.DeclFaults.{fault_of, signature_faults, parameter_clause_faults, spec_faults, local_faults, body_faults, has_body, optional_locals, agree, same_texts, same_groups, same_parameters, implemented_faults, implemented_modifies, decl_faults, Before}
 use Rattle.bpl_terms.specs.Terms.{sort_or_int, term_of}
 use Rattle.module_laws.specs.Elaborate.{Implemented, or_else, implements, own_body, stmts_of, clause_terms, proc_locals, proc_body, proc_of, spec_of}
-use Rattle.module_laws.proofs.Below.{same_is, first_true, second_true}
+use Rattle.module_laws.proofs.Below.{same_is}
 use Rattle.module_laws.proofs.HasSort.{Known, first_empty, second_empty, unless_empty}
 use Rattle.module_laws.proofs.Faultless.{TypesKnown, groups_known}
 use Rattle.module_laws.proofs.Ways.{same_text}
@@ -47,7 +48,7 @@ use Rattle.bpl_sorts.proofs.TypedClauses.{with_clauses, groups_typed}
 agree_first : (o p : Option Kind) (os ps : List (Option Kind)) → Known o → Known p → agree (o ∷ os) (p ∷ ps) ≡ true → (o ≡ p) × (agree os ps ≡ true)
 agree_first None p os ps h g e = let bad = h.1 in absurd (cc)
 agree_first (Some j) None os ps h g e = let bad = g.1 in absurd (cc)
-agree_first (Some j) (Some k) os ps h g e = (ap Some (same_is j k (first_true _ _ e)), second_true (same_kind j k) _ e)
+agree_first (Some j) (Some k) os ps h g e = (ap Some (same_is j k (both_true _ _ e).0), (both_true (same_kind j k) _ e).1)
 
 module _ (ds : List Decl) (none : fault_of (E ds) ≡ None) (nope : fault_of (A ds) ≡ None) where
   abbrev T : Types
@@ -230,9 +231,9 @@ module _ (ds : List Decl) (none : fault_of (E ds) ≡ None) (nope : fault_of (A 
           record {
             is_fine = record { first = f; second = g };
             ins_same = agreed _ _ (names_of d.signature.ins) (names_of h.ins) (known d.signature d.signature.ins x.ins_fine) (known h h.ins f.ins_fine) (known_too d.signature d.signature.ins y.ins_fine) (known_too h h.ins g.ins_fine)
-                (second_true (same_texts (names_in d.signature.ins) (names_in h.ins)) _ (first_true _ _ v)) (second_true (same_texts (names_in d.signature.ins) (names_in h.ins)) _ (first_true _ _ w));
+                (both_true (same_texts (names_in d.signature.ins) (names_in h.ins)) _ (both_true _ _ v).0).1 (both_true (same_texts (names_in d.signature.ins) (names_in h.ins)) _ (both_true _ _ w).0).1;
             outs_same = agreed _ _ (names_of d.signature.outs) (names_of h.outs) (known d.signature d.signature.outs x.outs_fine) (known h h.outs f.outs_fine) (known_too d.signature d.signature.outs y.outs_fine) (known_too h h.outs g.outs_fine)
-                (second_true (same_texts (names_in d.signature.outs) (names_in h.outs)) _ (second_true (same_groups (TE ds) d.signature h d.signature.ins h.ins) _ v)) (second_true (same_texts (names_in d.signature.outs) (names_in h.outs)) _ (second_true (same_groups (TA ds) d.signature h d.signature.ins h.ins) _ w));
+                (both_true (same_texts (names_in d.signature.outs) (names_in h.outs)) _ (both_true (same_groups (TE ds) d.signature h d.signature.ins h.ins) _ v).1).1 (both_true (same_texts (names_in d.signature.outs) (names_in h.outs)) _ (both_true (same_groups (TA ds) d.signature h d.signature.ins h.ins) _ w).1).1;
             modified = implemented_modifies (TE ds) (entity_of (TE ds) m.text);
             others = implemented_modifies (TA ds) (entity_of (TA ds) m.text);
             first = second_empty (again twice [] (names_in_body h b.locals)) _ e4;

@@ -3,6 +3,7 @@ use Rattle.std.proofs.Common.{◌≡◌, ◌∙◌, refl, sym, ap, subst, ℕ, p
 use Rattle.std.specs.Prelude.{flat_map, slice_get}
 use Rattle.std.specs.List.{AllByRecursion, AllZip}
 use Rattle.std.proofs.lemmas.Bool.{eqb-true}
+use Rattle.logic_core.proofs.Booleans.{both_true}
 use Rattle.bv_base.specs.declared.place.Place.{Place}
 use Rattle.logic_core.specs.Tree.{Kind, boolean, free}
 use Rattle.flow_core.specs.declared.block.Invariant.{Invariant as BlockInvariant}
@@ -20,7 +21,6 @@ use Rattle.bpl_statement_faults.specs.StmtFaults.{BodyScope, Position, labels_of
 use Rattle.bpl_declaration_faults.specs.DeclFaults.{fault_of}
 use Rattle.bpl_terms.specs.Terms.{meaning_term, term_of}
 use Rattle.module_laws.specs.Elaborate.{number_of_term, target_number, target_numbers, assignments, arguments, procedure_number, guard_of, labelled_as, stmts_of, stmt_of, action_of, chain_of, others_of}
-use Rattle.module_laws.proofs.Below.{first_true, second_true}
 use Rattle.module_laws.proofs.HasSort.{first_empty, second_empty, has_same}
 use Rattle.module_laws.proofs.Faultless.{TypesKnown, groups_known}
 use Rattle.module_laws.proofs.EntriesFine.{entity_fine}
@@ -173,8 +173,8 @@ module _ (ds : List Decl) (none : fault_of (E ds) ≡ None) (nope : fault_of (A 
           let ku : (gs : Groups) → group_type_faults (TA ds) hidden gs ≡ [] → TypesKnown (TA ds) hidden (names_of gs) = λ gs w. groups_known (TA ds) hidden (fine_type (TA ds) (CA ds none nope types in_body at) (fine (A ds) nope) hidden) gs w in
           let r = counted_true _ (map (target_sort s) xs) (sorts_of_names (TE ds) hidden outs) f.at (first_empty _ _ e) in
           let r' = counted_true _ (map (target_sort u) xs) (sorts_of_names (TA ds) hidden outs) f.at (first_empty _ _ g') in
-          let many = eqb-true (length ins) (count es) (first_true _ _ r.0) in
-          let others = eqb-true (length outs) (length xs) (second_true (nat_eq (length ins) (count es)) _ r.0) in
+          let many = eqb-true (length ins) (count es) (both_true _ _ r.0).0 in
+          let others = eqb-true (length outs) (length xs) (both_true (nat_eq (length ins) (count es)) _ r.0).1 in
           let n = types_numbered ds f.text (a_procedure k d) a in
           record {
             callee = n.0;

@@ -3,7 +3,7 @@ use Rattle.std.specs.Prelude.{◌≡◌, ℕ, ◌<◌, ◌^◌, Bool, true, fals
 use Rattle.std.specs.List.{list_all}
 use Rattle.std.proofs.Common.{refl, ap, sym, ◌∙◌, arith}
 use Rattle.std.proofs.lemmas.List.Folds.{list_all-append}
-use Rattle.bpl_grammar.proofs.Booleans.{no_and_second as and_no}
+use Rattle.bpl_grammar.proofs.Booleans.{no_and_second as and_no, and_parts, or_first}
 use Rattle.bpl_lex.specs.Token.{Kind, id, number as number_kind, text, sign, word as word_kind}
 use Rattle.bpl_lex.specs.Shape.{is_letter, is_digit, is_identifier, is_number, is_string, is_sign, among, words, is_blank, is_line_comment, is_block_comment, opens_comment, kind_of, Piece, token, piece_of}
 use Rattle.bpl_lex.proofs.FirstBytes.{differs'}
@@ -29,13 +29,6 @@ apart_from w k c ys s e p o h = alone_by w k c ys s p o h ∙ same (kind_in w) k
 piece_from : (w : List ℕ) (k : Kind) → is_blank w ≡ false → (is_line_comment w || is_block_comment w) ≡ false → kind_of w ≡ Some k → piece_of w ≡ Some (token k)
 piece_from w k b c e = rw (b, c, e) refl
 
-pub both : (a b : Bool) → (a && b) ≡ true → (a ≡ true) × (b ≡ true)
-both true b h = (refl, h)
-both false b h = absurd (cc)
-
-or_yes : (a b : Bool) → a ≡ true → (a || b) ≡ true
-or_yes a b h = rw h refl
-
 -- names and words
 
 name_bytes : (bytes xs : List ℕ) (c : ℕ) → is_name_byte c ≡ false → list_all is_name_byte (bytes ++ c ∷ xs) ≡ false
@@ -53,8 +46,8 @@ longer_name b bytes xs c l h = no_name b (bytes ++ c ∷ xs) l (and_no (is_name_
 pub identifier_alone : (w : List ℕ) (k : Kind) (c : ℕ) (ys : List ℕ) → is_identifier w ≡ true → kind_of w ≡ Some k → is_name_byte c ≡ false → IsAlone w (c ∷ ys)
 identifier_alone [] k c ys i e h = absurd (cc)
 identifier_alone (b ∷ bytes) k c ys i e h =
-    let p = both (is_letter b) _ i in
-    let r = reads_name b bytes true p.0 (rw (or_yes (is_letter b) (is_digit b) p.0) p.1) in
+    let p = and_parts (is_letter b) _ i in
+    let r = reads_name b bytes true p.0 (rw (or_first (is_letter b) (is_digit b) p.0) p.1) in
     apart_from (b ∷ bytes) k c ys (omega arith) e (piece_from (b ∷ bytes) k r.blanks r.comments e) (no_slash b (bytes ++ c ∷ ys) (differs' is_letter b 47 p.0 refl)) (λ xs. longer_name b bytes xs c p.0 h)
 
 id_of : (i n s g : Bool) (w : Bool) → (cond i (Some (cond w word_kind id)) (cond n (Some number_kind) (cond s (Some text) (cond g (Some sign) None)))) ≡ Some id → i ≡ true
@@ -81,7 +74,7 @@ longer_number b bytes xs c l h = no_number b (bytes ++ c ∷ xs) l (and_no (is_d
 pub number_alone : (w : List ℕ) (k : Kind) (c : ℕ) (ys : List ℕ) → is_number w ≡ true → kind_of w ≡ Some k → is_digit c ≡ false → IsAlone w (c ∷ ys)
 number_alone [] k c ys i e h = absurd (cc)
 number_alone (b ∷ bytes) k c ys i e h =
-    let p = both (is_digit b) (list_all is_digit bytes) i in
+    let p = and_parts (is_digit b) (list_all is_digit bytes) i in
     let r = reads_number b bytes true p.0 i in
     apart_from (b ∷ bytes) k c ys (omega arith) e (piece_from (b ∷ bytes) k r.blanks r.comments e) (no_slash b (bytes ++ c ∷ ys) (differs' is_digit b 47 p.0 refl)) (λ xs. longer_number b bytes xs c p.0 h)
 

@@ -1,13 +1,14 @@
 -- The signs of the canonical text.
 use Rattle.std.specs.Prelude.{◌≡◌, ℕ, Bool, true, false, nat_eq, codes, List, [], ◌∷◌, ◌++◌, Some, None}
 use Rattle.std.proofs.Common.{refl, arith}
+use Rattle.bpl_grammar.proofs.Booleans.{and_parts}
 use Rattle.bpl_lex.specs.Token.{id, number as number_kind, sign}
 use Rattle.bpl_lex.specs.Shape.{is_letter, is_digit, is_identifier, is_number, kind_of, piece_of}
 use Rattle.bpl_lex.proofs.FirstBytes.{differs'}
 use Rattle.bpl_ast.specs.Glyph.{Glyph, plain, word, opening, closing, prefix, index}
 use Rattle.canonical_laws.specs.Lexed.{IsAlone, round, square, comma, semicolon, colon, index as index_end, IsTight, IsNarrow}
 use Rattle.canonical_laws.proofs.LexLines.{alone_by}
-use Rattle.canonical_laws.proofs.Alone.{not_tight, both, IsLoose, no_number_kind, loose_sign, loose_closing, name_identifier, number_digits}
+use Rattle.canonical_laws.proofs.Alone.{not_tight, IsLoose, no_number_kind, loose_sign, loose_closing, name_identifier, number_digits}
 use Prim.Native.String.{String}
 
 pub iff_loose : IsLoose (word "<==>")
@@ -139,11 +140,11 @@ bang_feed after = negated_by 10 after refl
 
 negated_identifier : (w : List ℕ) → is_identifier w ≡ true → (after : List ℕ) → IsAlone (codes "!") (w ++ after)
 negated_identifier [] h after = absurd (cc)
-negated_identifier (b ∷ bytes) h after = negated_by b (bytes ++ after) (differs' is_letter b 61 (both (is_letter b) _ h).0 refl)
+negated_identifier (b ∷ bytes) h after = negated_by b (bytes ++ after) (differs' is_letter b 61 (and_parts (is_letter b) _ h).0 refl)
 
 negated_number : (w : List ℕ) → is_number w ≡ true → (after : List ℕ) → IsAlone (codes "!") (w ++ after)
 negated_number [] h after = absurd (cc)
-negated_number (b ∷ bytes) h after = negated_by b (bytes ++ after) (differs' is_digit b 61 (both (is_digit b) _ h).0 refl)
+negated_number (b ∷ bytes) h after = negated_by b (bytes ++ after) (differs' is_digit b 61 (and_parts (is_digit b) _ h).0 refl)
 
 pub first_name : (w : List ℕ) (glued : Bool) → kind_of w ≡ Some id → IsFirst (record { text = w; tight = false; glued = glued })
 first_name w b h = record { spaced = refl; negated = negated_identifier w (name_identifier w h) }

@@ -1,6 +1,7 @@
 -- Goals whose verdicts are that a proof was found have accepted proofs.
-use Rattle.std.proofs.Common.{◌≡◌, ◌∙◌, refl, ap, ℕ, Bool, true, false, ◌&&◌, Option, Some, None, is_some, List, [], ◌∷◌}
+use Rattle.std.proofs.Common.{◌≡◌, ◌∙◌, refl, ap, ℕ, true, false, Option, Some, None, is_some, List, [], ◌∷◌}
 use Rattle.std.specs.List.{list_all, AllByRecursion}
+use Rattle.logic_core.proofs.Booleans.{both_true}
 use Rattle.logic_core.specs.Def.{Obligation}
 use Rattle.logic_core.specs.WellSorted.{IsWellSorted}
 use Rattle.proof_core.specs.Proof.{Proof}
@@ -16,10 +17,6 @@ module _ (accepted : FindsAccepted) (where_proved : FindsWhereProved) (turns : �
       from_found : (found : Option Proof) → (answer o turns).found ≡ found → HasProof o
       from_found None e = absurd (let none : is_some (answer o turns).found ≡ false = ap is_some e in let some : is_some (answer o turns).found ≡ true = where_proved o turns ∙ h in cc)
       from_found (Some p) e = (p, accepted o turns p sorted e)
-
-  both_true : (a b : Bool) → (a && b) ≡ true → (a ≡ true) × (b ≡ true)
-  both_true true b e = (refl, e)
-  both_true false b e = absurd (cc)
 
   pub all_have : (gs : List Goal) → AllByRecursion (λ g. IsWellSorted g.obligation) gs → list_all is_proved (verdicts turns gs) ≡ true → AllByRecursion (λ g. HasProof g.obligation) gs
   all_have [] sorted h = tt

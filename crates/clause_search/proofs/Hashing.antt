@@ -6,7 +6,7 @@ use Rattle.std.specs.List.{list_any, AllByRecursion}
 use Rattle.std.proofs.lemmas.Bool.{eqb-true}
 use Rattle.std.proofs.lemmas.List.Folds.{list_any-append}
 use Rattle.indexmap.specs.IndexSet.{insert_key}
-use Rattle.logic_core.proofs.Booleans.{or_assoc, or_false}
+use Rattle.logic_core.proofs.Booleans.{or_assoc, or_false, neither, or_second}
 use Rattle.tableau_branch.proofs.Lists.{drop_item}
 use Rattle.logic_rules.proofs.Pairs.{pairs_later}
 use Rattle.logic_core.specs.Tree.{Tree}
@@ -20,14 +20,6 @@ use Rattle.logic_rules.specs.Closing.{are_opposed, pair_from}
 use Rattle.term_bank.specs.Hash.{hash_of}
 use Rattle.clause_search.specs.Hashed.{is_hashed, may_close_among}
 use Rattle.clause_search.proofs.Seeing.{all_push}
-
-or_left : (a b : Bool) → (a || b) ≡ false → a ≡ false
-or_left true b h = absurd (cc)
-or_left false b h = refl
-
-or_right : (a b : Bool) → (a || b) ≡ false → b ≡ false
-or_right true b h = absurd (cc)
-or_right false b h = h
 
 module _ (hs : List ℕ) where
   -- its hash is there, and nothing that it closes with
@@ -47,8 +39,8 @@ module _ (hs : List ℕ) where
 
   not_opposed : (f g : Fact) → Quiet f → Quiet g → are_opposed f g ≡ false
   not_opposed f g p q =
-      let first : is_negation_of g.term f.term ≡ false = no_negation f.term g.term (or_right (is_truth false f.term) _ p.1) q.0 in
-      let second : is_negation_of f.term g.term ≡ false = no_negation g.term f.term (or_right (is_truth false g.term) _ q.1) p.0 in
+      let first : is_negation_of g.term f.term ≡ false = no_negation f.term g.term (neither (is_truth false f.term) _ p.1).1 q.0 in
+      let second : is_negation_of f.term g.term ≡ false = no_negation g.term f.term (neither (is_truth false g.term) _ q.1).1 p.0 in
       rw (first, second) refl
 
   none_before : (fs : List Fact) (g : Fact) → AllByRecursion Quiet fs → Quiet g → find (λ f. are_opposed f g) fs ≡ None
@@ -59,20 +51,16 @@ module _ (hs : List ℕ) where
   none_from before [] h k = refl
   none_from before (g ∷ gs) h k =
       let first = none_before before g h k.0 in
-      let truth = or_left (is_truth false g.term) _ (k.0).1 in
+      let truth = (neither (is_truth false g.term) _ (k.0).1).0 in
       pairs_later before g gs first truth ∙ none_from (before ++ g ∷ []) gs (all_push Quiet before g h k.0) k.1
 
   all_quiet : (all fs : List Fact) → ((h : ℕ) → list_any (nat_eq h) hs ≡ is_hashed all h) → ((f : Fact) → list_any (λ (g : Fact). nat_eq (hash_of f.term) (hash_of g.term)) fs ≡ true → is_hashed all (hash_of f.term) ≡ true)
       → list_any (may_close_among hs) fs ≡ false → AllByRecursion Quiet fs
   all_quiet all [] same within h = tt
   all_quiet all (f ∷ fs) same within h = (
-    (same (hash_of f.term) ∙ within f (ap (λ b. b || list_any (λ (g : Fact). nat_eq (hash_of f.term) (hash_of g.term)) fs) (eq_same (hash_of f.term))), or_left (may_close_among hs f) _ h),
-    all_quiet all fs same (λ g k. within g (or_later (nat_eq (hash_of g.term) (hash_of f.term)) _ k)) (or_right (may_close_among hs f) _ h),
+    (same (hash_of f.term) ∙ within f (ap (λ b. b || list_any (λ (g : Fact). nat_eq (hash_of f.term) (hash_of g.term)) fs) (eq_same (hash_of f.term))), (neither (may_close_among hs f) _ h).0),
+    all_quiet all fs same (λ g k. within g (or_second (nat_eq (hash_of g.term) (hash_of f.term)) _ k)) (neither (may_close_among hs f) _ h).1,
   )
-    where
-      or_later : (a b : Bool) → b ≡ true → (a || b) ≡ true
-      or_later true b k = refl
-      or_later false b k = k
 
   pub nothing_closes : (fs : List Fact) → ((h : ℕ) → list_any (nat_eq h) hs ≡ is_hashed fs h) → list_any (may_close_among hs) fs ≡ false → pair_from [] fs ≡ None
   nothing_closes fs same h = none_from [] fs tt (all_quiet fs fs same (λ f k. k) h)

@@ -1,7 +1,8 @@
 -- The kept answers of all goals are the search's to their questions.
-use Rattle.std.proofs.Common.{◌≡◌, ◌∙◌, refl, ap, subst, Bool, true, false, ◌||◌, ◌&&◌, cond, IsTrue, List, [], ◌∷◌, ◌++◌, map, find, Option, Some, None, bytes_eq}
+use Rattle.std.proofs.Common.{◌≡◌, ◌∙◌, refl, ap, subst, Bool, true, false, ◌||◌, cond, IsTrue, List, [], ◌∷◌, ◌++◌, map, find, Option, Some, None, bytes_eq}
 use Rattle.std.specs.List.{list_all}
 use Rattle.std.specs.Option.{option_map}
+use Rattle.logic_core.proofs.Booleans.{both_true}
 use Rattle.obligation_text.specs.Asked.{Asked, key_of, KeysTellApart}
 use Rattle.tableau.specs.Settled.{Settled, IsRight, settled_by}
 use Rattle.proof_cache.specs.Kept.{Key, is_among, kept_keys, kept_at}
@@ -10,10 +11,6 @@ use Rattle.board_core.specs.Step.{reply}
 use Rattle.board_core.specs.Laws.{ShowsRight}
 use Rattle.goal_board.specs.Calls.{Board, answer_key, all_kept}
 use Rattle.goal_board.specs.Found.{found}
-
-both : (a b : Bool) → IsTrue (a && b) → IsTrue a × IsTrue b
-both true b h = (refl, h)
-both false b h = absurd (cc)
 
 -- a kept key has an answer
 no_none : (es : List (Key × Settled)) (k : Key) → IsTrue (is_among (kept_keys es) k) → kept_at es k ≡ None → ⊥
@@ -34,7 +31,7 @@ all_shown apart es [] [] same all right = refl
 all_shown apart es [] (q ∷ qs) same all right = absurd (cc)
 all_shown apart es (k ∷ ks) [] same all right = absurd (cc)
 all_shown apart es (k ∷ ks) (q ∷ qs) same all right =
-    let parts = both (is_among (kept_keys es) k) (list_all (is_among (kept_keys es)) ks) all in
+    let parts = both_true (is_among (kept_keys es) k) (list_all (is_among (kept_keys es)) ks) all in
     let here : k ≡ key_of q = cc in
     let behind : ks ≡ map key_of qs = cc in
     by_answer here (kept_at es k) refl parts.0 right (λ r. all_shown apart es ks qs behind parts.1 r)

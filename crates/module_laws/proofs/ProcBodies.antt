@@ -2,6 +2,7 @@
 use Rattle.std.proofs.Common.{◌≡◌, refl, ap, sym, ◌∙◌, subst, ℕ, Bool, true, false, ◌&&◌, not, List, [], ◌∷◌, ◌++◌, map, Option, Some, None}
 use Rattle.std.specs.Prelude.{⊤, IsTrue, bytes_eq, flat_map}
 use Rattle.std.specs.List.{AllByRecursion}
+use Rattle.logic_core.proofs.Booleans.{both_true}
 use Rattle.bv_base.specs.declared.place.Place.{Place}
 use Rattle.logic_core.specs.Tree.{Kind, Tree}
 use Rattle.logic_core.specs.Same.{same_kind}
@@ -22,7 +23,7 @@ use Rattle.bpl_declaration_faults.specs.Variables.{vars_from, in_vars, out_vars,
 use Rattle.bpl_declaration_faults.specs.DeclFaults.{fault_of, signature_faults, parameter_clause_faults, spec_faults, local_faults, body_faults, has_body, agree, same_groups, same_parameters, implemented_faults, implemented_modifies, decl_faults, Before, before_with, nothing_before}
 use Rattle.bpl_terms.specs.Terms.{sort_or_int}
 use Rattle.module_laws.specs.Elaborate.{Implemented, or_else, implements, implementation_of, own_body, locals_with, proc_locals, proc_of, procs_in}
-use Rattle.module_laws.proofs.Below.{same_is, first_true, second_true}
+use Rattle.module_laws.proofs.Below.{same_is}
 use Rattle.module_laws.proofs.HasSort.{first_empty, second_empty, unless_empty}
 use Rattle.module_laws.proofs.Faultless.{TypesKnown, groups_known, EachKnown}
 use Rattle.module_laws.proofs.Ways.{same_text}
@@ -45,7 +46,7 @@ agreed [] (k ∷ ks) h g e = cc
 agreed (j ∷ js) [] h g e = cc
 agreed (None ∷ js) (k ∷ ks) h g e = let b = h.0.1 in cc
 agreed (Some j ∷ js) (None ∷ ks) h g e = let b = g.0.1 in cc
-agreed (Some j ∷ js) (Some k ∷ ks) h g e = let q = same_is j k (first_true _ _ e) in let r = agreed js ks h.1 g.1 (second_true (same_kind j k) _ e) in λ i. q i ∷ r i
+agreed (Some j ∷ js) (Some k ∷ ks) h g e = let q = same_is j k (both_true _ _ e).0 in let r = agreed js ks h.1 g.1 (both_true (same_kind j k) _ e).1 in λ i. q i ∷ r i
 
 none_are_own : (vs : List Var) (cs : List (Option Tree)) → AllByRecursion (λ (l : Local). IsTrue (not l.own)) (locals_with vs cs)
 none_are_own [] cs = tt
@@ -92,12 +93,12 @@ module _ (ds : List Decl) (none : fault_of ds ≡ None) where
   one_same : (g h : Signature) (gs hs : Groups) (r : Role) (j k : ℕ) → group_type_faults TT (texts_of (signature_names g)) gs ≡ [] → group_type_faults TT (texts_of (signature_names h)) hs ≡ []
       → same_groups TT g h gs hs ≡ true → Kinds (vars_from TT (texts_of (signature_names g)) r j (names_of gs)) ≡ Kinds (vars_from TT (texts_of (signature_names h)) r k (names_of hs))
   one_same g h gs hs r j k a b e = kinds_same TT _ r j (names_of gs)
-      ∙ (agreed _ _ (each_known TT _ (names_of gs) (known_groups _ gs a)) (each_known TT _ (names_of hs) (known_groups _ hs b)) (second_true _ _ e) ∙ sym (kinds_same TT _ r k (names_of hs)))
+      ∙ (agreed _ _ (each_known TT _ (names_of gs) (known_groups _ gs a)) (each_known TT _ (names_of hs) (known_groups _ hs b)) (both_true _ _ e).1 ∙ sym (kinds_same TT _ r k (names_of hs)))
 
   agree_same : (g h : Signature) → SignatureFine TT CC g → SignatureFine TT CC h → same_parameters TT g h ≡ true → SameSorts g h
   agree_same g h a b e = record {
-    ins_same = one_same g h g.ins h.ins in_parameter _ _ a.ins_fine b.ins_fine (first_true _ _ e);
-    outs_same = one_same g h g.outs h.outs out_parameter _ _ a.outs_fine b.outs_fine (second_true (same_groups TT g h g.ins h.ins) _ e);
+    ins_same = one_same g h g.ins h.ins in_parameter _ _ a.ins_fine b.ins_fine (both_true _ _ e).0;
+    outs_same = one_same g h g.outs h.outs out_parameter _ _ a.outs_fine b.outs_fine (both_true (same_groups TT g h g.ins h.ins) _ e).1;
   }
 
   -- what an implementation implements

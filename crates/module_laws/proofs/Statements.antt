@@ -4,6 +4,7 @@ use Rattle.std.specs.Prelude.{cond, flat_map, slice_get}
 use Rattle.std.specs.List.{AllByRecursion, AllZip}
 use Rattle.std.proofs.lemmas.Bool.{eqb-true}
 use Rattle.std.proofs.lemmas.Option.{get_or_from_slice_get}
+use Rattle.logic_core.proofs.Booleans.{both_true}
 use Rattle.bv_base.specs.declared.place.Place.{Place}
 use Rattle.logic_core.specs.Tree.{Kind, int, boolean}
 use Rattle.logic_core.specs.WellSorted.{IsFormula}
@@ -24,7 +25,6 @@ use Rattle.bpl_statement_faults.specs.StmtFaults.{BodyScope, Position, labels_of
 use Rattle.bpl_terms.specs.Terms.{sort_or_int, term_of}
 use Rattle.module_laws.specs.Elaborate.{target_numbers, target_number, arguments, assignments, procedure_number, guard_of, labelled_as, stmts_of, stmt_of, action_of, chain_of, others_of}
 use Rattle.module_laws.proofs.HasSort.{first_empty, second_empty, unless_empty, has_same}
-use Rattle.module_laws.proofs.Below.{first_true, second_true}
 use Rattle.module_laws.proofs.Faultless.{EachKnown}
 use Rattle.module_laws.proofs.Targets.{Ready, IsSet, AllSet, each_set, are_targets, expr_has, arguments_have, assignments_fit}
 
@@ -116,8 +116,8 @@ module _ (m : Module) (p : Proc) (b : BodyScope) (N : List Text) where
         let ins = sorts_of_names s.table (texts_of (signature_names d.signature)) (names_of d.signature.ins) in
         let outs = sorts_of_names s.table (texts_of (signature_names d.signature)) (names_of d.signature.outs) in
         let r = counted_true _ (map (target_sort s) ns) outs f.at (first_empty _ _ e) in
-        let a = eqb-true (length (names_of d.signature.ins)) (count xs) (first_true _ _ r.0) in
-        let o = eqb-true (length (names_of d.signature.outs)) (length ns) (second_true (nat_eq (length (names_of d.signature.ins)) (count xs)) _ r.0) in
+        let a = eqb-true (length (names_of d.signature.ins)) (count xs) (both_true _ _ r.0).0 in
+        let o = eqb-true (length (names_of d.signature.outs)) (length ns) (both_true (nat_eq (length (names_of d.signature.ins)) (count xs)) _ r.0).1 in
         record {
           callee = c.callee;
           named = c.is_named;

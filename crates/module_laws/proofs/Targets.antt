@@ -6,7 +6,7 @@ use Rattle.std.proofs.lemmas.Option.{get_or_from_slice_get}
 use Rattle.std.proofs.lemmas.List.Kept.{AllPairs-cons}
 use Rattle.std.proofs.lemmas.List.Elements.{All-cons}
 use Rattle.std.proofs.lemmas.Slice.Eq.{bytes_eq-Decides}
-use Rattle.logic_core.proofs.Booleans.{neither as either_false}
+use Rattle.logic_core.proofs.Booleans.{neither as either_false, both_true}
 use Rattle.bv_base.specs.declared.place.Place.{Place}
 use Rattle.logic_core.specs.Tree.{Kind, int, map as map_of, Tree, read, free}
 use Rattle.logic_core.specs.Wide.{when}
@@ -27,7 +27,7 @@ use Rattle.bpl_faults.specs.ExprFaults.{expr_faults, faults_as, argument_faults,
 use Rattle.bpl_statement_faults.specs.StmtFaults.{BodyScope, target_faults, target_sort, entry_at, entry_faults, indices_faults, sides_sorts}
 use Rattle.bpl_terms.specs.Terms.{sort_or_int, term_of, terms_in, stored}
 use Rattle.module_laws.specs.Elaborate.{target_number, target_numbers, assignments, arguments}
-use Rattle.module_laws.proofs.Below.{Below, is_itself, second_true, first_true}
+use Rattle.module_laws.proofs.Below.{Below, is_itself}
 use Rattle.module_laws.proofs.TermSorts.{BoundsFit, Fits, sorted}
 use Rattle.module_laws.proofs.HasSort.{Known, first_empty, second_empty, has_sort, is_map}
 use Rattle.module_laws.proofs.Faultless.{KnownBounds, NamesKnown, EachKnown, has_known}
@@ -78,7 +78,7 @@ module _ (m : Module) (p : Proc) (s : Scope) (N : List Text) where
   pairs : (ns : List Name) → AllSet ns → are_distinct (texts_of ns) ≡ true → AllPairs (λ x y. x ≢ y) (target_numbers s ns)
   pairs [] g e = λ i j d k l. absurd (omega (arith, l))
   pairs (n ∷ ns) g e = AllPairs-cons (λ x y. x ≢ y) (target_number s n) (target_numbers s ns)
-      (differ n.text (target_number s n) g.0.named ns g.1 (not_true _ (first_true _ _ e))) (pairs ns g.1 (second_true (not (is_among (texts_of ns) n.text)) _ e))
+      (differ n.text (target_number s n) g.0.named ns g.1 (not_true _ (both_true _ _ e).0)) (pairs ns g.1 (both_true (not (is_among (texts_of ns) n.text)) _ e).1)
 
   may_all : (ns : List Name) → AllSet ns → AllByRecursion (MayBeSet m p) (target_numbers s ns)
   may_all [] g = tt

@@ -1,5 +1,6 @@
 -- Where an expression has a sort, its term has that sort, over a scope whose variables and functions have theirs.
 use Rattle.std.proofs.Common.{◌≡◌, refl, ap, sym, ◌∙◌, inl, inr, ℕ, ◌+◌, suc, arith, subst, Bool, true, false, ◌&&◌, List, [], ◌∷◌, ◌++◌, map, reverse, pos, Option, Some, None, slice_get}
+use Rattle.logic_core.proofs.Booleans.{both_true, and_true}
 use Rattle.logic_core.specs.Same.{is_some_and}
 use Rattle.logic_core.specs.Tree.{Kind, int, boolean, Tree, num, truth as truth_term, mul, read, write, call as call_term, equal, Trees, no_trees, tree}
 use Rattle.logic_core.specs.Def.{Def}
@@ -11,7 +12,7 @@ use Rattle.bpl_scopes.specs.Scopes.{Text, Heading, Table, names_of, BoundVar, Sc
 use Rattle.bpl_scopes.specs.Sorts.{sort_of_type, argument_sorts, sorts_of_names, bounds_of, within, sort_of_meaning, applied_heading, is_same, are_same, application_sort, all_are, all_known, relation_sort, sort_in, node_sort, sorts_in, are_ints, indices_sort, are_patterns}
 use Rattle.bpl_scopes.specs.Functions.{function_number}
 use Rattle.bpl_terms.specs.Terms.{meaning_term, nested_left, left_of, implied, comparison, sort_or_int, bound_sorts, term_in, node_term, terms_in, parts_in, indexed_term, patterns_in}
-use Rattle.module_laws.proofs.Below.{back_onto, Below, Implies, both, is_below, when_below, when_so, is_then, first_true, second_true, equation_below, read_below, write_below, choice_below}
+use Rattle.module_laws.proofs.Below.{back_onto, Below, Implies, both, is_below, when_below, when_so, is_then, equation_below, read_below, write_below, choice_below}
 
 -- the sorts of bound variables, the innermost first
 abbrev pub BoundsFit : List BoundVar → List Kind → Type 0
@@ -81,10 +82,6 @@ module _ (vars : List Kind) (defs : List Def) where
   int_sum true = refl
   int_sum false = refl
 
-  and_true : (c : Bool) → (c && true) ≡ c
-  and_true true = refl
-  and_true false = refl
-
   swapped : (a c : Bool) → (a && c) ≡ (c && a)
   swapped true true = refl
   swapped true false = refl
@@ -111,28 +108,28 @@ module _ (vars : List Kind) (defs : List Def) where
 
   nested_equal : (b : List Kind) (a : Tree) (ts : Trees) → sort_of vars defs b a ≡ Some boolean → are_formulas vars defs b ts ≡ true → sort_of vars defs b (nested_left equal a ts) ≡ Some boolean
   nested_equal b a no_trees h k = h
-  nested_equal b a (tree t ts) h k = let e = is_then boolean (sort_of vars defs b t) (first_true _ _ k) in
-      nested_equal b (equal a t) ts (λ i. equation_sort (h i) (e i)) (second_true (is boolean (sort_of vars defs b t)) _ k)
+  nested_equal b a (tree t ts) h k = let e = is_then boolean (sort_of vars defs b t) (both_true _ _ k).0 in
+      nested_equal b (equal a t) ts (λ i. equation_sort (h i) (e i)) (both_true (is boolean (sort_of vars defs b t)) _ k).1
 
   left_equal : (b : List Kind) (ts : Trees) → are_formulas vars defs b ts ≡ true → sort_of vars defs b (left_of equal (truth_term true) ts) ≡ Some boolean
   left_equal b no_trees k = refl
-  left_equal b (tree t ts) k = nested_equal b t ts (is_then boolean _ (first_true _ _ k)) (second_true (is boolean (sort_of vars defs b t)) _ k)
+  left_equal b (tree t ts) k = nested_equal b t ts (is_then boolean _ (both_true _ _ k).0) (both_true (is boolean (sort_of vars defs b t)) _ k).1
 
   nested_mul : (b : List Kind) (a : Tree) (ts : Trees) → sort_of vars defs b a ≡ Some int → all_ints b ts ≡ true → sort_of vars defs b (nested_left mul a ts) ≡ Some int
   nested_mul b a no_trees h k = h
-  nested_mul b a (tree t ts) h k = let e = is_then int (sort_of vars defs b t) (first_true _ _ k) in
-      nested_mul b (mul a t) ts (λ i. when (is int (h i) && is int (e i)) (Some int)) (second_true (is int (sort_of vars defs b t)) _ k)
+  nested_mul b a (tree t ts) h k = let e = is_then int (sort_of vars defs b t) (both_true _ _ k).0 in
+      nested_mul b (mul a t) ts (λ i. when (is int (h i) && is int (e i)) (Some int)) (both_true (is int (sort_of vars defs b t)) _ k).1
 
   left_mul : (b : List Kind) (ts : Trees) → all_ints b ts ≡ true → sort_of vars defs b (left_of mul (num (pos 1)) ts) ≡ Some int
   left_mul b no_trees k = refl
-  left_mul b (tree t ts) k = nested_mul b t ts (is_then int _ (first_true _ _ k)) (second_true (is int (sort_of vars defs b t)) _ k)
+  left_mul b (tree t ts) k = nested_mul b t ts (is_then int _ (both_true _ _ k).0) (both_true (is int (sort_of vars defs b t)) _ k).1
 
   implied_sorted : (b : List Kind) (ts : Trees) → are_formulas vars defs b ts ≡ true → sort_of vars defs b (implied ts) ≡ Some boolean
   implied_sorted b no_trees k = refl
-  implied_sorted b (tree p no_trees) k = is_then boolean _ (first_true _ _ k)
+  implied_sorted b (tree p no_trees) k = is_then boolean _ (both_true _ _ k).0
   implied_sorted b (tree p (tree q ts)) k =
-      let e = is_then boolean (sort_of vars defs b p) (first_true _ _ k) in
-      let h = implied_sorted b (tree q ts) (second_true (is boolean (sort_of vars defs b p)) _ k) in
+      let e = is_then boolean (sort_of vars defs b p) (both_true _ _ k).0 in
+      let h = implied_sorted b (tree q ts) (both_true (is boolean (sort_of vars defs b p)) _ k).1 in
       λ i. when (is boolean (when (is boolean (e i)) (Some boolean)) && (is boolean (h i) && true)) (Some boolean)
 
   -- calls

@@ -3,7 +3,7 @@ use Rattle.std.proofs.Common.{◌≡◌, refl, ap, sym, ◌∙◌, inl, inr, ◌
 use Rattle.std.specs.Prelude.{bytes_eq}
 use Rattle.std.specs.List.{list_any}
 use Rattle.std.proofs.lemmas.Slice.Eq.{bytes_eq-Decides}
-use Rattle.logic_core.proofs.Booleans.{one_is_true as either_of}
+use Rattle.logic_core.proofs.Booleans.{one_is_true as either_of, or_second}
 use Rattle.bpl_scopes.specs.Scopes.{Text, Table, entity_of}
 use Rattle.bpl_scopes.specs.Functions.{next_names, leads}
 
@@ -14,11 +14,7 @@ Member n (m ∷ ms) = (n ≡ m) ⊎ Member n ms
 pub member_any : (p : Text → Bool) (n : Text) (ns : List Text) → Member n ns → p n ≡ true → list_any p ns ≡ true
 member_any p n [] h g = absurd h
 member_any p n (m ∷ ns) (inl e) g = ap (λ w. w || list_any p ns) (sym (ap p e) ∙ g)
-member_any p n (m ∷ ns) (inr h) g = either_true (p m) (list_any p ns) (member_any p n ns h g)
-  where
-    either_true : (a b : Bool) → b ≡ true → (a || b) ≡ true
-    either_true true b e = refl
-    either_true false b e = e
+member_any p n (m ∷ ns) (inr h) g = or_second (p m) (list_any p ns) (member_any p n ns h g)
 
 member_of : (p : Text → Bool) (m : Text) (ns : List Text) → (list_any p ns ≡ true → (n : Text) × Member n ns × (p n ≡ true))
     → (p m ≡ true) ⊎ (list_any p ns ≡ true) → (n : Text) × Member n (m ∷ ns) × (p n ≡ true)

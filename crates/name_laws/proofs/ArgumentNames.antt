@@ -1,6 +1,7 @@
 -- The parameters of a function as bound variables: their names, which are the same in declarations that are the same but for places, and which they hide.
 use Rattle.std.specs.Prelude.{◌≡◌, ◌+◌, Bool, true, false, ◌||◌, List, [], ◌∷◌, ◌++◌, map, reverse, bytes_eq, Option, Some, None, option_map}
 use Rattle.std.proofs.Common.{refl, ap, sym, ◌∙◌, append-nil}
+use Rattle.logic_core.proofs.Booleans.{or_false}
 use Rattle.bpl_ast.specs.Place.{Name}
 use Rattle.bpl_ast.specs.Statement.{Argument}
 use Rattle.bpl_scopes.specs.Fault.{is_among}
@@ -39,10 +40,6 @@ given_bare (a ∷ ins) = λ i. by a.name i ∷ given_bare ins i
 
 pub same_bounds : (t u : Table) (xs ys : List Argument) → map bare_argument xs ≡ map bare_argument ys → SameBounds (reverse (map (bound_argument t) xs)) (reverse (map (bound_argument u) ys))
 same_bounds t u xs ys e = all_given u ys ∙ (ap reverse (sym (given_bare ys) ∙ (ap (map given) (sym e) ∙ given_bare xs)) ∙ sym (all_given t xs))
-
-or_false : (a : Bool) → (a || false) ≡ a
-or_false true = refl
-or_false false = refl
 
 -- they hide their names
 hidden_onto : (t : Table) (n : Text) (ins : List Argument) (bs : List BoundVar)

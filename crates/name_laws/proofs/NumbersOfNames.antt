@@ -1,5 +1,5 @@
 -- In a program without faults the name at a number of constants stands for the constant of that number, and so for globals.
-use Rattle.std.specs.Prelude.{◌≡◌, ℕ, zero, suc, ◌+◌, Bool, true, false, ◌||◌, cond, is_some, List, [], ◌∷◌, ◌++◌, map, length, flat_map, slice_get, bytes_eq, Option, Some, None, option_map}
+use Rattle.std.specs.Prelude.{◌≡◌, ℕ, zero, suc, ◌+◌, true, false, ◌||◌, cond, is_some, List, [], ◌∷◌, ◌++◌, map, length, flat_map, slice_get, bytes_eq, Option, Some, None, option_map}
 use Rattle.std.proofs.Common.{refl, ap, sym, ◌∙◌, subst, arith, inl, inr, ◌⊎◌}
 use Rattle.bpl_ast.specs.Place.{Name, Ty}
 use Rattle.bpl_ast.specs.Statement.{DeclBody, constant, function, axiom_of, variables, synonym, procedure, implementation, Decl}
@@ -8,7 +8,7 @@ use Rattle.bpl_scopes.specs.Fault.{again, is_among, if_so}
 use Rattle.bpl_scopes.specs.Scopes.{Text, Entity, a_constant, a_global, Entry, Table, table_of, Counts, no_counts, counts_with, counts_after, declared_names, typed_names, names_of, only_names, texts_of, entries_from, entries_of, entries_after, entry_of, entity_of}
 use Rattle.bpl_declaration_faults.specs.DeclFaults.{decl_faults, Before, before_with, nothing_before, fault_of}
 use Rattle.module_laws.proofs.HasSort.{first_empty, second_empty}
-use Rattle.logic_core.proofs.Booleans.{neither as either_false}
+use Rattle.logic_core.proofs.Booleans.{neither as either_false, or_second}
 use Rattle.module_laws.proofs.GoesForward.{not_equal}
 use Rattle.module_laws.proofs.Ways.{text_itself}
 use Rattle.module_laws.proofs.EntriesFine.{NoFaults, none_faulty}
@@ -19,11 +19,7 @@ use Rattle.name_laws.proofs.NamedNumbers.{constants_in, globals_in, constant_nam
 slice_among : (ns : List Text) (j : ℕ) (n : Text) → slice_get ns j ≡ Some n → is_among ns n ≡ true
 slice_among [] j n e = absurd (cc)
 slice_among (m ∷ ms) zero n e = let z : m ≡ n = cc in ap (λ b. b || is_among ms n) (subst (λ w. bytes_eq n w ≡ true) (sym z) (text_itself n))
-slice_among (m ∷ ms) (suc j) n e = more (bytes_eq n m) (is_among ms n) (slice_among ms j n e)
-  where
-    more : (a b : Bool) → b ≡ true → (a || b) ≡ true
-    more true b h = refl
-    more false b h = h
+slice_among (m ∷ ms) (suc j) n e = or_second (bytes_eq n m) (is_among ms n) (slice_among ms j n e)
 
 -- what a name stands for with that number
 abbrev IsAt : (ℕ → Ty → Entity) → ℕ → Option Entry → Type 0

@@ -3,6 +3,7 @@ use Rattle.std.specs.Prelude.{◌≡◌, ℕ, zero, suc, ◌+◌, ◌==◌, Bool
 use Rattle.std.specs.List.{range_with_len, cons_option}
 use Rattle.std.proofs.Common.{refl, ap, sym, ◌∙◌, subst, arith, inl, inr, ◌⊎◌}
 use Rattle.std.proofs.lemmas.List.Elements.{filter-append}
+use Rattle.logic_core.proofs.Booleans.{or_second}
 use Rattle.bpl_ast.specs.Statement.{DeclBody, constant, function, axiom_of, variables, synonym, procedure, implementation, Decl}
 use Rattle.bpl_model.specs.Module.{Proc, Module}
 use Rattle.bpl_model.specs.Reach.{among, positions, leads_to, own_positions, reached_by}
@@ -27,13 +28,9 @@ abbrev AllAmong : List Text → List Text → Type 0
 AllAmong ns [] = Unit {0}
 AllAmong ns (m ∷ ms) = (is_among ns m ≡ true) × AllAmong ns ms
 
-among_more : (a b : Bool) → b ≡ true → (a || b) ≡ true
-among_more true b e = refl
-among_more false b e = e
-
 longer : (n : Text) (ns ms : List Text) → AllAmong ns ms → AllAmong (n ∷ ns) ms
 longer n ns [] h = tt
-longer n ns (m ∷ ms) h = (among_more _ (is_among ns m) h.0, longer n ns ms h.1)
+longer n ns (m ∷ ms) h = (or_second _ (is_among ns m) h.0, longer n ns ms h.1)
 
 all_among : (ns : List Text) → AllAmong ns ns
 all_among [] = tt
@@ -101,7 +98,7 @@ module _ (names : DeclBody → List Text) (declares : (x : DeclBody) → AllAmon
   names_from (x ∷ xs) k e within =
       let r = first_left k ds x xs e in
       let one : k + 1 ≡ suc k = omega arith in
-      let later = names_from xs (k + 1) (ap (λ j. drop j ds) one ∙ r.1) (λ d h. within d (among_more (k == d) (among (range_with_len (k + 1) (length xs)) d) h)) in
+      let later = names_from xs (k + 1) (ap (λ j. drop j ds) one ∙ r.1) (λ d h. within d (or_second (k == d) (among (range_with_len (k + 1) (length xs)) d) h)) in
       filter-append (is_met ds p) (names x.body) (flat_map (λ (x : Decl). names x.body) xs)
       ∙ ((λ i. met_names k x r.0 i ++ later i)
       ∙ by (own? k) (led? k) refl refl r.0 (led_same k (within k (ap (λ b. b || among (range_with_len (k + 1) (length xs)) k) (itself k)))))

@@ -2,6 +2,7 @@
 use Rattle.std.specs.Prelude.{◌≡◌, ℕ, zero, suc, ◌+◌, ◌-◌, ◌<◌, ◌≤◌, nat_lt, Bool, true, false, IsTrue, ◌||◌, ◌&&◌, ◌==◌, cond, List, [], ◌∷◌, map, length, slice_get, bytes_eq, Option, Some, None}
 use Rattle.std.proofs.Common.{refl, ap, sym, ◌∙◌, subst, arith, inl, inr, ◌⊎◌}
 use Rattle.std.proofs.lemmas.Bool.{lt-ltb, le-ltb}
+use Rattle.logic_core.proofs.Booleans.{or_second}
 use Rattle.bpl_ast.specs.Place.{Ty}
 use Rattle.bpl_ast.specs.Statement.{Decl}
 use Rattle.bpl_model.specs.Module.{Proc}
@@ -80,11 +81,7 @@ position_there (m ∷ ms) n h = by (bytes_eq m n) refl h (position_there ms n)
 module _ (ds : List Decl) (p : Proc) where
   reached_so : (d : ℕ) → Reached ds p d → is_reached ds p d ≡ true
   reached_so d (inl h) = ap (λ b. b || among (reached_by (module_of ds) p) d) h
-  reached_so d (inr h) = by (among (own_positions (module_of ds) p) d) (among (reached_by (module_of ds) p) d) h
-    where
-      by : (a b : Bool) → b ≡ true → (a || b) ≡ true
-      by true b e = refl
-      by false b e = e
+  reached_so d (inr h) = or_second (among (own_positions (module_of ds) p) d) (among (reached_by (module_of ds) p) d) h
 
   so_reached : (d : ℕ) → is_reached ds p d ≡ true → Reached ds p d
   so_reached d h = by (among (own_positions (module_of ds) p) d) refl h

@@ -5,7 +5,7 @@ use Rattle.std.proofs.Common.{refl, ap, sym, ◌∙◌, subst, arith, inl, inr, 
 use Rattle.std.proofs.lemmas.Bool.{eqb-true, eq-eqb}
 use Rattle.bpl_model.specs.Module.{Proc, Module}
 use Rattle.bpl_model.specs.Reach.{among, decl_at, positions, reaches_axiom, leads_to, reach_on, own_positions, reached_by}
-use Rattle.logic_core.proofs.Booleans.{one_is_true as either_of}
+use Rattle.logic_core.proofs.Booleans.{one_is_true as either_of, or_second}
 use Rattle.scope_laws.proofs.ReachClosed.{is_passed, reached_stable}
 
 pub same_number : (m n : ℕ) → (m == n) ≡ true → m ≡ n
@@ -19,17 +19,13 @@ pub among_passed : (p : ℕ → Bool) (xs : List ℕ) (x : ℕ) → among (filte
 among_passed p [] x h = absurd (cc)
 among_passed p (y ∷ ys) x h = by (p y) refl h (among_passed p ys x)
   where
-    more : (a b : Bool) → b ≡ true → (a || b) ≡ true
-    more true b e = refl
-    more false b e = e
-
     here : ((y == x) ≡ true) ⊎ (among (filter p ys) x ≡ true) → p y ≡ true → (among (filter p ys) x ≡ true → (among ys x ≡ true) × (p x ≡ true)) → (among (y ∷ ys) x ≡ true) × (p x ≡ true)
     here (inl q) e later = (ap (λ w. w || among ys x) q, sym (ap p (same_number y x q)) ∙ e)
-    here (inr q) e later = let r = later q in (more (y == x) (among ys x) r.0, r.1)
+    here (inr q) e later = let r = later q in (or_second (y == x) (among ys x) r.0, r.1)
 
     by : (b : Bool) → p y ≡ b → among (cond b (y ∷ filter p ys) (filter p ys)) x ≡ true → (among (filter p ys) x ≡ true → (among ys x ≡ true) × (p x ≡ true)) → (among (y ∷ ys) x ≡ true) × (p x ≡ true)
     by true e k later = here (either_of (y == x) (among (filter p ys) x) k) e later
-    by false e k later = let r = later k in (more (y == x) (among ys x) r.0, r.1)
+    by false e k later = let r = later k in (or_second (y == x) (among ys x) r.0, r.1)
 
 module _ (m : Module) where
   abbrev round : List ℕ → List ℕ

@@ -2,6 +2,7 @@
 use Rattle.std.specs.Prelude.{◌≡◌, ℕ, zero, suc, ◌+◌, ◌<◌, ◌==◌, nat_eq, Bool, true, false, ◌||◌, List, [], ◌∷◌, ◌++◌, map, length, flat_map, filter, slice_get, slice_index_or, bytes_eq, Option, Some, None, option_map, is_some}
 use Rattle.std.specs.List.{list_any, range_with_len}
 use Rattle.std.proofs.Common.{refl, ap, sym, ◌∙◌, subst, arith, inl, inr, ◌⊎◌}
+use Rattle.logic_core.proofs.Booleans.{or_first, or_second}
 use Rattle.bpl_ast.specs.Statement.{DeclBody, Decl}
 use Rattle.bpl_model.specs.Module.{Proc, DeclText, Module}
 use Rattle.bpl_model.specs.Reach.{among, decl_at, positions, leads_to, reaches_axiom, own_positions, reached_by}
@@ -21,14 +22,6 @@ use Rattle.scope_laws.proofs.ReachClosed.{is_passed, reached_closed}
 use Rattle.name_laws.proofs.BareUses.{same_uses, same_contract_uses, same_declared}
 use Rattle.name_laws.proofs.Shapes.{bare_entity, bare_found, same_found}
 use Rattle.name_laws.proofs.Located.{LocatedIn, located, declared_found, FoundAt, found_at}
-
-either_true : (a b : Bool) → b ≡ true → (a || b) ≡ true
-either_true true b e = refl
-either_true false b e = e
-
-first_true : (a b : Bool) → a ≡ true → (a || b) ≡ true
-first_true true b e = refl
-first_true false b e = absurd (cc)
 
 among_joined : (xs ys : List ℕ) (x : ℕ) → (among xs x ≡ true) ⊎ (among ys x ≡ true) → among (xs ++ ys) x ≡ true
 among_joined [] ys x (inl h) = absurd (cc)
@@ -50,10 +43,10 @@ among_flat f (z ∷ xs) x y h g = by (z == x) refl h (λ k. among_flat f xs x y 
 
 in_range : (n a x : ℕ) → x < n → among (range_with_len a n) (a + x) ≡ true
 in_range zero a x h = absurd (omega (arith, h))
-in_range (suc n) a zero h = let e : a + 0 ≡ a = omega arith in first_true (a == (a + 0)) _ (subst (λ w. (a == w) ≡ true) (sym e) (itself a))
+in_range (suc n) a zero h = let e : a + 0 ≡ a = omega arith in or_first (a == (a + 0)) _ (subst (λ w. (a == w) ≡ true) (sym e) (itself a))
 in_range (suc n) a (suc x) h =
     let e : (a + 1) + x ≡ a + suc x = omega arith in
-    either_true (a == (a + suc x)) _ (subst (λ w. among (range_with_len (a + 1) n) w ≡ true) e (in_range n (a + 1) x (omega (arith, h))))
+    or_second (a == (a + suc x)) _ (subst (λ w. among (range_with_len (a + 1) n) w ≡ true) e (in_range n (a + 1) x (omega (arith, h))))
 
 abbrev no_text : DeclText
 no_text = record { name = []; text = []; contract = []; leads = []; contract_leads = [] }
@@ -110,8 +103,8 @@ module _ (ds : List Decl) (p : Proc) where
       let l = entry_below n e h in
       let f = among_flat (λ r. (decl_at M r).contract_leads) (reached_by M p) d e.decl o (ap (λ (w : DeclText). among w.contract_leads e.decl) (text_there d x a) ∙ led_to (contract_uses x.body) n e h l i) in
       reached_closed M p e.decl (is_position e.decl l)
-      (either_true (among (reached_by M p) e.decl) (among (flat_map (λ r. (decl_at M r).contract_leads) (reached_by M p)) e.decl || reaches_axiom M (reached_by M p) e.decl)
-      (first_true (among (flat_map (λ r. (decl_at M r).contract_leads) (reached_by M p)) e.decl) (reaches_axiom M (reached_by M p) e.decl) f))
+      (or_second (among (reached_by M p) e.decl) (among (flat_map (λ r. (decl_at M r).contract_leads) (reached_by M p)) e.decl || reaches_axiom M (reached_by M p) e.decl)
+      (or_first (among (flat_map (λ r. (decl_at M r).contract_leads) (reached_by M p)) e.decl) (reaches_axiom M (reached_by M p) e.decl) f))
 
   pub met_reached : (n : Text) (e : Entry) → Met ds p n → entry_of T n ≡ Some e → Reached ds p e.decl
   met_reached n e (used u) h = inr (used_reached n e u h)

@@ -4,6 +4,7 @@ use Rattle.std.specs.List.{AllByRecursion, range_with_len}
 use Rattle.std.proofs.Common.{ap, sym, subst, arith, ◌∙◌, true≢false}
 use Rattle.std.proofs.lemmas.Bool.{eqb-true, eq-eqb}
 use Rattle.std.proofs.lemmas.List.{append_assoc}
+use Rattle.logic_core.proofs.Booleans.{or_true}
 use mathlib.Core.Logic.{inl, inr}
 use Rattle.bpl_model.specs.Module.{Proc, Module}
 use Rattle.bpl_model.specs.Reach.{among, decl_at, positions, reaches_axiom, leads_to, reach_on, own_positions, reached_by}
@@ -80,11 +81,7 @@ each_member (d ∷ ds) es = (here es, moved ds (each_member ds (es ++ d ∷ []))
   where
     here : (es : List ℕ) → among (es ++ d ∷ ds) d ≡ true
     here [] = λ i. eq-eqb d d refl i || among ds d
-    here (e ∷ es) = (λ i. (e == d) || here es i) ∙ by (e == d)
-      where
-        by : (b : Bool) → (b || true) ≡ true
-        by true = refl
-        by false = refl
+    here (e ∷ es) = (λ i. (e == d) || here es i) ∙ or_true (e == d)
 
     moved : (xs : List ℕ) → AllByRecursion (λ x. among ((es ++ d ∷ []) ++ ds) x ≡ true) xs → AllByRecursion (λ x. among (es ++ d ∷ ds) x ≡ true) xs
     moved [] h = tt

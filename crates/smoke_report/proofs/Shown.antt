@@ -1,8 +1,9 @@
 -- Where the search finds a proof of the goal with a point's mark, the procedure doesn't reach the point.
-use Rattle.std.proofs.Common.{◌≡◌, ◌∙◌, refl, sym, ap, arith, ℕ, nat_eq, Bool, true, false, ◌&&◌, cond, Option, Some, None, is_some, option_map, List, [], ◌∷◌, length, slice_get}
+use Rattle.std.proofs.Common.{◌≡◌, ◌∙◌, refl, sym, ap, arith, ℕ, nat_eq, true, false, ◌&&◌, cond, Option, Some, None, is_some, option_map, List, [], ◌∷◌, length, slice_get}
 use Rattle.std.proofs.lemmas.Bool.Decides.{nat_tests}
 use Rattle.std.proofs.lemmas.Option.{slice_get-map}
 use Rattle.std.specs.List.{AllByRecursion, list_all}
+use Rattle.logic_core.proofs.Booleans.{both_true}
 use Rattle.logic_core.specs.Def.{Obligation}
 use Rattle.logic_core.specs.Valid.{Valid}
 use Rattle.logic_core.specs.WellSorted.{IsWellSorted}
@@ -50,10 +51,6 @@ module _ (sound : AcceptanceIsSound) (accepted : FindsAccepted) (where_proved : 
       from_found : (found : Option Proof) → (answer o turns).found ≡ found → Valid o
       from_found None e = absurd (let none : is_some (answer o turns).found ≡ false = ap is_some e in let some : is_some (answer o turns).found ≡ true = where_proved o turns ∙ h in cc)
       from_found (Some p) e = sound o p sorted (accepted o turns p sorted e)
-
-  both_true : (a b : Bool) → (a && b) ≡ true → (a ≡ true) × (b ≡ true)
-  both_true true b e = (refl, e)
-  both_true false b e = absurd (cc)
 
   all_valid : (x : ProgramPoint) → is_mark_of x x.point.mark ≡ true → (gs : List Goal) → AllByRecursion (λ g. IsWellSorted g.obligation) gs → list_all (is_shown_or_another turns x) gs ≡ true
       → AllByRecursion (λ g. g.mark ≡ x.point.mark → Valid g.obligation) gs

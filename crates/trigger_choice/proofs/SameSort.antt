@@ -1,7 +1,7 @@
 -- Chosen triggers keep sorts: they are parts of a well-sorted body, and so well sorted.
 use Rattle.std.specs.Prelude.{◌≡◌, refl, ℕ, Bool, true, false, ◌&&◌, is_some, List, [], ◌∷◌, ◌++◌, reverse, length, filter, slice_get, Option, Some, None}
 use Rattle.std.specs.List.{AllByRecursion}
-use Rattle.logic_core.proofs.Booleans.{both_true}
+use Rattle.logic_core.proofs.Booleans.{both_true, and_false}
 use mathlib.Core.Path.{◌∙◌}
 use Rattle.logic_core.specs.Tree.{Kind, int, boolean, Tree, num, truth, free, bound, linear, mul, read, write, choose, call, negation, all, some, equal, at_most, for_all, exists, Trees, no_trees, tree, Parts, no_parts, part, Patterns, no_patterns, pattern}
 use Rattle.logic_core.specs.Def.{Def}
@@ -119,11 +119,7 @@ module _ (vars : List Kind) (defs : List Def) where
     same_test b n no_patterns body = by_sort (sort_of vars defs b body) (chosen_sorted b n body)
       where
         by_sort : (o : Option Kind) → (There o → have_sorts_in vars defs b (chosen given n body) ≡ true) → (have_sorts_in vars defs b (chosen given n body) && is boolean o) ≡ is boolean o
-        by_sort None f = never (have_sorts_in vars defs b (chosen given n body))
-          where
-            never : (c : Bool) → (c && false) ≡ false
-            never true = refl
-            never false = refl
+        by_sort None f = and_false (have_sorts_in vars defs b (chosen given n body))
         by_sort (Some k) f = λ j. f refl j && same_kind k boolean
 
     same_quantified : (ss : List Kind) (ps : Patterns) (t : Tree) (b : List Kind) → sort_of vars defs (reverse ss ++ b) (with_triggers given t) ≡ sort_of vars defs (reverse ss ++ b) t
