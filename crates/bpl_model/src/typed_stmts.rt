@@ -1,9 +1,9 @@
 // Whether statements are typed.
-ghost use Rattle.std.specs.Prelude.{◌≡◌, IfOk, bytes_eq};
+ghost use Rattle.std.specs.Prelude.{◌≡◌, ◌&&◌, true, IfOk, bytes_eq, map, slice_get};
 ghost use Rattle.std.specs.List.{list_all, list_any};
 ghost use Rattle.bpl_model.specs.Module.{is_scope};
 ghost use Rattle.bpl_model.specs.StmtView.{stmts_of, body_of};
-ghost use Rattle.bpl_model.specs.TypedTest.{labels_within, is_formula, is_typed, are_typed, is_body};
+ghost use Rattle.bpl_model.specs.TypedTest.{labels_within, are_targets, is_formula, is_formula_or_none, fits, is_call_of, is_typed, are_typed, is_body};
 
 use crate::name::{Name, copy_names};
 use crate::proc::Proc;
@@ -13,7 +13,7 @@ use crate::typed_terms::{
 };
 use crate::variables::Variables;
 use flow_core::Invariant;
-use logic_core::{Def, Sort};
+use logic_core::{Def, Formula, Sort, Term};
 use std::alloc::{AllocError, Global};
 
 impl Stmt {
@@ -93,38 +93,20 @@ impl<'a> Scope<'a> {
     ) -> Result<bool, AllocError>
         ensures { IfOk result (λ h. h ≡ is_typed self.now.defs.now self.now.procs.now self.now.vars.now inside labels.now stmt.now) }
     {
-        let sorts = self.vars.sorts.as_slice();
         match &stmt.form {
             StmtForm::Assert(_, formula) | StmtForm::Assume(_, formula) => {
-                is_formula(alloc, self.defs, sorts, formula)
+                is_formula(alloc, self.defs, self.vars.sorts.as_slice(), formula)
             }
             StmtForm::Havoc(_, targets) => Ok(are_targets(self.vars, targets)),
-            StmtForm::Assign(_, pairs) => Ok(
-                are_targets(self.vars, &targets_of(alloc, pairs)?)
-                    && all_fit(alloc, self.defs, sorts, pairs)?,
-            ),
+            StmtForm::Assign(_, pairs) => self.is_typed_assignment(alloc, pairs),
             StmtForm::Call(_, callee, arguments, targets) => {
-                let Some(callee) = self.procs.get(*callee as usize) else {
-                    return Ok(false);
-                };
-                Ok(
-                    are_targets(self.vars, targets)
-                        && is_call_of(alloc, self.defs, sorts, callee, arguments, targets)?,
-                )
+                self.is_typed_call(alloc, *callee, arguments, targets)
             }
             StmtForm::If(_, guard, first, second) => {
-                Ok(
-                    is_formula_or_none(alloc, self.defs, sorts, guard)?
-                        && self.are_typed(alloc, inside, labels, first)?
-                        && self.are_typed(alloc, inside, labels, second)?,
-                )
+                self.is_typed_if(alloc, inside, labels, guard, first, second)
             }
             StmtForm::While(_, guard, invariants, body) => {
-                Ok(
-                    is_formula_or_none(alloc, self.defs, sorts, guard)?
-                        && are_invariants(alloc, self.defs, sorts, invariants)?
-                        && self.are_typed(alloc, true, labels, body)?,
-                )
+                self.is_typed_while(alloc, labels, guard, invariants, body)
             }
             StmtForm::Break(_, None) => Ok(inside),
             StmtForm::Break(_, Some(label)) => Ok(has_name(labels, label)),
@@ -134,6 +116,78 @@ impl<'a> Scope<'a> {
                 self.is_typed(alloc, inside, &within, behind)
             }
         }
+    }
+
+    // Whether the variables may be set all at once, and each term has the sort of its variable.
+    fn is_typed_assignment(&self, alloc: Global, pairs: &[(u64, Term)]) -> Result<bool, AllocError>
+        ensures { IfOk result (λ h. h ≡ (are_targets self.now.vars.now (map (λ a. a.0) pairs.now) && list_all (fits self.now.defs.now self.now.vars.now.sorts) pairs.now)) }
+    {
+        let sorts = self.vars.sorts.as_slice();
+        Ok(
+            are_targets(self.vars, &targets_of(alloc, pairs)?)
+                && all_fit(alloc, self.defs, sorts, pairs)?,
+        )
+    }
+
+    // Whether there is a procedure of that number, and it may be called so.
+    fn is_typed_call(
+        &self,
+        alloc: Global,
+        callee: u64,
+        arguments: &[Term],
+        targets: &[u64],
+    ) -> Result<bool, AllocError>
+        ensures { IfOk result (λ h. h ≡ (are_targets self.now.vars.now targets.now && is_call_of self.now.defs.now self.now.vars.now.sorts (slice_get self.now.procs.now callee) arguments.now targets.now)) }
+    {
+        let Some(callee) = self.procs.get(callee as usize) else {
+            return Ok(false);
+        };
+        let sorts = self.vars.sorts.as_slice();
+        Ok(
+            are_targets(self.vars, targets)
+                && is_call_of(alloc, self.defs, sorts, callee, arguments, targets)?,
+        )
+    }
+
+    // Whether an if of these branches is typed.
+    #[cycle(typed)]
+    fn is_typed_if(
+        &self,
+        alloc: Global,
+        inside: bool,
+        labels: &[Name],
+        guard: &Option<Formula>,
+        first: &[Stmt],
+        second: &[Stmt],
+    ) -> Result<bool, AllocError>
+        ensures { IfOk result (λ h. h ≡ (is_formula_or_none self.now.defs.now self.now.vars.now.sorts guard.now && (are_typed self.now.defs.now self.now.procs.now self.now.vars.now inside labels.now (stmts_of first.now) && are_typed self.now.defs.now self.now.procs.now self.now.vars.now inside labels.now (stmts_of second.now)))) }
+    {
+        let sorts = self.vars.sorts.as_slice();
+        Ok(
+            is_formula_or_none(alloc, self.defs, sorts, guard)?
+                && self.are_typed(alloc, inside, labels, first)?
+                && self.are_typed(alloc, inside, labels, second)?,
+        )
+    }
+
+    // Whether a loop of this body is typed.
+    #[cycle(typed)]
+    fn is_typed_while(
+        &self,
+        alloc: Global,
+        labels: &[Name],
+        guard: &Option<Formula>,
+        invariants: &[Invariant],
+        body: &[Stmt],
+    ) -> Result<bool, AllocError>
+        ensures { IfOk result (λ h. h ≡ (is_formula_or_none self.now.defs.now self.now.vars.now.sorts guard.now && (list_all (λ i. is_formula self.now.defs.now self.now.vars.now.sorts i.formula) invariants.now && are_typed self.now.defs.now self.now.procs.now self.now.vars.now true labels.now (stmts_of body.now)))) }
+    {
+        let sorts = self.vars.sorts.as_slice();
+        Ok(
+            is_formula_or_none(alloc, self.defs, sorts, guard)?
+                && are_invariants(alloc, self.defs, sorts, invariants)?
+                && self.are_typed(alloc, true, labels, body)?,
+        )
     }
 
     #[cycle(typed)]

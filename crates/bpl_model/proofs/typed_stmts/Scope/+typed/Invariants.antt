@@ -5,10 +5,16 @@ use Rattle.bpl_model.specs.TypedTest.{are_typed}
 use Rattle.bpl_model.proofs.typed_stmts.Scope.+typed.Given as goal
 
 abbrev pub decreases-is_typed : goal.decreases-is_typed
-decreases-is_typed l = 2 * stmt_nodes l.stmt.now
+decreases-is_typed l = 3 * stmt_nodes l.stmt.now
+
+abbrev pub decreases-is_typed_if : goal.decreases-is_typed_if
+decreases-is_typed_if l = 3 * (stmts_nodes (stmts_of l.first.now) + stmts_nodes (stmts_of l.second.now)) + 2
+
+abbrev pub decreases-is_typed_while : goal.decreases-is_typed_while
+decreases-is_typed_while l = 3 * stmts_nodes (stmts_of l.body.now) + 2
 
 abbrev pub decreases-are_typed : goal.decreases-are_typed
-decreases-are_typed l = 2 * stmts_nodes (stmts_of l.stmts.now) + 1
+decreases-are_typed l = 3 * stmts_nodes (stmts_of l.stmts.now) + 1
 
 abbrev pub invariant-are_typed-loop-stmt : goal.invariant-are_typed-loop-stmt
 invariant-are_typed-loop-stmt l = record {
