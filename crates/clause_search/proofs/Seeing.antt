@@ -21,7 +21,7 @@ use Rattle.logic_core.proofs.FirstOccurrences.{eq_same}
 use Rattle.clause_search.specs.Seen.{slot, allows, allows_another, seen_by, with_seen, AreSeen, Cover, Keeps}
 use Rattle.clause_search.specs.declared.mentions.Seen.{Seen}
 use Rattle.clause_search.specs.declared.mentions.Seen.TheVariants.{Never, By, BySeveral}
-use Rattle.clause_search.proofs.Held.{held}
+use Rattle.tableau_branch.proofs.Held.{held}
 
 -- lists all of whose items have something
 pub all_push : {X : Type 0} (P : X → Type 0) (xs : List X) (x : X) → AllByRecursion P xs → P x → AllByRecursion P (xs ++ x ∷ [])

@@ -6,7 +6,6 @@ ghost use Rattle.clause_search.specs.Hashed.{is_hashed, may_close_among};
 use indexmap::IndexSet;
 use std::alloc::{AllocError, Global};
 use tableau_branch::fact::Fact;
-use term_bank::hash::hash;
 
 /// The hashes of the facts.
 pub fn hashes_of(alloc: Global, facts: &[Fact]) -> Result<IndexSet<u64>, AllocError>
@@ -14,7 +13,7 @@ pub fn hashes_of(alloc: Global, facts: &[Fact]) -> Result<IndexSet<u64>, AllocEr
 {
     let mut hashes = IndexSet::new(alloc);
     for fact in facts {
-        hashes.insert(hash(fact.term()))?;
+        hashes.insert(fact.sized().hash())?;
     }
     Ok(hashes)
 }
@@ -27,7 +26,7 @@ fn may_close(hashes: &IndexSet<u64>, fact: &Fact) -> bool
         return true;
     }
     match fact.negation() {
-        Some(negation) => hashes.contains(&hash(negation.term())),
+        Some(negation) => hashes.contains(&negation.hash()),
         None => false,
     }
 }

@@ -84,14 +84,11 @@ impl Mentions {
     }
 
     /// The same of the variables of a fact.
-    fn see_fact(&mut self, alloc: Global, fact: &Fact) -> Result<(), AllocError>
-        ensures kept { OnOk result (Keeps self.old.slots.items self.new.slots.items) }
-        ensures seen { OnOk result (AreSeen self.new.slots.items fact.now.number (variables fact.now.term)) }
+    fn see_fact(&mut self, fact: &Fact)
+        ensures kept { Keeps self.old.slots.items self.new.slots.items }
+        ensures seen { AreSeen self.new.slots.items fact.now.number (variables fact.now.term) }
     {
-        let mut mentioned = Mentioned::nothing(alloc);
-        mentioned.add_term(fact.term())?;
-        self.see_each(&mentioned.variables, fact.number());
-        Ok(())
+        self.see_each(fact.variables(), fact.number());
     }
 
     /// Of facts over so many variables.
@@ -100,7 +97,7 @@ impl Mentions {
     {
         let mut mentions = Mentions::nothing(alloc, count)?;
         for fact in facts {
-            mentions.see_fact(alloc, fact)?;
+            mentions.see_fact(fact);
         }
         Ok(mentions)
     }

@@ -31,7 +31,7 @@ use tableau_branch::played::{Attempt, Move};
 pub fn rewrites(number: u64, left: &Term, other: &Fact) -> bool
     ensures { result ≡ rewrites number left.now other.now }
 {
-    number != other.number() && left.occurs_in(other.term())
+    number != other.number() && other.holds(left)
 }
 
 /// Whether the term occurs in another fact than that of the number.

@@ -1,5 +1,7 @@
 pub mod ChangedFacts
+pub mod Hashes
+pub mod Held
 pub mod Lists
 pub mod Moves
-pub mod Sizes
 pub mod Steps
+pub mod Unmentioned

@@ -41,8 +41,8 @@ impl<'a> Replacing<'a> {
         ensures { result ≡ picks_on self.now.ground self.now.left.now fact.now }
     {
         match self.ground {
-            Ground::Fact(number) => number != fact.number() && self.left.occurs_in(fact.term()),
-            Ground::Equation(_) => self.left.occurs_in(fact.term()),
+            Ground::Fact(number) => number != fact.number() && fact.holds(self.left),
+            Ground::Equation(_) => fact.holds(self.left),
             Ground::Access => self.left.stands_in(fact.term()),
         }
     }

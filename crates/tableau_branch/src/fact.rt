@@ -1,24 +1,30 @@
 // Facts.
-ghost use Rattle.std.specs.Prelude.{◌≡◌, IfOk};
+ghost use Rattle.std.specs.Prelude.{◌≡◌, false, IsTrue, IfOk};
 ghost use Rattle.std.specs.Option.{option_copied};
 ghost use Rattle.logic_core.specs.Junction.{negated};
 ghost use Rattle.logic_core.specs.Same.{same_term};
 ghost use Rattle.logic_core.specs.Size.{capped};
+ghost use Rattle.logic_core.specs.Subterm.{occurs};
 ghost use Rattle.logic_core.specs.Tree.{nodes};
+ghost use Rattle.logic_core.specs.Variables.{variables};
 ghost use Rattle.proof_core.specs.Close.{is_negation_of};
 ghost use Rattle.tableau_branch.specs.Branch.{is_there};
+ghost use Rattle.term_bank.specs.Hash.{hash_of};
 
 use logic_core::fault::NormalFault;
+use logic_core::mention::Mentioned;
 use logic_core::negation::negated;
-use logic_core::term::Term;
+use logic_core::term::{Node, Term};
 use std::alloc::{AllocError, Global};
 use std::marker::Model;
+use term_bank::hash::hash;
 
-/// A term with its size beside it.
+/// A term with its size and its hash beside it.
 #[derive(Drop)]
 pub struct SizedTerm {
     term: Term,
     size: u64,
+    hash: u64,
 }
 
 impl Model for SizedTerm {
@@ -26,6 +32,7 @@ impl Model for SizedTerm {
     ghost use Rattle.logic_core.specs.Tree.{Tree, nodes};
     ghost use Rattle.logic_core.specs.Codes.{coded_tree};
     ghost use Rattle.logic_core.specs.Size.{capped};
+    ghost use Rattle.term_bank.specs.Hash.{hash_of};
 
     ghost Value = { Tree };
 
@@ -33,16 +40,17 @@ impl Model for SizedTerm {
 
     ghost view = { λ a. a.term };
 
-    ghost invariant = { λ a. a.size ≡ capped (nodes a.term) };
+    ghost invariant = { λ a. (a.size ≡ capped (nodes a.term)) × (a.hash ≡ hash_of a.term) };
 }
 
 impl SizedTerm {
-    /// The term with its size.
+    /// The term with its size and its hash.
     pub fn of(term: Term) -> SizedTerm
         ensures { result ≡ term }
     {
         let size = term.size();
-        SizedTerm { term, size }
+        let hash = hash(&term);
+        SizedTerm { term, size, hash }
     }
 
     /// The term.
@@ -59,12 +67,19 @@ impl SizedTerm {
         self.size
     }
 
-    /// Whether the two are the same term: terms of two sizes never are.
-    #[tactic(auto, using(crate::proofs::Sizes::other_size))]
+    /// A hash of the term: equal terms have equal ones.
+    pub fn hash(&self) -> u64
+        ensures { result ≡ hash_of self.now }
+    {
+        self.hash
+    }
+
+    /// Whether the two are the same term: terms of two hashes never are.
+    #[tactic(auto, using(crate::proofs::Hashes::other_hash))]
     pub fn equals(&self, other: &SizedTerm) -> bool
         ensures { result ≡ same_term self.now other.now }
     {
-        if self.size != other.size {
+        if self.hash != other.hash {
             return false;
         }
         self.term.equals(&other.term)
@@ -78,21 +93,25 @@ impl SizedTerm {
         Ok(SizedTerm {
             term,
             size: self.size,
+            hash: self.hash,
         })
     }
 }
 
-/// A normal fact of a branch, and its number in the proof. Its normal Not is kept beside it.
+/// A normal fact of a branch, and its number in the proof. Its normal Not and the variables that it
+/// mentions are kept beside it.
 #[derive(Drop)]
 pub struct Fact {
     term: SizedTerm,
     number: u64,
     negation: Option<SizedTerm>,
+    variables: Vec<u64>,
 }
 
 impl Model for Fact {
     ghost use Rattle.std.specs.Prelude.{◌≡◌};
     ghost use Rattle.logic_core.specs.Junction.{negated};
+    ghost use Rattle.logic_core.specs.Variables.{variables as variables_of};
     ghost use Rattle.tableau_branch.specs.Branch.{Fact as fact};
     ghost use Rattle.tableau_branch.specs.Codes.{coded_fact};
 
@@ -102,7 +121,7 @@ impl Model for Fact {
 
     ghost view = { λ a. record { term = a.term; number = a.number } };
 
-    ghost invariant = { λ a. a.negation ≡ negated a.term };
+    ghost invariant = { λ a. (a.negation ≡ negated a.term) × (a.variables.items ≡ variables_of a.term) };
 }
 
 impl Fact {
@@ -111,10 +130,12 @@ impl Fact {
         ensures { IfOk result (λ f. f ≡ record { term = term; number = number }) }
     {
         let negation = negation(alloc, &term)?;
+        let variables = variables(alloc, &term)?;
         Ok(Fact {
             term: SizedTerm::of(term),
             number,
             negation,
+            variables,
         })
     }
 
@@ -153,6 +174,33 @@ impl Fact {
         self.negation.as_ref()
     }
 
+    /// The formula's variables, each as often as it stands in the formula, in its order.
+    pub fn variables(&self) -> &[u64]
+        ensures { result.now ≡ variables self.now.term }
+    {
+        &self.variables
+    }
+
+    /// Whether the term is a variable that the formula doesn't mention.
+    fn lacks(&self, term: &Term) -> bool
+        ensures { IsTrue result → occurs term.now self.now.term ≡ false }
+    {
+        match &term.node {
+            Node::Free(v) => !self.variables.contains(v),
+            _ => false,
+        }
+    }
+
+    /// Whether the term occurs in the formula.
+    pub fn holds(&self, term: &Term) -> bool
+        ensures { result ≡ occurs term.now self.now.term }
+    {
+        if self.lacks(term) {
+            return false;
+        }
+        term.occurs_in(self.term())
+    }
+
     /// Whether the formula is the normal Not of the other fact's.
     pub fn is_negation_of(&self, other: &Fact) -> bool
         ensures { result ≡ is_negation_of self.now.term other.now.term }
@@ -170,12 +218,24 @@ impl Fact {
         let term = self.term.copy(alloc)?;
         let number = self.number;
         let negation = copy_some(alloc, &self.negation)?;
+        let mut variables = Vec::new(alloc);
+        variables.extend_from_slice(&self.variables)?;
         Ok(Fact {
             term,
             number,
             negation,
+            variables,
         })
     }
+}
+
+/// The variables of a formula, each as often as it stands in it, in its order.
+fn variables(alloc: Global, term: &Term) -> Result<Vec<u64>, AllocError>
+    ensures { IfOk result (λ v. v.items ≡ variables term.now) }
+{
+    let mut mentioned = Mentioned::nothing(alloc);
+    mentioned.add_term(term)?;
+    Ok(mentioned.variables)
 }
 
 /// The normal Not of a normal formula, where it stays in 128 bits.
