@@ -8,7 +8,7 @@ ghost use Rattle.proof_text.specs.declared.node.Argument.TheVariants as argument
 ghost use Rattle.proof_text.specs.declared.state.Cursor.TheVariants.{NodeDue, NodeOpened, StepDone, FactDue, Number, FactorDue, Minus, Digits, CaseOrTerm, Inside, ChildDue, After};
 
 use crate::digit::{digit, first_negative, more_integer, more_number};
-use crate::node::{Argument, Beyond, Branch, Fact, Factor, Level, Ways};
+use crate::node::{Argument, Beyond, Branch, Fact, Factor, Level, Ways, by_cases, by_condition};
 use crate::parts::{Noted, Steps};
 use crate::stack::Stack;
 use crate::state::{Cursor, State};
@@ -167,7 +167,7 @@ impl Open {
                 drop(noted);
                 None
             }
-            Beyond::Close(_, _) => None,
+            Beyond::Close { .. } => None,
             Beyond::Condition(_, term, yes, no) => {
                 drop((term, yes, no));
                 None
@@ -192,35 +192,15 @@ impl Open {
                 Ok(self.stepped(Step::Instantiate { fact: f, terms }))
             }
             Beyond::Cases(f, first, others) => {
-                let first = Box::new(alloc, first)?;
-                Ok(Some(self.ended(
-                    alloc,
-                    End::Cases {
-                        fact: f,
-                        first,
-                        others: others.into_vec(),
-                    },
-                )))
+                let end = by_cases(alloc, f, first, others)?;
+                Ok(Some(self.ended(alloc, end)))
             }
-            Beyond::Close(f, g) => Ok(Some(self.ended(
-                alloc,
-                End::Close {
-                    first: f,
-                    second: g,
-                },
-            ))),
+            Beyond::Close { first, second } => {
+                Ok(Some(self.ended(alloc, End::Close { first, second })))
+            }
             Beyond::Condition(f, term, yes, no) => {
-                let yes = Box::new(alloc, yes)?;
-                let no = Box::new(alloc, no)?;
-                Ok(Some(self.ended(
-                    alloc,
-                    End::Condition {
-                        fact: f,
-                        term,
-                        yes,
-                        no,
-                    },
-                )))
+                let end = by_condition(alloc, f, term, yes, no)?;
+                Ok(Some(self.ended(alloc, end)))
             }
             Beyond::Three(ways, term, below, same, above) => {
                 let end = ways.of(alloc, term, below, same, above)?;

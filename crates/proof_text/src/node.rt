@@ -1,7 +1,8 @@
 // What is open in a node, and what stands behind its numbers, terms and children.
 ghost use Rattle.std.specs.Prelude.{◌≡◌, IfOk};
+ghost use Rattle.proof_core.specs.Proof.{by_cases, by_condition};
 ghost use Rattle.proof_core.specs.ProofView.{end_of};
-ghost use Rattle.proof_core.specs.View.{step_of};
+ghost use Rattle.proof_core.specs.View.{step_of, proofs_of};
 ghost use Rattle.proof_text.specs.declared.node.Beyond.TheVariants as beyond;
 ghost use Rattle.proof_text.specs.States.{numbered, multiplied, given, proved, three_of};
 
@@ -26,14 +27,18 @@ pub enum Fact {
     Unfold,
     Back,
     Combine,
-    CombineBy(u64, i128),
+    CombineBy { first: u64, first_times: i128 },
 }
 
 /// Which multiplier a node has here, with the numbers before it.
 #[derive(Clone, Copy)]
 pub enum Factor {
     First(u64),
-    Second(u64, i128, u64),
+    Second {
+        first: u64,
+        first_times: i128,
+        second: u64,
+    },
 }
 
 /// The nodes with a term and three children.
@@ -47,7 +52,7 @@ pub enum Ways {
 #[derive(Drop)]
 pub enum Argument {
     Instance(u64, Sequence<Term>),
-    Replace(u64, u64),
+    Replace { fact: u64, by: u64 },
     Unfold(u64),
     Back(u64),
     Condition(u64),
@@ -78,7 +83,7 @@ pub enum Beyond {
     Split(u64),
     Instance(u64, Sequence<Term>),
     Cases(u64, Proof, Sequence<Proof>),
-    Close(u64, u64),
+    Close { first: u64, second: u64 },
     Condition(u64, Term, Proof, Proof),
     Three(Ways, Term, Proof, Proof, Proof),
 }
@@ -104,18 +109,25 @@ impl Fact {
     {
         match self {
             Fact::Close => Beyond::Fact(Fact::CloseBy(number)),
-            Fact::CloseBy(f) => Beyond::Close(f, number),
+            Fact::CloseBy(first) => Beyond::Close {
+                first,
+                second: number,
+            },
             Fact::Split => Beyond::Split(number),
             Fact::Instance => Beyond::Instance(number, Sequence::new(alloc)),
             Fact::Skolem => step(Step::Skolem(number)),
             Fact::Differ => step(Step::Differ(number)),
             Fact::Tighten => step(Step::Tighten(number)),
             Fact::Replace => Beyond::Fact(Fact::ReplaceBy(number)),
-            Fact::ReplaceBy(f) => Beyond::Term(Argument::Replace(f, number)),
+            Fact::ReplaceBy(fact) => Beyond::Term(Argument::Replace { fact, by: number }),
             Fact::Unfold => Beyond::Term(Argument::Unfold(number)),
             Fact::Back => Beyond::Term(Argument::Back(number)),
             Fact::Combine => Beyond::Factor(Factor::First(number)),
-            Fact::CombineBy(f, p) => Beyond::Factor(Factor::Second(f, p, number)),
+            Fact::CombineBy { first, first_times } => Beyond::Factor(Factor::Second {
+                first,
+                first_times,
+                second: number,
+            }),
         }
     }
 }
@@ -126,11 +138,18 @@ impl Factor {
         ensures { result ≡ multiplied self number }
     {
         match self {
-            Factor::First(f) => Beyond::Fact(Fact::CombineBy(f, number)),
-            Factor::Second(f, p, g) => step(Step::Combine {
-                first: f,
-                first_times: p,
-                second: g,
+            Factor::First(first) => Beyond::Fact(Fact::CombineBy {
+                first,
+                first_times: number,
+            }),
+            Factor::Second {
+                first,
+                first_times,
+                second,
+            } => step(Step::Combine {
+                first,
+                first_times,
+                second,
                 second_times: number,
             }),
         }
@@ -144,11 +163,7 @@ impl Argument {
     {
         match self {
             Argument::Instance(f, terms) => Ok(Beyond::Instance(f, joined(terms, term)?)),
-            Argument::Replace(f, g) => Ok(step(Step::Replace {
-                fact: f,
-                by: g,
-                term,
-            })),
+            Argument::Replace { fact, by } => Ok(step(Step::Replace { fact, by, term })),
             Argument::Unfold(f) => Ok(step(Step::Unfold { fact: f, term })),
             Argument::Back(f) => Ok(step(Step::Back { fact: f, term })),
             Argument::Condition(f) => Ok(Beyond::Child(Branch::Then(f, term))),
@@ -178,6 +193,43 @@ impl Branch {
             }
         }
     }
+}
+
+/// The node that splits a fact into cases, with their proofs.
+pub fn by_cases(
+    alloc: Global,
+    fact: u64,
+    first: Proof,
+    others: Sequence<Proof>,
+) -> Result<End, AllocError>
+    ensures { IfOk result (λ e. end_of e ≡ by_cases fact first (proofs_of others)) }
+{
+    let first = Box::new(alloc, first)?;
+    Ok(End::Cases {
+        fact,
+        first,
+        others: others.into_vec(),
+    })
+}
+
+/// The node that splits a fact by a condition, with the proofs of both sides.
+pub fn by_condition(
+    alloc: Global,
+    fact: u64,
+    term: Term,
+    yes: Proof,
+    no: Proof,
+) -> Result<End, AllocError>
+    ensures { IfOk result (λ e. end_of e ≡ by_condition fact term yes no) }
+{
+    let yes = Box::new(alloc, yes)?;
+    let no = Box::new(alloc, no)?;
+    Ok(End::Condition {
+        fact,
+        term,
+        yes,
+        no,
+    })
 }
 
 impl Ways {

@@ -1,9 +1,10 @@
 // That each number in a proof is in range. The types say it of each; these walks show it of the whole,
 // and do nothing else.
-ghost use Rattle.std.specs.Prelude.{◌≡◌, true};
+ghost use Rattle.std.specs.Prelude.{◌≡◌, ◌&&◌, true};
 ghost use Rattle.std.specs.List.{list_all};
 ghost use Rattle.logic_core.specs.Wide.{fits};
 ghost use Rattle.logic_core.specs.View.{trees_of, parts_of, patterns_of, each_items};
+ghost use Rattle.proof_core.specs.Proof.{by_condition};
 ghost use Rattle.proof_core.specs.View.{step_of, steps_of, proofs_of};
 ghost use Rattle.proof_core.specs.ProofView.{end_of};
 ghost use Rattle.proof_text.specs.Reading.{is_number, term_fits, terms_fit, parts_fit, triggers_fit, step_fits, steps_fit, proof_fits, end_fits, proofs_fit};
@@ -165,12 +166,7 @@ fn end_fits(end: &End)
             term,
             yes,
             no,
-        } => {
-            number_fits(*fact);
-            term_fits(term);
-            proof_fits(yes);
-            proof_fits(no)
-        }
+        } => condition_fits(*fact, term, yes, no),
         End::Past {
             term,
             below,
@@ -182,13 +178,30 @@ fn end_fits(end: &End)
             below,
             same,
             above,
-        } => {
-            term_fits(term);
-            proof_fits(below);
-            proof_fits(same);
-            proof_fits(above)
-        }
+        } => three_fit(term, below, same, above),
     }
+}
+
+// A split by a condition.
+#[cycle(proofs)]
+fn condition_fits(fact: u64, term: &Term, yes: &Proof, no: &Proof)
+    ensures { end_fits (by_condition fact term.now yes.now no.now) ≡ true }
+{
+    number_fits(fact);
+    term_fits(term);
+    proof_fits(yes);
+    proof_fits(no)
+}
+
+// A term, and the proofs of three children.
+#[cycle(proofs)]
+fn three_fit(term: &Term, below: &Proof, same: &Proof, above: &Proof)
+    ensures { (term_fits term.now && (proof_fits below.now && (proof_fits same.now && proof_fits above.now))) ≡ true }
+{
+    term_fits(term);
+    proof_fits(below);
+    proof_fits(same);
+    proof_fits(above)
 }
 
 #[cycle(proofs)]

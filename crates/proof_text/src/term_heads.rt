@@ -94,7 +94,7 @@ fn trigger(alloc: Global, holes: Stack<Hole>) -> Option<TermState>
     }
 }
 
-// Behind the first byte of <=.
+/// Behind the first byte of `<=`.
 pub fn less(holes: Stack<Hole>, byte: u8) -> Option<TermState>
     ensures { result ≡ term_step holes Less byte }
 {

@@ -2,6 +2,7 @@
 ghost use Rattle.std.specs.Prelude.{◌≡◌, ◌++◌, IfOk, OnOk};
 ghost use Rattle.obligation_text.specs.Numbers.{signed_text};
 ghost use Rattle.obligation_text.specs.Text.{spaced, form};
+ghost use Rattle.proof_core.specs.Proof.{by_cases, by_condition};
 ghost use Rattle.proof_core.specs.View.{step_of, steps_of, proofs_of};
 ghost use Rattle.proof_core.specs.ProofView.{end_of};
 ghost use Rattle.proof_text.specs.Reading.{Spells};
@@ -146,6 +147,44 @@ fn put_children(out: &mut Vec<u8>, proofs: &[Proof]) -> Result<(), AllocError>
     Ok(())
 }
 
+// A split of a fact into cases.
+#[cycle(write)]
+#[tactic(auto, using(logic_core::proofs::Mentioned::behind))]
+fn put_cases(
+    out: &mut Vec<u8>,
+    fact: u64,
+    first: &Proof,
+    others: &[Proof],
+) -> Result<(), AllocError>
+    ensures { OnOk result (out.new.items ≡ out.old.items ++ end_text (by_cases fact first.now (proofs_of others.now))) }
+{
+    open(out, b"s")?;
+    put_fact(out, fact)?;
+    put_child(out, first)?;
+    put_children(out, others)?;
+    put(out, b")")
+}
+
+// A split of a fact by a condition.
+#[cycle(write)]
+#[tactic(auto, using(logic_core::proofs::Mentioned::behind))]
+fn put_condition(
+    out: &mut Vec<u8>,
+    fact: u64,
+    term: &Term,
+    yes: &Proof,
+    no: &Proof,
+) -> Result<(), AllocError>
+    ensures { OnOk result (out.new.items ≡ out.old.items ++ end_text (by_condition fact term.now yes.now no.now)) }
+{
+    open(out, b"s")?;
+    put_fact(out, fact)?;
+    put_spaced(out, term)?;
+    put_child(out, yes)?;
+    put_child(out, no)?;
+    put(out, b")")
+}
+
 // A node that names a term, with a child for each of three cases.
 #[cycle(write)]
 #[tactic(auto, using(logic_core::proofs::Mentioned::behind))]
@@ -183,26 +222,13 @@ fn put_end(out: &mut Vec<u8>, end: &End) -> Result<(), AllocError>
             fact,
             first,
             others,
-        } => {
-            open(out, b"s")?;
-            put_fact(out, *fact)?;
-            put_child(out, first)?;
-            put_children(out, others)?;
-            put(out, b")")
-        }
+        } => put_cases(out, *fact, first, others),
         End::Condition {
             fact,
             term,
             yes,
             no,
-        } => {
-            open(out, b"s")?;
-            put_fact(out, *fact)?;
-            put_spaced(out, term)?;
-            put_child(out, yes)?;
-            put_child(out, no)?;
-            put(out, b")")
-        }
+        } => put_condition(out, *fact, term, yes, no),
         End::Past {
             term,
             below,

@@ -14,6 +14,12 @@ decreases-end_fits l = 3 * end_nodes (end_of l.end.now)
 abbrev pub decreases-proofs_fit : goal.decreases-proofs_fit
 decreases-proofs_fit l = 3 * proofs_nodes (proofs_of l.proofs.now) + 2
 
+abbrev pub decreases-condition_fits : goal.decreases-condition_fits
+decreases-condition_fits l = 3 * (proof_nodes l.yes.now + proof_nodes l.no.now) + 2
+
+abbrev pub decreases-three_fit : goal.decreases-three_fit
+decreases-three_fit l = 3 * (proof_nodes l.below.now + proof_nodes l.same.now + proof_nodes l.above.now) + 2
+
 -- all fit where those that are left do
 abbrev pub invariant-proofs_fit-loop-proof : goal.invariant-proofs_fit-loop-proof
 invariant-proofs_fit-loop-proof l = record {

@@ -14,6 +14,12 @@ decreases-put_child l = 5 * proof_nodes l.proof.now + 2
 abbrev pub decreases-put_children : goal.decreases-put_children
 decreases-put_children l = 5 * proofs_nodes (proofs_of l.proofs.now) + 3
 
+abbrev pub decreases-put_cases : goal.decreases-put_cases
+decreases-put_cases l = 5 * (proof_nodes l.first.now + proofs_nodes (proofs_of l.others.now)) + 4
+
+abbrev pub decreases-put_condition : goal.decreases-put_condition
+decreases-put_condition l = 5 * (proof_nodes l.yes.now + proof_nodes l.no.now) + 4
+
 abbrev pub decreases-put_three_ways : goal.decreases-put_three_ways
 decreases-put_three_ways l = 5 * (proof_nodes l.below.now + proof_nodes l.same.now + proof_nodes l.above.now) + 4
 
