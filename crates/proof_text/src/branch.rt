@@ -2,13 +2,13 @@
 ghost use Rattle.std.specs.Prelude.{◌≡◌, Some, IfOk};
 ghost use Rattle.proof_core.specs.View.{step_of};
 ghost use Rattle.proof_core.specs.ProofView.{end_of};
-ghost use Rattle.proof_text.specs.States.{at, stepped, next_node, ended, into, term_due, in_term, beyond_space, beyond_close, beyond_step, step};
+ghost use Rattle.proof_text.specs.States.{at, stepped, next_node, ended, into, term_due, in_term, beyond_space, beyond_step, step};
 ghost use Rattle.proof_text.specs.declared.node.Beyond.TheVariants as beyond;
 ghost use Rattle.proof_text.specs.declared.node.Argument.TheVariants as argument;
 ghost use Rattle.proof_text.specs.declared.state.Cursor.TheVariants.{NodeDue, NodeOpened, StepDone, FactDue, Number, FactorDue, Minus, Digits, CaseOrTerm, Inside, ChildDue, After};
 
 use crate::digit::{digit, first_negative, more_integer, more_number};
-use crate::node::{Argument, Beyond, Branch, Fact, Factor, Level, Ways, by_cases, by_condition};
+use crate::node::{Argument, Beyond, Branch, Fact, Factor, Level, Ways};
 use crate::parts::{Noted, Steps};
 use crate::stack::Stack;
 use crate::state::{Cursor, State};
@@ -35,8 +35,8 @@ impl Open {
         }
     }
 
-    // The state behind a step.
-    fn stepped(self, step: Step) -> Option<State>
+    /// The state behind a step.
+    pub fn stepped(self, step: Step) -> Option<State>
         ensures { result ≡ Some (stepped self.levels self.steps (step_of step)) }
     {
         Some(self.at(Cursor::StepDone(Noted { step })))
@@ -54,8 +54,8 @@ impl Open {
         })
     }
 
-    // The state behind the end of the branch.
-    fn ended(self, alloc: Global, end: End) -> State
+    /// The state behind the end of the branch.
+    pub fn ended(self, alloc: Global, end: End) -> State
         ensures { result ≡ ended self.levels self.steps (end_of end) }
     {
         let steps = self.steps.into_vec();
@@ -175,36 +175,6 @@ impl Open {
             Beyond::Three(_, term, below, same, above) => {
                 drop((term, below, same, above));
                 None
-            }
-        }
-    }
-
-    // The parenthesis that closes a node, behind a part.
-    fn close(self, alloc: Global, beyond: Beyond) -> Result<Option<State>, AllocError>
-        ensures { IfOk result (λ o. o ≡ beyond_close self.levels self.steps beyond) }
-    {
-        match beyond {
-            Beyond::Fact(_) | Beyond::Factor(_) | Beyond::Term(_) | Beyond::Child(_) => Ok(None),
-            Beyond::Step(noted) => Ok(self.stepped(noted.step)),
-            Beyond::Split(f) => Ok(self.stepped(Step::Split(f))),
-            Beyond::Instance(f, terms) => {
-                let terms = terms.into_vec();
-                Ok(self.stepped(Step::Instantiate { fact: f, terms }))
-            }
-            Beyond::Cases(f, first, others) => {
-                let end = by_cases(alloc, f, first, others)?;
-                Ok(Some(self.ended(alloc, end)))
-            }
-            Beyond::Close { first, second } => {
-                Ok(Some(self.ended(alloc, End::Close { first, second })))
-            }
-            Beyond::Condition(f, term, yes, no) => {
-                let end = by_condition(alloc, f, term, yes, no)?;
-                Ok(Some(self.ended(alloc, end)))
-            }
-            Beyond::Three(ways, term, below, same, above) => {
-                let end = ways.of(alloc, term, below, same, above)?;
-                Ok(Some(self.ended(alloc, end)))
             }
         }
     }

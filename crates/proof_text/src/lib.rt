@@ -11,6 +11,7 @@ mod stack;
 
 // The state behind one more byte.
 mod branch;
+mod closing;
 mod quantifier_sorts;
 mod state;
 mod term_behind;

@@ -1,8 +1,7 @@
 // What is open in a node, and what stands behind its numbers, terms and children.
 ghost use Rattle.std.specs.Prelude.{◌≡◌, IfOk};
-ghost use Rattle.proof_core.specs.Proof.{by_cases, by_condition};
 ghost use Rattle.proof_core.specs.ProofView.{end_of};
-ghost use Rattle.proof_core.specs.View.{step_of, proofs_of};
+ghost use Rattle.proof_core.specs.View.{step_of};
 ghost use Rattle.proof_text.specs.declared.node.Beyond.TheVariants as beyond;
 ghost use Rattle.proof_text.specs.States.{numbered, multiplied, given, proved, three_of};
 
@@ -193,43 +192,6 @@ impl Branch {
             }
         }
     }
-}
-
-/// The node that splits a fact into cases, with their proofs.
-pub fn by_cases(
-    alloc: Global,
-    fact: u64,
-    first: Proof,
-    others: Sequence<Proof>,
-) -> Result<End, AllocError>
-    ensures { IfOk result (λ e. end_of e ≡ by_cases fact first (proofs_of others)) }
-{
-    let first = Box::new(alloc, first)?;
-    Ok(End::Cases {
-        fact,
-        first,
-        others: others.into_vec(),
-    })
-}
-
-/// The node that splits a fact by a condition, with the proofs of both sides.
-pub fn by_condition(
-    alloc: Global,
-    fact: u64,
-    term: Term,
-    yes: Proof,
-    no: Proof,
-) -> Result<End, AllocError>
-    ensures { IfOk result (λ e. end_of e ≡ by_condition fact term yes no) }
-{
-    let yes = Box::new(alloc, yes)?;
-    let no = Box::new(alloc, no)?;
-    Ok(End::Condition {
-        fact,
-        term,
-        yes,
-        no,
-    })
 }
 
 impl Ways {
