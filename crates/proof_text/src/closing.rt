@@ -6,6 +6,7 @@ ghost use Rattle.proof_text.specs.States.{ended, beyond_close, three_of};
 
 use crate::branch::Open;
 use crate::node::{Beyond, Ways};
+use crate::parts::boxed;
 use crate::state::State;
 use logic_core::sequence::Sequence;
 use logic_core::term::Term;
@@ -46,8 +47,7 @@ impl Open {
     ) -> Result<Option<State>, AllocError>
         ensures { IfOk result (λ o. o ≡ Some (ended self.levels self.steps (by_condition fact term yes no))) }
     {
-        let yes = Box::new(alloc, yes)?;
-        let no = Box::new(alloc, no)?;
+        let (yes, no) = boxed(alloc, yes, no)?;
         Ok(Some(self.ended(
             alloc,
             End::Condition {

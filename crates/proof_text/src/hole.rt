@@ -4,7 +4,7 @@ ghost use Rattle.logic_core.specs.View.{parts_of};
 ghost use Rattle.proof_text.specs.TermStates.{pair_of, triple_of, many_of, bound_of, full_of, body_of, filled};
 ghost use Rattle.logic_core.specs.Tree.{linear};
 
-use crate::parts::{Patterns, joined};
+use crate::parts::{Patterns, boxed, boxed_three, joined};
 use logic_core::sequence::Sequence;
 use logic_core::sort::Sort;
 use logic_core::term::{Node, Term};
@@ -83,8 +83,7 @@ impl Pair {
     pub fn of(self, alloc: Global, a: Term, b: Term) -> Result<Term, AllocError>
         ensures { IfOk result (λ t. t ≡ pair_of self a b) }
     {
-        let a = Box::new(alloc, a)?;
-        let b = Box::new(alloc, b)?;
+        let (a, b) = boxed(alloc, a, b)?;
         match self {
             Pair::Mul => Ok(Term::new(Node::Mul(a, b))),
             Pair::Read => Ok(Term::new(Node::Read(a, b))),
@@ -99,9 +98,7 @@ impl Triple {
     pub fn of(self, alloc: Global, a: Term, b: Term, c: Term) -> Result<Term, AllocError>
         ensures { IfOk result (λ t. t ≡ triple_of self a b c) }
     {
-        let a = Box::new(alloc, a)?;
-        let b = Box::new(alloc, b)?;
-        let c = Box::new(alloc, c)?;
+        let (a, b, c) = boxed_three(alloc, a, b, c)?;
         match self {
             Triple::Write => Ok(Term::new(Node::Write(a, b, c))),
             Triple::If => Ok(Term::new(Node::If(a, b, c))),
@@ -198,7 +195,10 @@ impl Hole {
     {
         match self {
             Hole::Body(binder, sorts, patterns) => Some((binder, sorts, patterns)),
-            _ => None,
+            other => {
+                drop(other);
+                None
+            }
         }
     }
 }

@@ -5,7 +5,7 @@ ghost use Rattle.proof_core.specs.View.{step_of};
 ghost use Rattle.proof_text.specs.declared.node.Beyond.TheVariants as beyond;
 ghost use Rattle.proof_text.specs.States.{numbered, multiplied, given, proved, three_of};
 
-use crate::parts::{Noted, Steps, joined};
+use crate::parts::{Noted, Steps, boxed_three, joined};
 use logic_core::sequence::Sequence;
 use logic_core::term::Term;
 use proof_core::proof::{End, Proof, Step};
@@ -206,9 +206,7 @@ impl Ways {
     ) -> Result<End, AllocError>
         ensures { IfOk result (λ e. end_of e ≡ three_of self term below same above) }
     {
-        let below = Box::new(alloc, below)?;
-        let same = Box::new(alloc, same)?;
-        let above = Box::new(alloc, above)?;
+        let (below, same, above) = boxed_three(alloc, below, same, above)?;
         match self {
             Ways::Past => Ok(End::Past {
                 term,

@@ -128,3 +128,26 @@ pub fn joined<T: Drop>(items: Sequence<T>, item: T) -> Result<Sequence<T>, Alloc
     items.push(item)?;
     Ok(items)
 }
+
+/// Both values, each in a box.
+pub fn boxed<T: Drop>(alloc: Global, first: T, second: T) -> Result<(Box<T>, Box<T>), AllocError>
+    ensures { IfOk result (λ r. (r.0.value ≡ first) × (r.1.value ≡ second)) }
+{
+    let first = Box::new(alloc, first)?;
+    let second = Box::new(alloc, second)?;
+    Ok((first, second))
+}
+
+/// The three values, each in a box.
+pub fn boxed_three<T: Drop>(
+    alloc: Global,
+    first: T,
+    second: T,
+    third: T,
+) -> Result<(Box<T>, Box<T>, Box<T>), AllocError>
+    ensures { IfOk result (λ r. (r.0.value ≡ first) × (r.1.value ≡ second) × (r.2.value ≡ third)) }
+{
+    let third = Box::new(alloc, third)?;
+    let (first, second) = boxed(alloc, first, second)?;
+    Ok((first, second, third))
+}
