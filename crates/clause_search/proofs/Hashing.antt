@@ -19,7 +19,10 @@ use Rattle.tableau_branch.specs.Branch.{Fact}
 use Rattle.logic_rules.specs.Closing.{are_opposed, pair_from}
 use Rattle.term_bank.specs.Hash.{hash_of}
 use Rattle.clause_search.specs.Hashed.{is_hashed, may_close_among}
-use Rattle.clause_search.proofs.Seeing.{all_push}
+
+all_push : {X : Type 0} (P : X → Type 0) (xs : List X) (x : X) → AllByRecursion P xs → P x → AllByRecursion P (xs ++ x ∷ [])
+all_push P [] x h p = (p, tt)
+all_push P (y ∷ ys) x h p = (h.0, all_push P ys x h.1 p)
 
 module _ (hs : List ℕ) where
   -- its hash is there, and nothing that it closes with

@@ -1,2 +1,8 @@
-pub mod Seen
 pub mod Hashed
+pub mod Slotted
+pub mod Listed
+pub mod Linked
+pub mod Placed
+pub mod Heads
+pub mod Leads
+pub mod ForAlls

@@ -1,15 +1,21 @@
 //! The search for a proof of an obligation, in less time: its steps are those of the definition, and
-//! so are its verdict and its proof. Before a rule is tried on pairs of facts or on pairs of a term
-//! and a fact, tables over the branch tell what can't come of it: `hashes` of which facts none is
-//! the Not of another, `mentions` which terms stand in no other fact.
+//! so are its verdict and its proof. Indexes over the branch list what a walk finds: `occurrences`
+//! which facts mention a variable, `ground` which ground terms have a head. `hashes` tells of which
+//! facts none is the Not of another.
 #![tactic(auto)]
 
-// Tables over the facts of a branch.
+// Indexes over the facts of a branch.
+mod ground;
 pub mod hashes;
-pub mod mentions;
+mod matching;
+pub mod occurrences;
+mod places;
+mod slots;
 
 // Rules that ask them.
 pub mod closing;
+pub mod combining;
+pub mod instantiating;
 pub mod rewriting;
 
 // The search.

@@ -3,6 +3,7 @@ ghost use Rattle.std.specs.Prelude.{◌≡◌, [], ◌∷◌, IfOk};
 ghost use Rattle.tableau.specs.Search.{run};
 ghost use Rattle.tableau.specs.RunView.{run_of};
 
+use crate::occurrences::Occurrences;
 use crate::rules::step;
 use logic_core::def::Def;
 use logic_core::fault::NormalFault;
@@ -10,13 +11,21 @@ use std::alloc::{AllocError, Global};
 use tableau::ended::{Run, Verdict};
 use tableau_branch::branch::Branch;
 use tableau_branch::played::Move;
+use term_bank::Bank;
 
 /// Lets a step go.
 fn discard(_step: Move) {}
 
-/// Searches from one branch: a step at a time on the branch on top of the stack, as long as its
-/// cost is paid by the turns that are left.
-pub fn run(alloc: Global, defs: &[Def], turns: u64, first: Branch) -> Result<Run, AllocError>
+/// Searches from one branch with these tables: a step at a time on the branch on top of the stack, as
+/// long as its cost is paid by the turns that are left.
+fn run_with(
+    alloc: Global,
+    defs: &[Def],
+    bank: &mut Bank,
+    occurrences: &mut Occurrences,
+    turns: u64,
+    first: Branch,
+) -> Result<Run, AllocError>
     ensures { IfOk result (λ r. run_of r ≡ run defs.now turns turns (first ∷ [])) }
 {
     let mut left = turns;
@@ -24,7 +33,7 @@ pub fn run(alloc: Global, defs: &[Def], turns: u64, first: Branch) -> Result<Run
     let mut stack = Vec::new(alloc);
     stack.push(first)?;
     while let Some(branch) = stack.pop() {
-        match step(alloc, defs, branch) {
+        match step(alloc, defs, bank, occurrences, branch) {
             Ok(Some(step)) => {
                 let cost = step.cost();
                 if left < cost {
@@ -56,4 +65,14 @@ pub fn run(alloc: Global, defs: &[Def], turns: u64, first: Branch) -> Result<Run
         verdict: Verdict::Proved,
         moves,
     })
+}
+
+/// Searches from one branch: a step at a time on the branch on top of the stack, as long as its
+/// cost is paid by the turns that are left.
+pub fn run(alloc: Global, defs: &[Def], turns: u64, first: Branch) -> Result<Run, AllocError>
+    ensures { IfOk result (λ r. run_of r ≡ run defs.now turns turns (first ∷ [])) }
+{
+    let mut bank = Bank::new(alloc);
+    let mut occurrences = Occurrences::new(alloc);
+    run_with(alloc, defs, &mut bank, &mut occurrences, turns, first)
 }
