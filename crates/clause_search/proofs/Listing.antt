@@ -1,5 +1,5 @@
 -- The positions that are listed for a variable are those of the facts that mention it.
-use Rattle.std.proofs.Common.{◌≡◌, refl, sym, ap, subst, ◌∙◌, ℕ, suc, ◌+◌, ◌<◌, nat_eq, not, Bool, true, false, cond, ◌&&◌, ◌||◌, List, [], ◌∷◌, ◌++◌, map, filter, drop, length, get_or, slice_get, Option, Some, arith}
+use Rattle.std.proofs.Common.{◌≡◌, refl, sym, ap, subst, ◌∙◌, ℕ, suc, ◌+◌, ◌<◌, nat_eq, not, Bool, true, false, cond, ◌&&◌, ◌||◌, List, [], ◌∷◌, ◌++◌, map, filter, drop, length, get_or, slice_get, Option, Some, None, arith}
 use Rattle.std.specs.List.{list_any, AllByRecursion}
 use Rattle.std.proofs.lemmas.List.{append-nil, append_assoc}
 use Rattle.std.proofs.lemmas.List.Folds.{list_any-append}
@@ -116,3 +116,11 @@ others n l v fs ps e h = by (variables l) refl e
     by : (ws : List ℕ) → variables l ≡ ws → Some v ≡ slice_get ws 0 → list_any (rewrites_at n l fs) (listed ps v) ≡ list_any (rewrites n l) fs
     by [] q g = absurd (cc)
     by (w ∷ ws) q g = let same : w ≡ v = cc in in_others n l v ws (q ∙ ap (λ x. x ∷ ws) same) fs ps h
+
+-- there is no fact behind the last one
+pub none_beyond : (n : ℕ) (l : Tree) (fs : List Fact) → rewrites_at n l fs (length fs) ≡ false
+none_beyond n l fs = ap (λ o. is_some_and o (rewrites n l)) (none fs)
+  where
+    none : (gs : List Fact) → slice_get gs (length gs) ≡ None
+    none [] = refl
+    none (g ∷ gs) = none gs

@@ -1,5 +1,5 @@
 // Which facts of a branch mention a variable.
-ghost use Rattle.std.specs.Prelude.{◌≡◌, ◌<◌, [], ◌∷◌, ◌++◌, map, OnOk};
+ghost use Rattle.std.specs.Prelude.{◌≡◌, ◌<◌, [], ◌∷◌, ◌++◌, map, false, OnOk};
 ghost use Rattle.std.specs.List.{list_any};
 ghost use Rattle.std.specs.Vec.{vec_len, vec_capacity};
 ghost use Rattle.clause_search.specs.Listed.{listed, AreListed, IsListed, rewrites_at};
@@ -72,6 +72,17 @@ fn rewrites_at(number: u64, left: &Term, facts: &[Fact], position: usize) -> boo
         Some(fact) => rewrites(number, left, fact),
         None => false,
     }
+}
+
+/// The same at a position that isn't the last one, at which it isn't so.
+fn rewrites_new(number: u64, left: &Term, facts: &[Fact], position: usize, last: usize) -> bool
+    requires { rewrites_at number left.now facts.now last ≡ false }
+    ensures { result ≡ rewrites_at number left.now facts.now position }
+{
+    if position == last {
+        return false;
+    }
+    rewrites_at(number, left, facts, position)
 }
 
 impl Occurrences {
@@ -148,11 +159,13 @@ impl Occurrences {
         ensures { result ≡ list_any (rewrites_at number left.now facts.now) (listed self.now variable) }
     {
         let mut next = in_slot(&self.first, variable).copied();
+        let mut last = facts.len();
         while let Some(place) = next {
             let link = self.links[place];
-            if rewrites_at(number, left, facts, link.position) {
+            if rewrites_new(number, left, facts, link.position, last) {
                 return true;
             }
+            last = link.position;
             next = link.next;
         }
         false
