@@ -8,7 +8,7 @@ use std::alloc::{AllocError, Global};
 
 /// A body, with the parameters of the declaration in which it stands.
 #[derive(Clone, Copy)]
-pub(crate) struct Implemented<'a> {
+pub struct Implemented<'a> {
     pub signature: &'a Signature,
     pub body: &'a Body,
 }

@@ -8,8 +8,8 @@ mod stmts;
 mod targets;
 
 // The parts of procedures.
-mod implementations;
-mod procedures;
+pub mod implementations;
+pub mod procedures;
 mod specs;
 mod variables;
 
@@ -19,7 +19,7 @@ mod constants;
 mod functions;
 mod globals;
 mod places;
-mod texts;
+pub mod texts;
 
 // The whole.
 pub mod module;

@@ -133,8 +133,8 @@ fn stmts_in<'d, 'a>(
     }
 }
 
-// The procedure of this name and contract, with this body.
-fn procedure<'d, 'a>(
+/// The procedure of this name and contract, with this body.
+pub fn procedure<'d, 'a>(
     alloc: Global,
     declared: &Declared<'d, 'a>,
     order: &Positions,

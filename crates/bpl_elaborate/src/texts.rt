@@ -43,8 +43,8 @@ fn decl_name(alloc: Global, decl: &Decl) -> Result<Name, AllocError>
     })
 }
 
-// The texts of a declaration, among so many.
-fn decl_text(
+/// The texts of a declaration, among so many.
+pub fn decl_text(
     alloc: Global,
     table: &Table,
     count: usize,

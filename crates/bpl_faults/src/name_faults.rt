@@ -1,7 +1,8 @@
 // The faults of a name in an expression, by what it means, and of sorts.
 ghost use Rattle.std.specs.Prelude.{◌≡◌};
 ghost use Rattle.bpl_scopes.specs.Fault.{earlier, first_fault};
-ghost use Rattle.bpl_scopes.specs.Sorts.{reads_globals, applied_heading};
+ghost use Rattle.bpl_scopes.specs.Scopes.{declared_as};
+ghost use Rattle.bpl_scopes.specs.Sorts.{reads_globals};
 ghost use Rattle.bpl_scopes.specs.Shape.{kind_of, kind_seen};
 ghost use Rattle.bpl_scopes.specs.TableView.{entity_seen};
 ghost use Rattle.bpl_faults.specs.NameFaults.{entity_faults, variable_faults, application_faults, reads_entry, old_faults, sort_faults, same_sort_faults, map_faults};
@@ -113,7 +114,6 @@ pub fn note_map(faults: &mut Faults, found: Option<Shape>, at: Place)
 
 impl<'s, 'a> Scope<'s, 'a> {
     /// Finds the faults of a name that is applied to so many arguments.
-    #[tactic(auto, using(bpl_scopes::proofs::FirstFault::joins))]
     pub fn note_application(
         &self,
         faults: &mut Faults,
@@ -126,38 +126,46 @@ impl<'s, 'a> Scope<'s, 'a> {
         ensures { faults.new.first ≡ earlier faults.old.first (first_fault (application_faults (scope_seen self.now) is_formula name.now (meaning_seen meaning.entry) arguments at)) }
     {
         match meaning {
-            Meaning::Declared(
-                Entity::Function {
-                    ins,
-                    of: _,
-                    value: _,
-                },
-            ) => {
+            Meaning::Bound(_, _) => faults.note(TypeKind::Kind, at),
+            Meaning::Variable(_) => faults.note(TypeKind::Kind, at),
+            Meaning::Declared(entity) => {
+                self.note_applied(faults, is_formula, name, entity, arguments, at);
+            }
+            Meaning::Nothing => faults.note(TypeKind::Unknown, at),
+        }
+    }
+
+    // Finds the faults of a declared name that is applied to so many arguments.
+    #[tactic(auto, using(bpl_scopes::proofs::FirstFault::joins))]
+    fn note_applied(
+        &self,
+        faults: &mut Faults,
+        is_formula: bool,
+        name: &[u8],
+        entity: Entity<'a>,
+        arguments: usize,
+        at: Place,
+    )
+        ensures { faults.new.first ≡ earlier faults.old.first (first_fault (application_faults (scope_seen self.now) is_formula name.now (declared_as (entity_seen entity.entry)) arguments at)) }
+    {
+        match entity {
+            Entity::Constant { number: _, of: _ } => faults.note(TypeKind::Kind, at),
+            Entity::Global { number: _, of: _ } => faults.note(TypeKind::Kind, at),
+            Entity::Function {
+                ins,
+                of: _,
+                value: _,
+            } => {
                 faults.note_unless(ins.len() == arguments, TypeKind::Arity, at);
                 let is_logical = self.environment.is_logical(name);
                 faults.note_if(!is_formula && is_logical, TypeKind::QuantifierHere, at);
             }
-            Meaning::Nothing => faults.note(TypeKind::Unknown, at),
-            Meaning::Bound(_, _) => faults.note(TypeKind::Kind, at),
-            Meaning::Variable(_) => faults.note(TypeKind::Kind, at),
-            Meaning::Declared(Entity::Constant { number: _, of: _ }) => faults.note(
-                TypeKind::Kind,
-                at,
-            ),
-            Meaning::Declared(Entity::Global { number: _, of: _ }) => faults.note(
-                TypeKind::Kind,
-                at,
-            ),
-            Meaning::Declared(Entity::Synonym { of: _ }) => faults.note(TypeKind::Kind, at),
-            Meaning::Declared(
-                Entity::Procedure {
-                    number: _,
-                    signature: _,
-                    specs: _,
-                },
-            ) => {
-                faults.note(TypeKind::Kind, at);
-            }
+            Entity::Synonym { of: _ } => faults.note(TypeKind::Kind, at),
+            Entity::Procedure {
+                number: _,
+                signature: _,
+                specs: _,
+            } => faults.note(TypeKind::Kind, at),
         }
     }
 }

@@ -254,8 +254,9 @@ fn note_decl<'a>(
     }
 }
 
-// The fault of a declaration.
-fn fault_of_decl<'a>(
+/// The first fault of a declaration, by place and then by kind, where these names and bodies stand before
+/// it. The names that it declares, and the procedure that it gives a body, come behind them.
+pub fn fault_of_decl<'a>(
     alloc: Global,
     dependencies: &Dependencies<'a>,
     counts: Counts,

@@ -40,7 +40,7 @@ pub use bv_base::place::Place;
 pub use decl::{Const, Function, Global, Local};
 pub use flow_core::{GoalKind, Invariant, Mark};
 pub use links::Links;
-pub use module::{DeclText, Module, Parts};
+pub use module::{DeclText, DeclaredProc, Module, Parts};
 pub use name::Name;
 pub use proc::Proc;
 pub use spec::{Spec, SpecForm};

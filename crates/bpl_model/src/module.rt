@@ -1,5 +1,6 @@
 // Modules.
-ghost use Rattle.std.specs.Prelude.{◌≡◌};
+ghost use Rattle.std.specs.Prelude.{◌≡◌, ◌<◌, length, slice_get, Some};
+ghost use Rattle.bpl_model.specs.Module.{with_procedure};
 ghost use Rattle.bpl_model.specs.Typed.{IsTypedModule};
 
 use crate::decl::{Const, Function, Global};
@@ -7,6 +8,7 @@ use crate::name::Name;
 use crate::proc::Proc;
 use logic_core::Formula;
 use std::marker::Model;
+use std::mem;
 
 /// A declaration's canonical text, the same without a body, and the positions of the declarations
 /// that the names of each of the two stand for.
@@ -28,6 +30,13 @@ impl Model for DeclText {
     ghost coded = { coded_decl_text };
 
     ghost view = { λ a. record { name = a.name; text = a.text.items; contract = a.contract.items; leads = a.leads.items; contract_leads = a.contract_leads.items } };
+}
+
+/// A procedure, and the texts of its declaration.
+#[derive(Drop)]
+pub struct DeclaredProc {
+    pub proc: Proc,
+    pub text: DeclText,
 }
 
 /// The parts of a module, typed or not.
@@ -100,5 +109,25 @@ impl Module {
         ensures typed { IsTypedModule result.now }
     {
         &self.parts
+    }
+
+    /// Puts a procedure and the texts of its declaration in the place of others, which are given back.
+    pub fn put_procedure(
+        &mut self,
+        proc_at: usize,
+        decl_at: usize,
+        declared: DeclaredProc,
+    ) -> DeclaredProc
+        requires procs { proc_at < length self.old.procs }
+        requires texts { decl_at < length self.old.texts }
+        requires typed { IsTypedModule (with_procedure proc_at declared.proc decl_at declared.text self.old) }
+        ensures put { self.new ≡ with_procedure proc_at declared.proc decl_at declared.text self.old }
+        ensures proc { Some result.proc ≡ slice_get self.old.procs proc_at }
+        ensures text { Some result.text ≡ slice_get self.old.texts decl_at }
+    {
+        let DeclaredProc { proc, text } = declared;
+        let proc = mem::replace(&mut self.parts.procs[proc_at], proc);
+        let text = mem::replace(&mut self.parts.texts[decl_at], text);
+        DeclaredProc { proc, text }
     }
 }
