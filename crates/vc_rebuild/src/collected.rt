@@ -1,5 +1,5 @@
 // Procedures, as long as their goals exceed no limit.
-ghost use Rattle.std.specs.Prelude.{◌≡◌, ◌∷◌, [], ◌++◌, true, None, OnOk, sum};
+ghost use Rattle.std.specs.Prelude.{◌≡◌, ◌∷◌, [], ◌++◌, true, None, OnOk, length, sum};
 ghost use Rattle.logic_core.specs.Size.{capped};
 ghost use Rattle.vc_build.specs.Large.{large, sizes_of};
 ghost use Rattle.vc_rebuild.specs.Kept.{all_goals};
@@ -60,6 +60,13 @@ impl Collected {
             count: 0,
             bytes: 0,
         }
+    }
+
+    /// How many procedures there are.
+    pub fn len(&self) -> usize
+        ensures { result ≡ length self.now }
+    {
+        self.procs.len()
     }
 
     /// Whether no limit is exceeded with these goals behind.

@@ -46,6 +46,24 @@ impl DigestedText {
         })
     }
 
+    /// The text; where the other one is the same, its digest is taken over.
+    pub fn like(
+        alloc: Global,
+        text: Vec<u8>,
+        other: &DigestedText,
+    ) -> Result<DigestedText, AllocError>
+        ensures { IfOk result (λ d. d ≡ text.items) }
+    {
+        if text.as_slice() != other.text() {
+            return DigestedText::of(alloc, text);
+        }
+        let digest = Vec::from_slice(alloc, other.digest())?;
+        Ok(DigestedText {
+            text: Sequence::of(text),
+            digest: Sequence::of(digest),
+        })
+    }
+
     /// It.
     pub fn text(&self) -> &[u8]
         ensures { result.now ≡ self.now }

@@ -31,12 +31,20 @@ pub struct MadeProc {
     pub is_new: bool,
 }
 
-// The procedure's dependency text.
-fn text_of(alloc: Global, links: &Links<'_>, proc: &Proc) -> Result<DigestedText, AllocError>
+// The procedure's dependency text. Where a procedure before has the same one, its digest is taken over.
+fn text_of(
+    alloc: Global,
+    links: &Links<'_>,
+    proc: &Proc,
+    there: Option<&BuiltProc>,
+) -> Result<DigestedText, AllocError>
     ensures { IfOk result (λ t. t ≡ depends links.now proc.now) }
 {
     let text = depends(alloc, links, proc)?;
-    DigestedText::of(alloc, text)
+    match there {
+        Some(there) => DigestedText::like(alloc, text, there.depends()),
+        None => DigestedText::of(alloc, text),
+    }
 }
 
 // The goals of the candidate, with the marks of the present procedure.
@@ -143,10 +151,11 @@ fn with_text<L: Ledger>(
 }
 
 /// The procedure, which has a body, with its goals. Whichever procedure before has its dependency text
-/// has its obligations.
+/// has its obligations. As a rule it is the procedure at this place, whose text is looked at first.
 pub fn made_proc<L: Ledger>(
     alloc: Global,
     before: &Before<'_>,
+    place: usize,
     links: &Links<'_>,
     proc: &Proc,
     steps: &mut Steps<L>,
@@ -160,6 +169,7 @@ pub fn made_proc<L: Ledger>(
     ensures told { IfOk result (λ r. r.is_new ≡ is_new before.now.built.now.procs (kept_of links.now proc.now)) }
     ensures steps { OnOk result (steps.new ≡ steps.old + cond (is_new before.now.built.now.procs (kept_of links.now proc.now)) 1 0) }
 {
-    let text = text_of(alloc, links, proc)?;
+    let there = before.built.procs().get(place);
+    let text = text_of(alloc, links, proc, there)?;
     with_text(alloc, before, links, proc, text, steps)
 }

@@ -74,7 +74,7 @@ fn add_with_body<L: Ledger>(
     ensures steps { OnOk result (steps.new ≡ steps.old + cond (is_new before.now.built.now.procs (kept_of links.now proc.now)) 1 0) }
     ensures fault { IfErr result (IsFaultOf (flat_map (goals_by_passes links.now) links.now.procs)) }
 {
-    match made_proc(alloc, before, links, proc, steps) {
+    match made_proc(alloc, before, found.len(), links, proc, steps) {
         Ok(made) => add_made(alloc, found, links, made),
         Err(fault) => Err(fault_with(alloc, links, fault)),
     }
