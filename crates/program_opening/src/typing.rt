@@ -93,7 +93,8 @@ fn is_user_type(body: &DeclBody) -> bool
     }
 }
 
-fn has_user_types(decls: &[Decl]) -> bool
+/// Whether any of the declarations is a user type.
+pub fn has_user_types(decls: &[Decl]) -> bool
     ensures { result ≡ has_user_types decls.now }
 {
     decls.iter().any(|decl| is_user_type(&decl.body))
