@@ -9,7 +9,7 @@ use Rattle.logic_core.proofs.SameTerm.{same_is_equal}
 use Rattle.logic_core.proofs.Mentioned.{all_left, all_right}
 
 -- a part of two, of which one has the term
-either : {X R : Type 0} (P : X → Type 0) (b c : Bool) (xs ys : List X) → (b ≡ true → AllByRecursion P xs → R) → (c ≡ true → AllByRecursion P ys → R) → (b || c) ≡ true → AllByRecursion P (xs ++ ys) → R
+pub either : {X R : Type 0} (P : X → Type 0) (b c : Bool) (xs ys : List X) → (b ≡ true → AllByRecursion P xs → R) → (c ≡ true → AllByRecursion P ys → R) → (b || c) ≡ true → AllByRecursion P (xs ++ ys) → R
 either P true c xs ys f g h have = f refl (all_left P xs ys have)
 either P false c xs ys f g h have = g h (all_right P xs ys have)
 

@@ -1,7 +1,9 @@
 pub mod ChangedFacts
 pub mod Hashes
 pub mod Held
+pub mod HeldApplications
 pub mod Lists
 pub mod Moves
 pub mod Steps
+pub mod Unlisted
 pub mod Unmentioned

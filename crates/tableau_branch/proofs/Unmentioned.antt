@@ -8,7 +8,7 @@ use Rattle.logic_core.proofs.Booleans.{neither}
 use Rattle.logic_core.proofs.FirstOccurrences.{eq_same}
 use Rattle.tableau_branch.proofs.Held.{held}
 
-others : (v : ℕ) (ws : List ℕ) → list_any (λ w. nat_eq w v) ws ≡ false → AllByRecursion (λ w. nat_eq w v ≡ false) ws
+pub others : (v : ℕ) (ws : List ℕ) → list_any (λ w. nat_eq w v) ws ≡ false → AllByRecursion (λ w. nat_eq w v ≡ false) ws
 others v [] h = tt
 others v (w ∷ ws) h = let both = neither (nat_eq w v) (list_any (λ u. nat_eq u v) ws) h in (both.0, others v ws both.1)
 

@@ -1,3 +1,4 @@
+pub mod Applications
 pub mod Applied
 pub mod Branch
 pub mod Cases

@@ -11,6 +11,7 @@ ghost use Rattle.proof_core.specs.Close.{is_negation_of};
 ghost use Rattle.tableau_branch.specs.Branch.{is_there};
 ghost use Rattle.term_bank.specs.Hash.{hash_of};
 
+use crate::applications::Applications;
 use logic_core::fault::NormalFault;
 use logic_core::mention::Mentioned;
 use logic_core::negation::negated;
@@ -48,8 +49,16 @@ impl SizedTerm {
     pub fn of(term: Term) -> SizedTerm
         ensures { result ≡ term }
     {
-        let size = term.size();
         let hash = hash(&term);
+        SizedTerm::hashed(term, hash)
+    }
+
+    /// The term, whose hash this is, with its size.
+    fn hashed(term: Term, hash: u64) -> SizedTerm
+        requires { hash ≡ hash_of term }
+        ensures { result ≡ term }
+    {
+        let size = term.size();
         SizedTerm { term, size, hash }
     }
 
@@ -98,20 +107,22 @@ impl SizedTerm {
     }
 }
 
-/// A normal fact of a branch, and its number in the proof. Its normal Not and the variables that it
-/// mentions are kept beside it.
+/// A normal fact of a branch, and its number in the proof. Its normal Not, the variables that it
+/// mentions, and the hashes of its Reads and Calls are kept beside it.
 #[derive(Drop)]
 pub struct Fact {
     term: SizedTerm,
     number: u64,
     negation: Option<SizedTerm>,
     variables: Vec<u64>,
+    applications: Vec<u64>,
 }
 
 impl Model for Fact {
     ghost use Rattle.std.specs.Prelude.{◌≡◌};
     ghost use Rattle.logic_core.specs.Junction.{negated};
     ghost use Rattle.logic_core.specs.Variables.{variables as variables_of};
+    ghost use Rattle.tableau_branch.specs.Applications.{applications as applications_of};
     ghost use Rattle.tableau_branch.specs.Branch.{Fact as fact};
     ghost use Rattle.tableau_branch.specs.Codes.{coded_fact};
 
@@ -121,7 +132,7 @@ impl Model for Fact {
 
     ghost view = { λ a. record { term = a.term; number = a.number } };
 
-    ghost invariant = { λ a. (a.negation ≡ negated a.term) × (a.variables.items ≡ variables_of a.term) };
+    ghost invariant = { λ a. (a.negation ≡ negated a.term) × (a.variables.items ≡ variables_of a.term) × (a.applications.items ≡ applications_of a.term) };
 }
 
 impl Fact {
@@ -131,11 +142,14 @@ impl Fact {
     {
         let negation = negation(alloc, &term)?;
         let variables = variables(alloc, &term)?;
+        let mut applications = Applications::none(alloc);
+        let hash = applications.add_term(&term)?;
         Ok(Fact {
-            term: SizedTerm::of(term),
+            term: SizedTerm::hashed(term, hash),
             number,
             negation,
             variables,
+            applications: applications.hashes,
         })
     }
 
@@ -181,12 +195,15 @@ impl Fact {
         &self.variables
     }
 
-    /// Whether the term is a variable that the formula doesn't mention.
+    /// Whether the term is a variable that the formula doesn't mention, or a Read or a Call of
+    /// another hash than those in it.
     fn lacks(&self, term: &Term) -> bool
         ensures { IsTrue result → occurs term.now self.now.term ≡ false }
     {
         match &term.node {
             Node::Free(v) => !self.variables.contains(v),
+            Node::Read(_, _) => !self.applications.contains(&hash(term)),
+            Node::Call(_, _) => !self.applications.contains(&hash(term)),
             _ => false,
         }
     }
@@ -220,11 +237,14 @@ impl Fact {
         let negation = copy_some(alloc, &self.negation)?;
         let mut variables = Vec::new(alloc);
         variables.extend_from_slice(&self.variables)?;
+        let mut applications = Vec::new(alloc);
+        applications.extend_from_slice(&self.applications)?;
         Ok(Fact {
             term,
             number,
             negation,
             variables,
+            applications,
         })
     }
 }

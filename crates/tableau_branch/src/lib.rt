@@ -4,6 +4,7 @@
 #![tactic(auto)]
 
 // Facts and branches.
+mod applications;
 pub mod branch;
 pub mod fact;
 pub mod found;
