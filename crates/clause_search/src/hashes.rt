@@ -11,7 +11,7 @@ use tableau_branch::fact::Fact;
 pub fn hashes_of(alloc: Global, facts: &[Fact]) -> Result<IndexSet<u64>, AllocError>
     ensures { IfOk result (λ s. (h : ℕ) → list_any (nat_eq h) s.keys ≡ is_hashed facts.now h) }
 {
-    let mut hashes = IndexSet::new(alloc);
+    let mut hashes = IndexSet::with_capacity(alloc, facts.len())?;
     for fact in facts {
         hashes.insert(fact.sized().hash())?;
     }
