@@ -1,3 +1,5 @@
 pub mod Readings
 pub mod Keeps
 pub mod Steps
+pub mod Replacing
+pub mod Placed

@@ -1,5 +1,5 @@
 -- What the code's answers to an edit say, and what a request has to be.
-use Rattle.std.specs.Prelude.{◌≡◌, ⊤, ℕ, ◌-◌, ◌^◌, ◌<◌, List, [], ◌∷◌, map, length, Option, Some, None, option_map, Result, Ok, Err, string_bytes}
+use Rattle.std.specs.Prelude.{◌≡◌, ⊤, ℕ, ◌-◌, ◌^◌, ◌<◌, List, [], ◌∷◌, map, length, option_map, Result, Ok, Err, string_bytes}
 use Rattle.std.specs.List.{All}
 use Rattle.bpl_ast.specs.Statement.{Decl}
 use Rattle.bpl_grammar.specs.Judge.{syntax, deep, wide}

@@ -16,8 +16,12 @@ mod puts;
 pub mod edits;
 mod places;
 
+// The declaration that takes the place of another, where an edit does nothing else.
+pub mod replaced;
+
 // An edit makes one thing of declarations.
 pub mod laws;
 
 pub use edits::edited;
 pub use fault::EditFault;
+pub use replaced::{Replacement, replacement_of};
