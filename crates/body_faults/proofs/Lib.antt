@@ -1,0 +1,3 @@
+pub mod SameTable
+pub mod FirstOfRevised
+pub mod EarlierSteps
