@@ -1,0 +1,3 @@
+pub mod SetParts
+pub mod KeptBodies
+pub mod RevisedModule

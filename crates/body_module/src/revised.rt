@@ -1,0 +1,9 @@
+// What of a module is new where one procedure has another body.
+use bpl_model::DeclaredProc;
+
+/// A procedure and the texts of its declaration, and which of the module's procedures it is.
+#[derive(Drop)]
+pub struct Revision {
+    pub proc_at: usize,
+    pub declared: DeclaredProc,
+}
