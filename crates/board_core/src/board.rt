@@ -80,6 +80,23 @@ fn first_without_place<A: Answered + Drop>(
     questions.len()
 }
 
+// The first question whose key has no place, or the end. Where all are done, none is looked at.
+fn first_left<A: Answered + Drop>(
+    questions: &[Arc<A::Q, Global>],
+    from: usize,
+    done: u64,
+    cache: &Cache<A>,
+) -> usize
+    requires from { from ≤ position_or_len (λ k. not (has_place cache.now k)) (map (λ q. A.Q.key (arc_value q)) questions.now) }
+    requires done { done ≡ count_by (is_among (kept_keys cache.now.kept)) (map (λ q. A.Q.key (arc_value q)) questions.now) }
+    ensures { result ≡ position_or_len (λ k. not (has_place cache.now k)) (map (λ q. A.Q.key (arc_value q)) questions.now) }
+{
+    if done == questions.len() as u64 {
+        return questions.len();
+    }
+    first_without_place(questions, from, cache)
+}
+
 // How many of the questions have a kept answer.
 fn count_done<A: Answered + Drop>(questions: &[Arc<A::Q, Global>], cache: &Cache<A>) -> u64
     ensures { result ≡ count_by (is_among (kept_keys cache.now.kept)) (map (λ q. A.Q.key (arc_value q)) questions.now) }
@@ -198,7 +215,12 @@ where
         if self.closed {
             return Ok(Claimed::Closed);
         }
-        let first = first_without_place(self.present.questions(), self.passed, &self.cache);
+        let first = first_left(
+            self.present.questions(),
+            self.passed,
+            self.done,
+            &self.cache,
+        );
         let Some(wanted) = self.present.questions().get(first) else {
             self.passed = first;
             return Ok(Claimed::Empty);
