@@ -9,15 +9,18 @@ use bpl_ast::{Expr, ExprForm, Group, Index, Term, Trigger, Where};
 
 #[cycle(same_expr)]
 pub(crate) fn same_expr(mine: &Expr, theirs: &Expr) -> bool
-    ensures { IsTrue result → mine.now ≡ theirs.now }
+    ensures equal { IsTrue result → mine.now ≡ theirs.now }
+    ensures told { mine.now ≡ theirs.now → IsTrue result }
 {
     mine.at == theirs.at && same_form(&mine.form, &theirs.form)
 }
 
 // One list after another.
 #[cycle(same_expr)]
+#[tactic(auto, using(crate::proofs::Injective::exprs_same, crate::proofs::Injective::terms_same, crate::proofs::Injective::indices_same, crate::proofs::Injective::triggers_same, crate::proofs::Injective::groups_same))]
 fn same_form(mine: &ExprForm, theirs: &ExprForm) -> bool
-    ensures { IsTrue result → node_of mine.now ≡ node_of theirs.now }
+    ensures equal { IsTrue result → node_of mine.now ≡ node_of theirs.now }
+    ensures told { node_of mine.now ≡ node_of theirs.now → IsTrue result }
 {
     match mine {
         ExprForm::Number(n) => match theirs {
@@ -145,7 +148,8 @@ fn same_form(mine: &ExprForm, theirs: &ExprForm) -> bool
 
 #[cycle(same_expr)]
 fn same_exprs(mine: &[Expr], theirs: &[Expr]) -> bool
-    ensures { IsTrue result → mine.now ≡ theirs.now }
+    ensures equal { IsTrue result → mine.now ≡ theirs.now }
+    ensures told { mine.now ≡ theirs.now → IsTrue result }
 {
     if mine.len() != theirs.len() {
         return false;
@@ -160,7 +164,8 @@ fn same_exprs(mine: &[Expr], theirs: &[Expr]) -> bool
 
 #[cycle(same_expr)]
 fn same_term(mine: &Term, theirs: &Term) -> bool
-    ensures { IsTrue result → mine.now ≡ theirs.now }
+    ensures equal { IsTrue result → mine.now ≡ theirs.now }
+    ensures told { mine.now ≡ theirs.now → IsTrue result }
 {
     match mine {
         Term::Plus(x) => match theirs {
@@ -176,7 +181,8 @@ fn same_term(mine: &Term, theirs: &Term) -> bool
 
 #[cycle(same_expr)]
 fn same_terms(mine: &[Term], theirs: &[Term]) -> bool
-    ensures { IsTrue result → mine.now ≡ theirs.now }
+    ensures equal { IsTrue result → mine.now ≡ theirs.now }
+    ensures told { mine.now ≡ theirs.now → IsTrue result }
 {
     if mine.len() != theirs.len() {
         return false;
@@ -191,7 +197,8 @@ fn same_terms(mine: &[Term], theirs: &[Term]) -> bool
 
 #[cycle(same_expr)]
 fn same_index(mine: &Index, theirs: &Index) -> bool
-    ensures { IsTrue result → mine.now ≡ theirs.now }
+    ensures equal { IsTrue result → mine.now ≡ theirs.now }
+    ensures told { mine.now ≡ theirs.now → IsTrue result }
 {
     match mine {
         Index::Read(x) => match theirs {
@@ -207,7 +214,8 @@ fn same_index(mine: &Index, theirs: &Index) -> bool
 
 #[cycle(same_expr)]
 fn same_indices(mine: &[Index], theirs: &[Index]) -> bool
-    ensures { IsTrue result → mine.now ≡ theirs.now }
+    ensures equal { IsTrue result → mine.now ≡ theirs.now }
+    ensures told { mine.now ≡ theirs.now → IsTrue result }
 {
     if mine.len() != theirs.len() {
         return false;
@@ -222,14 +230,16 @@ fn same_indices(mine: &[Index], theirs: &[Index]) -> bool
 
 #[cycle(same_expr)]
 fn same_trigger(mine: &Trigger, theirs: &Trigger) -> bool
-    ensures { IsTrue result → (mine.now.at ≡ theirs.now.at) × (mine.now.patterns.items ≡ theirs.now.patterns.items) }
+    ensures equal { IsTrue result → (mine.now.at ≡ theirs.now.at) × (mine.now.patterns.items ≡ theirs.now.patterns.items) }
+    ensures told { (mine.now.at ≡ theirs.now.at) × (mine.now.patterns.items ≡ theirs.now.patterns.items) → IsTrue result }
 {
     mine.at == theirs.at && same_exprs(&mine.patterns, &theirs.patterns)
 }
 
 #[cycle(same_expr)]
 fn same_triggers(mine: &[Trigger], theirs: &[Trigger]) -> bool
-    ensures { IsTrue result → each_trigger mine.now ≡ each_trigger theirs.now }
+    ensures equal { IsTrue result → each_trigger mine.now ≡ each_trigger theirs.now }
+    ensures told { each_trigger mine.now ≡ each_trigger theirs.now → IsTrue result }
 {
     if mine.len() != theirs.len() {
         return false;
@@ -244,7 +254,8 @@ fn same_triggers(mine: &[Trigger], theirs: &[Trigger]) -> bool
 
 #[cycle(same_expr)]
 fn same_where(mine: &Option<Where>, theirs: &Option<Where>) -> bool
-    ensures { IsTrue result → mine.now ≡ theirs.now }
+    ensures equal { IsTrue result → mine.now ≡ theirs.now }
+    ensures told { mine.now ≡ theirs.now → IsTrue result }
 {
     match mine {
         Some(mine) => match theirs {
@@ -259,7 +270,8 @@ fn same_where(mine: &Option<Where>, theirs: &Option<Where>) -> bool
 
 #[cycle(same_expr)]
 fn same_group(mine: &Group, theirs: &Group) -> bool
-    ensures { IsTrue result → (mine.now.names.items ≡ theirs.now.names.items) × ((mine.now.of ≡ theirs.now.of) × (mine.now.condition ≡ theirs.now.condition)) }
+    ensures equal { IsTrue result → (mine.now.names.items ≡ theirs.now.names.items) × ((mine.now.of ≡ theirs.now.of) × (mine.now.condition ≡ theirs.now.condition)) }
+    ensures told { (mine.now.names.items ≡ theirs.now.names.items) × ((mine.now.of ≡ theirs.now.of) × (mine.now.condition ≡ theirs.now.condition)) → IsTrue result }
 {
     same_names(&mine.names, &theirs.names)
         && same_type(&mine.of, &theirs.of)
@@ -268,7 +280,8 @@ fn same_group(mine: &Group, theirs: &Group) -> bool
 
 #[cycle(same_expr)]
 pub(crate) fn same_groups(mine: &[Group], theirs: &[Group]) -> bool
-    ensures { IsTrue result → each_group mine.now ≡ each_group theirs.now }
+    ensures equal { IsTrue result → each_group mine.now ≡ each_group theirs.now }
+    ensures told { each_group mine.now ≡ each_group theirs.now → IsTrue result }
 {
     if mine.len() != theirs.len() {
         return false;

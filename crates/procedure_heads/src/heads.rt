@@ -1,7 +1,7 @@
 // Whether two declarations are one procedure with two bodies.
-ghost use Rattle.std.specs.Prelude.{◌≡◌, IsTrue, IfSome};
+ghost use Rattle.std.specs.Prelude.{◌≡◌, IsTrue, IfSome, is_some};
 ghost use Rattle.bpl_ast.specs.DeclView.{body_of};
-ghost use Rattle.procedure_heads.specs.Revised.{HasHead, IsRevised};
+ghost use Rattle.procedure_heads.specs.Revised.{has_body, HasHead, IsRevised};
 
 use crate::names::{same_name, same_optional_params};
 use crate::specs::{same_clauses, same_signature};
@@ -18,7 +18,8 @@ struct Head<'a> {
 
 // The head of a procedure with a body.
 fn head_of(decl: &DeclBody) -> Option<Head<'_>>
-    ensures { IfSome result (λ h. HasHead (body_of decl.now) h.name.now h.params.now h.signature.now h.specs.now) }
+    ensures head { IfSome result (λ h. HasHead (body_of decl.now) h.name.now h.params.now h.signature.now h.specs.now) }
+    ensures told { is_some result ≡ has_body (body_of decl.now) }
 {
     match decl {
         DeclBody::Procedure {
@@ -38,7 +39,8 @@ fn head_of(decl: &DeclBody) -> Option<Head<'_>>
 }
 
 fn same_head(mine: &Head<'_>, theirs: &Head<'_>) -> bool
-    ensures { IsTrue result → (mine.now.name.now ≡ theirs.now.name.now) × ((mine.now.params.now ≡ theirs.now.params.now) × ((mine.now.signature.now ≡ theirs.now.signature.now) × (mine.now.specs.now ≡ theirs.now.specs.now))) }
+    ensures equal { IsTrue result → (mine.now.name.now ≡ theirs.now.name.now) × ((mine.now.params.now ≡ theirs.now.params.now) × ((mine.now.signature.now ≡ theirs.now.signature.now) × (mine.now.specs.now ≡ theirs.now.specs.now))) }
+    ensures told { (mine.now.name.now ≡ theirs.now.name.now) × ((mine.now.params.now ≡ theirs.now.params.now) × ((mine.now.signature.now ≡ theirs.now.signature.now) × (mine.now.specs.now ≡ theirs.now.specs.now))) → IsTrue result }
 {
     same_name(mine.name, theirs.name)
         && same_optional_params(mine.params, theirs.params)
@@ -49,7 +51,8 @@ fn same_head(mine: &Head<'_>, theirs: &Head<'_>) -> bool
 /// Whether both declarations are procedures with bodies that differ in their bodies alone: their
 /// names, type parameters, parameters, results and clauses are equal, and stand at the same places.
 pub fn is_revised(old: &DeclBody, new: &DeclBody) -> bool
-    ensures { IsTrue result → IsRevised (body_of old.now) (body_of new.now) }
+    ensures equal { IsTrue result → IsRevised (body_of old.now) (body_of new.now) }
+    ensures told { IsRevised (body_of old.now) (body_of new.now) → IsTrue result }
 {
     match head_of(old) {
         Some(mine) => match head_of(new) {

@@ -4,13 +4,15 @@ ghost use Rattle.std.specs.Prelude.{◌≡◌, IsTrue};
 use bpl_ast::{Name, TypeParams};
 
 pub(crate) fn same_name(mine: &Name, theirs: &Name) -> bool
-    ensures { IsTrue result → mine.now ≡ theirs.now }
+    ensures equal { IsTrue result → mine.now ≡ theirs.now }
+    ensures told { mine.now ≡ theirs.now → IsTrue result }
 {
     mine.at == theirs.at && mine.text.as_bytes() == theirs.text.as_bytes()
 }
 
 pub(crate) fn same_names(mine: &[Name], theirs: &[Name]) -> bool
-    ensures { IsTrue result → mine.now ≡ theirs.now }
+    ensures equal { IsTrue result → mine.now ≡ theirs.now }
+    ensures told { mine.now ≡ theirs.now → IsTrue result }
 {
     if mine.len() != theirs.len() {
         return false;
@@ -24,13 +26,15 @@ pub(crate) fn same_names(mine: &[Name], theirs: &[Name]) -> bool
 }
 
 fn same_params(mine: &TypeParams, theirs: &TypeParams) -> bool
-    ensures { IsTrue result → mine.now ≡ theirs.now }
+    ensures equal { IsTrue result → mine.now ≡ theirs.now }
+    ensures told { mine.now ≡ theirs.now → IsTrue result }
 {
     mine.at == theirs.at && same_names(&mine.names, &theirs.names)
 }
 
 pub(crate) fn same_optional_params(mine: &Option<TypeParams>, theirs: &Option<TypeParams>) -> bool
-    ensures { IsTrue result → mine.now ≡ theirs.now }
+    ensures equal { IsTrue result → mine.now ≡ theirs.now }
+    ensures told { mine.now ≡ theirs.now → IsTrue result }
 {
     match mine {
         Some(mine) => match theirs {

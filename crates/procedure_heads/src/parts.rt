@@ -4,7 +4,8 @@ ghost use Rattle.std.specs.Prelude.{◌≡◌, IsTrue};
 use bpl_ast::{Quantifier, Relation};
 
 pub(crate) fn same_quantifier(mine: Quantifier, theirs: Quantifier) -> bool
-    ensures { IsTrue result → mine ≡ theirs }
+    ensures equal { IsTrue result → mine ≡ theirs }
+    ensures told { mine ≡ theirs → IsTrue result }
 {
     match mine {
         Quantifier::ForAll => match theirs {
@@ -19,7 +20,8 @@ pub(crate) fn same_quantifier(mine: Quantifier, theirs: Quantifier) -> bool
 }
 
 pub(crate) fn same_relation(mine: Relation, theirs: Relation) -> bool
-    ensures { IsTrue result → mine ≡ theirs }
+    ensures equal { IsTrue result → mine ≡ theirs }
+    ensures told { mine ≡ theirs → IsTrue result }
 {
     match mine {
         Relation::Equal => match theirs {

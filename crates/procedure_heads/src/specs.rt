@@ -6,14 +6,17 @@ use crate::exprs::{same_expr, same_groups};
 use crate::names::same_names;
 use bpl_ast::{Signature, Spec, SpecForm};
 
+#[tactic(auto, using(crate::proofs::Injective::groups_same))]
 pub(crate) fn same_signature(mine: &Signature, theirs: &Signature) -> bool
-    ensures { IsTrue result → mine.now ≡ theirs.now }
+    ensures equal { IsTrue result → mine.now ≡ theirs.now }
+    ensures told { mine.now ≡ theirs.now → IsTrue result }
 {
     same_groups(&mine.ins, &theirs.ins) && same_groups(&mine.outs, &theirs.outs)
 }
 
 fn same_clause(mine: &Spec, theirs: &Spec) -> bool
-    ensures { IsTrue result → mine.now ≡ theirs.now }
+    ensures equal { IsTrue result → mine.now ≡ theirs.now }
+    ensures told { mine.now ≡ theirs.now → IsTrue result }
 {
     if mine.at != theirs.at {
         return false;
@@ -41,7 +44,8 @@ fn same_clause(mine: &Spec, theirs: &Spec) -> bool
 }
 
 pub(crate) fn same_clauses(mine: &[Spec], theirs: &[Spec]) -> bool
-    ensures { IsTrue result → mine.now ≡ theirs.now }
+    ensures equal { IsTrue result → mine.now ≡ theirs.now }
+    ensures told { mine.now ≡ theirs.now → IsTrue result }
 {
     if mine.len() != theirs.len() {
         return false;

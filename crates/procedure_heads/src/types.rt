@@ -5,8 +5,10 @@ use crate::names::{same_name, same_optional_params};
 use bpl_ast::{Type, TypeForm};
 
 #[cycle(same_type)]
+#[tactic(auto, using(crate::proofs::Injective::types_same))]
 pub(crate) fn same_type(mine: &Type, theirs: &Type) -> bool
-    ensures { IsTrue result → mine.now ≡ theirs.now }
+    ensures equal { IsTrue result → mine.now ≡ theirs.now }
+    ensures told { mine.now ≡ theirs.now → IsTrue result }
 {
     if mine.at != theirs.at {
         return false;
@@ -37,7 +39,8 @@ pub(crate) fn same_type(mine: &Type, theirs: &Type) -> bool
 
 #[cycle(same_type)]
 fn same_types(mine: &[Type], theirs: &[Type]) -> bool
-    ensures { IsTrue result → mine.now ≡ theirs.now }
+    ensures equal { IsTrue result → mine.now ≡ theirs.now }
+    ensures told { mine.now ≡ theirs.now → IsTrue result }
 {
     if mine.len() != theirs.len() {
         return false;
