@@ -162,3 +162,26 @@ fn a_claim_made_before_an_edit_settles_the_goal_that_came_back(rt: HostRuntime) 
     gives_none(&rt, &mut board, true);
     assert!(rt; board.look().closed);
 }
+
+#[test]
+fn goals_between_others_give_way_to_new_ones(rt: HostRuntime) {
+    let alloc = rt.alloc();
+    let mut board = Board::new(alloc);
+    assert_eq!(rt;
+        open(&rt, &mut board, questions(alloc, &[1, 2, 2, 3, 1])),
+        (1, 0)
+    );
+    let claim = take(&rt, &mut board, 0, 1);
+    assert_eq!(rt; settle(&rt, alloc, &mut board, claim, true), 2);
+    let claim = take(&rt, &mut board, 1, 2);
+    assert_eq!(rt; settle(&rt, alloc, &mut board, claim, true), 2);
+    assert_eq!(rt;
+        open(&rt, &mut board, questions(alloc, &[1, 2, 4, 4, 1])),
+        (2, 3)
+    );
+    shows(&rt, &board, 2, 3, 2);
+    let claim = take(&rt, &mut board, 2, 4);
+    assert_eq!(rt; settle(&rt, alloc, &mut board, claim, false), 2);
+    gives_none(&rt, &mut board, false);
+    shows(&rt, &board, 2, 5, 0);
+}
