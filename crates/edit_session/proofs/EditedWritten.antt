@@ -1,5 +1,5 @@
 -- After an edit each declaration is such as tokens spell, with a name of its own, where those before are.
-use Rattle.std.specs.Prelude.{◌≡◌, ℕ, false, not, List, [], ◌∷◌, find, Option, Some, None, Result, Ok, Err}
+use Rattle.std.specs.Prelude.{◌≡◌, ℕ, Bool, true, false, cond, not, List, [], ◌∷◌, find, Option, Some, None, Result, Ok, Err}
 use Rattle.std.specs.List.{AllByRecursion}
 use Rattle.std.proofs.Common.{refl, ap, sym, ◌∙◌, subst}
 use Rattle.bpl_ast.specs.Statement.{DeclBody, constant, function, axiom_of, variables, synonym, procedure, implementation, Decl, name_of, axioms_with}
@@ -90,3 +90,16 @@ by_request s tells old new quit is h = absurd (cc)
 
 pub edited_written : (old new : List Decl) (r : Request) → IsEdited old r (edited new) → AreWrittenDecls 0 old → AreWrittenDecls 0 new
 edited_written old new r e w = by_request e.0 e.1 old new r e.2 (edits_keep IsNamed (λ k d h. stays_named k d d.body h) old new r e (of_texts (texts_of r)) (each_named 0 old w))
+
+-- ---- axioms have their numbers
+
+same_named : (k : ℕ) (d : Decl) → d.name ≡ name_of k d.body → renamed k d ≡ d
+same_named k d e = by_kind (is_axiom d.body)
+  where
+    by_kind : (b : Bool) → cond b (record d { name = name_of k d.body }) d ≡ d
+    by_kind true = ap (λ (n : List ℕ). record d { name = n }) (sym e)
+    by_kind false = refl
+
+pub numbers_stay : (k : ℕ) (ds : List Decl) → AreWrittenDecls k ds → numbered k ds ≡ ds
+numbers_stay k [] w = refl
+numbers_stay k (d ∷ ds) w = λ i. same_named k d w.0 i ∷ numbers_stay (axioms_with k d.body) ds w.2 i

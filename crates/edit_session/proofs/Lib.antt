@@ -10,3 +10,5 @@ mod StaySpelled
 mod ErasedWritten
 mod EditedWritten
 pub mod OpenResolved
+mod Revised
+mod OnePut

@@ -30,7 +30,7 @@ by_fault ds m None e h = record { none = e; is = by_carriers ds m (carrier_fault
 by_fault ds m (Some p) e h = absurd (cc)
 
 -- a module has as many texts as declarations
-as_many_texts : (ds : List Decl) → length (module_of ds).texts ≡ length ds
+pub as_many_texts : (ds : List Decl) → length (module_of ds).texts ≡ length ds
 as_many_texts ds = length-map ds (decl_text (table_of ds) (length ds))
 
 pub typed_resolved : (ds : List Decl) (m : Module) → AreWrittenDecls 0 ds → length m.texts < 2 ^ 64 → typing ds ≡ typed m → IsResolved m

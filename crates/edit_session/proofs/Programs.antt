@@ -62,9 +62,6 @@ pub questions_by : (turns : ℕ) (m : Module) (bs : List BuiltProc) → map proc
 questions_by turns m bs e =
     by_shown turns bs ∙ ap (flat_map (λ (p : ProcGoals). map (question turns) p.goals)) e ∙ of_bodies turns m m.procs ∙ sym (map_flat (goals m) (question turns) m.procs)
 
-pub questions_are : (turns : ℕ) (m : Module) (bs : List BuiltProc) → bs ≡ built m → questions_of turns bs ≡ questions turns m
-questions_are turns m bs e = questions_by turns m bs (procs_are m bs e)
-
 -- ---- there are few goals
 
 below_limit : (n b : ℕ) (sizes : List ℕ) → n ≤ count_limit → large_after n b sizes ≡ None → n + length sizes ≤ count_limit

@@ -8,4 +8,5 @@ pub mod Kept
 pub mod Codes
 pub mod Judged
 pub mod Told
+pub mod Revising
 pub mod Worth

@@ -1,10 +1,14 @@
 // Calls on the board, and the replies that tell them.
-ghost use Rattle.std.specs.Prelude.{◌≡◌, ◌+◌, ◌-◌, ◌^◌, ◌<◌, length, IfOk, OnErr};
+ghost use Rattle.std.specs.Prelude.{◌≡◌, ◌+◌, ◌-◌, ◌^◌, ◌<◌, map, length, IfOk, OnErr};
+ghost use Rattle.bpl_model.specs.Module.{Module as typed_module};
+ghost use Rattle.program_opening.specs.ProcGoals.{goals_by_proc};
 ghost use Rattle.goal_board.specs.Rests.{IsWorkedOn};
 ghost use Rattle.request_text.specs.ReplyView.{reply_view};
+ghost use Rattle.edit_session.specs.Built.{proc_goals};
 ghost use Rattle.edit_session.specs.Kept.{IsReady};
 ghost use Rattle.edit_session.specs.Told.{IsOpened, IsReported, AreProved};
 
+use crate::goals;
 use crate::lines::{proof_lines, report_lines};
 use crate::program::OpenProgram;
 use board_core::Board;
@@ -12,21 +16,22 @@ use goal_board::settle;
 use request_text::Reply;
 use std::alloc::{AllocError, Global};
 use tableau::settled::Settled;
+use vc_rebuild::BuiltProc;
 
-/// The program's goals take the place of those before; so many of its procedures are new. Without
-/// memory the board is as it was.
+/// The goals of a module's procedures take the place of those before; so many of the procedures are
+/// new. Without memory the board is as it was.
 pub fn open_goals(
     alloc: Global,
     board: &mut Board<Settled>,
-    program: &OpenProgram,
+    procs: &[BuiltProc],
     rebuilt: u64,
     turns: u64,
 ) -> Result<Reply, AllocError>
     requires { board.old.version < 2 ^ 64 - 1 }
-    ensures opened { IfOk result (λ x. IsOpened turns program.now.typed rebuilt board.old board.new (reply_view x)) }
+    ensures opened { IfOk result (λ x. (m : typed_module) → map proc_goals procs.now ≡ goals_by_proc m → IsOpened turns m rebuilt board.old board.new (reply_view x)) }
     ensures memory { OnErr result (board.new ≡ board.old) }
 {
-    let questions = program.questions(alloc, turns)?;
+    let questions = goals::questions(alloc, procs, turns)?;
     let goals = questions.len() as u64;
     let opened = board.open(questions)?;
     Ok(Reply::Accepted {

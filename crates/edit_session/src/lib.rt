@@ -16,6 +16,9 @@ mod texts;
 // The program that is open, and declarations that are to be.
 pub mod program;
 
+// The program after one of its procedures has got another body.
+mod revising;
+
 // Calls on the board, and the replies that tell them.
 mod board_calls;
 

@@ -1,30 +1,33 @@
 // The program that is open, and declarations that are to be.
-ghost use Rattle.std.specs.Prelude.{◌≡◌, ◌<◌, ◌^◌, [], map, length, IfOk};
-ghost use Rattle.std.specs.Arc.{arc_value};
+ghost use Rattle.std.specs.Prelude.{◌≡◌, ◌<◌, ◌-◌, ◌^◌, [], map, length, slice_set, IfOk, IfSome, IfNone};
 ghost use Rattle.bpl_goto.specs.Forward.{AllGoForward};
 ghost use Rattle.canonical_laws.specs.RoundTrip.{AreWrittenDecls};
 ghost use Rattle.name_laws.specs.Resolved.{IsResolved};
-ghost use Rattle.vc_build.specs.Rebuild.{built};
+ghost use Rattle.vc_build.specs.Rebuild.{built, rebuilt};
 ghost use Rattle.program_faults.specs.FaultView.{SourcesAreShort};
 ghost use Rattle.program_opening.specs.Opening.{typing, typed as typed_as};
 ghost use Rattle.program_opening.specs.ProcGoals.{goals_by_proc};
-ghost use Rattle.edit_session.specs.Program.{IsModuleOf, questions};
+ghost use Rattle.request_text.specs.ReplyView.{reply_view};
+ghost use Rattle.edit_session.specs.Program.{IsModuleOf};
 ghost use Rattle.edit_session.specs.Built.{proc_goals};
 ghost use Rattle.edit_session.specs.Judged.{IsJudged};
+ghost use Rattle.edit_session.specs.Told.{IsOpened};
 
-use crate::goals;
 use crate::refusals::fault_reply;
+use crate::revising::reopen_revised;
+use board_core::Board;
 use bpl_ast::{Decl, Program};
 use bpl_model::Module;
 use bv_base::Steps;
-use obligation_text::Asked;
+use program_edits::Replacement;
 use program_opening::size::written_of_size;
 use program_opening::{Typed, type_check};
 use request_text::Reply;
 use std::alloc::{AllocError, Global};
 use std::marker::Model;
-use std::sync::Arc;
+use std::mem;
 use std::sync::ledger::Ledger;
+use tableau::settled::Settled;
 use vc_build::BuildFault;
 use vc_rebuild::{Built, BuiltProc, rebuild};
 
@@ -91,8 +94,8 @@ fn build<L: Ledger>(
     }
 }
 
-// A module has fewer declarations than a number of 64 bits can tell.
-fn has_few(typed: &Module)
+/// A module has fewer declarations than a number of 64 bits can tell.
+pub(crate) fn has_few(typed: &Module)
     ensures { length typed.now.texts < 2 ^ 64 }
 {
     let _count = typed.parts().texts.len();
@@ -118,6 +121,15 @@ fn judge<L: Ledger>(
         }
         Typed::Refused(fault) => Ok(Judged::Refused(fault_reply(fault)?)),
     }
+}
+
+// The declaration takes the place of the one that stands there.
+fn put_decl(program: &mut Program, replacement: Replacement)
+    requires { replacement.at < length program.old }
+    ensures { program.new ≡ slice_set program.old replacement.at replacement.decl }
+{
+    let Replacement { at, decl } = replacement;
+    drop(mem::replace(&mut program.decls[at], decl));
 }
 
 impl OpenProgram {
@@ -191,15 +203,46 @@ impl OpenProgram {
         self.built.procs()
     }
 
-    /// The questions of its goals.
-    #[tactic(auto, using(crate::proofs::Programs::questions_are))]
-    pub fn questions(
-        &self,
+    /// The declaration takes the place of the one that stands there, if the two are procedures that
+    /// differ in their bodies alone and the program with it has no fault; the board has the goals of the
+    /// program then. Else nothing changes, and so it is without memory.
+    #[tactic(auto, using(crate::proofs::Revised::stays_open, crate::proofs::Revised::opened_by))]
+    pub fn revise<L: Ledger>(
+        &mut self,
         alloc: Global,
+        board: &mut Board<Settled>,
+        replacement: Replacement,
         turns: u64,
-    ) -> Result<Vec<Arc<Asked, Global>>, AllocError>
-        ensures { IfOk result (λ v. map arc_value v.items ≡ questions turns self.now.typed) }
+        steps: &mut Steps<L>,
+    ) -> Option<Reply>
+        requires there { replacement.at < length self.old.decls }
+        requires short { SourcesAreShort (slice_set self.old.decls replacement.at replacement.decl) }
+        requires written { AreWrittenDecls 0 (slice_set self.old.decls replacement.at replacement.decl) }
+        requires room { board.old.version < 2 ^ 64 - 1 }
+        ensures decls { IfSome result (λ x. self.new.decls ≡ slice_set self.old.decls replacement.at replacement.decl) }
+        ensures is_module { IfSome result (λ x. IsModuleOf self.new.decls self.new.typed) }
+        ensures opened { IfSome result (λ x. IsOpened turns self.new.typed (rebuilt (built self.old.typed) self.new.typed) board.old board.new (reply_view x)) }
+        ensures same { IfNone result (self.new ≡ self.old) }
+        ensures board { IfNone result (board.new ≡ board.old) }
     {
-        goals::questions(alloc, self.built.procs(), turns)
+        match reopen_revised(
+            alloc,
+            self.program.decls.as_slice(),
+            &mut self.typed,
+            &mut self.built,
+            board,
+            &replacement,
+            turns,
+            steps,
+        ) {
+            Some(reply) => {
+                put_decl(&mut self.program, replacement);
+                Some(reply)
+            }
+            None => {
+                drop(replacement);
+                None
+            }
+        }
     }
 }

@@ -1,11 +1,11 @@
 // The session.
-ghost use Rattle.std.specs.Prelude.{◌≡◌, ◌<◌, ◌^◌, ◌-◌, Result, Ok, Err, IfOk};
+ghost use Rattle.std.specs.Prelude.{◌≡◌, ◌<◌, ◌^◌, ◌-◌, length, slice_set, Result, Ok, Err, IfOk, IfSome, IfNone};
 ghost use Rattle.bpl_model.specs.Module.{Module as typed_module};
 ghost use Rattle.canonical_laws.specs.RoundTrip.{AreWrittenDecls};
 ghost use Rattle.vc_build.specs.Rebuild.{built, rebuilt as rebuilt_of};
 ghost use Rattle.program_faults.specs.FaultView.{SourcesAreShort};
 ghost use Rattle.program_edits.specs.Edited.{IsEdited, edited as edited_to};
-ghost use Rattle.program_edits.specs.Refusals.{IsChange};
+ghost use Rattle.program_edits.specs.Refusals.{IsChange, TextsAreShort};
 ghost use Rattle.request_text.specs.Request as asked;
 ghost use Rattle.request_text.specs.RequestView.{request_view, IsAnswer};
 ghost use Rattle.request_text.specs.ReplyView.{reply_view};
@@ -23,7 +23,7 @@ use crate::texts::has_short_texts;
 use board_core::Board;
 use bpl_ast::Decl;
 use bv_base::Steps;
-use program_edits::edited;
+use program_edits::{Replacement, edited, replacement_of};
 use request_text::{BadRequest, Reply, Request};
 use std::alloc::{AllocError, Global};
 use std::marker::Model;
@@ -114,7 +114,7 @@ impl<L: Ledger> Session<L> {
         }
     }
 
-    // An open or an edit.
+    // An open or an edit: where one procedure gets another body, the program stays open with it.
     #[tactic(auto, using(crate::proofs::LinesAlone::without_memory, crate::proofs::Sessions::no_later))]
     fn edit(&mut self, request: &Request) -> Result<Reply, AllocError>
         requires change { IsChange (request_view request.now) }
@@ -125,6 +125,54 @@ impl<L: Ledger> Session<L> {
         if !has_short_texts(request) {
             return Err(AllocError);
         }
+        match self.revise(request) {
+            Some(reply) => Ok(reply),
+            None => self.edit_any(request),
+        }
+    }
+
+    // An edit of one procedure's body; else nothing changes.
+    fn revise(&mut self, request: &Request) -> Option<Reply>
+        requires short { TextsAreShort (request_view request.now) }
+        requires room { HasRoom self.old }
+        ensures line { IfSome result (λ x. Line self.old.turns 0 self.old.state (Ok (request_view request.now)) (reply_view x) self.new.state) }
+        ensures later { IfSome result (λ x. IsLater self.old self.new) }
+        ensures same { IfNone result (self.new ≡ self.old) }
+    {
+        match replacement_of(self.alloc, self.opened.decls(), request) {
+            Ok(Some(replacement)) => self.put(replacement),
+            Ok(None) | Err(_) => None,
+        }
+    }
+
+    // The declaration takes the place of the one that stands there; else nothing changes.
+    fn put(&mut self, replacement: Replacement) -> Option<Reply>
+        requires there { replacement.at < length self.old.state.decls }
+        requires short { SourcesAreShort (slice_set self.old.state.decls replacement.at replacement.decl) }
+        requires written { AreWrittenDecls 0 (slice_set self.old.state.decls replacement.at replacement.decl) }
+        requires room { HasRoom self.old }
+        ensures line { IfSome result (λ x. (r : asked.Request) → IsEdited self.old.state.decls r (edited_to (slice_set self.old.state.decls replacement.at replacement.decl)) → Line self.old.turns 0 self.old.state (Ok r) (reply_view x) self.new.state) }
+        ensures later { IfSome result (λ x. IsLater self.old self.new) }
+        ensures same { IfNone result (self.new ≡ self.old) }
+    {
+        self.opened.has_module();
+        self.opened.revise(
+            self.alloc,
+            &mut self.board,
+            replacement,
+            self.turns,
+            &mut self.steps,
+        )
+    }
+
+    // Any open or edit.
+    fn edit_any(&mut self, request: &Request) -> Result<Reply, AllocError>
+        requires change { IsChange (request_view request.now) }
+        requires short { TextsAreShort (request_view request.now) }
+        requires room { HasRoom self.old }
+        ensures line { Line self.old.turns 0 self.old.state (Ok (request_view request.now)) (reply_of result) self.new.state }
+        ensures later { IsLater self.old self.new }
+    {
         match edited(self.alloc, self.opened.decls(), request) {
             Ok(decls) => self.take(decls),
             Err(fault) => refusal(fault),
@@ -153,7 +201,13 @@ impl<L: Ledger> Session<L> {
         ensures line { (r : asked.Request) (m : typed_module) → IsModuleOf self.old.state.decls m → rebuilt ≡ rebuilt_of (built m) program.typed → Asks self.old.state.decls r (taken program) → Line self.old.turns 0 self.old.state (Ok r) (reply_of result) self.new.state }
         ensures later { IsLater self.old self.new }
     {
-        let reply = open_goals(self.alloc, &mut self.board, &program, rebuilt, self.turns)?;
+        let reply = open_goals(
+            self.alloc,
+            &mut self.board,
+            program.procs(),
+            rebuilt,
+            self.turns,
+        )?;
         self.opened = program;
         Ok(reply)
     }
