@@ -13,7 +13,7 @@ use Rattle.bpl_sorts.specs.CarrierFaults.{carrier_fault}
 use Rattle.canonical_laws.specs.RoundTrip.{AreWrittenDecls}
 use Rattle.module_laws.specs.Elaborate.{decl_text, module_of}
 use Rattle.name_laws.specs.Resolved.{IsResolved}
-use Rattle.program_opening.specs.Opening.{typed, ill_typed, typing_by_carriers, typing_by, typing}
+use Rattle.program_opening.specs.Opening.{typed, typing_by_carriers, typing_by, typing}
 use Rattle.edit_session.proofs.ErasedWritten.{erased_written}
 
 -- without faults, and the module is that of the erased declarations
