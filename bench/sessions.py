@@ -1,8 +1,9 @@
 #!/usr/bin/env python3
 """Times sessions: a program of 1,000 procedures is opened and reported, then one procedure is edited and
 the program reported again. Prints the seconds of each, and how many times the edit with its report
-goes into the whole: an edit costs the same reading of the whole program whatever its proofs take, so
-this is told for programs of short proofs and of longer ones. Nothing is compared: it is no test.
+goes into the whole. Only the procedure's body is read, but each goal's key is compared and its line
+written again, so this is told for programs of short proofs and of longer ones. Nothing is compared: it
+is no test.
 `bench/sessions.py COUNT` takes as many procedures, `bench/sessions.py COUNT WORD` those programs alone
 whose name has the word. BPLSERVE names another server than the one that is built here.
 """
