@@ -1,12 +1,12 @@
 -- What becomes of tokens that are read as a part: they spell it, or the first fault stands at one of them or at their end.
-use Rattle.std.specs.Prelude.{◌≡◌, ℕ, ◌^◌, nat_lt, Bool, true, false, not, ◌&&◌, List, [], ◌∷◌, Option, Some, None}
+use Rattle.std.specs.Prelude.{◌≡◌, ℕ, nat_lt, Bool, true, false, not, ◌&&◌, List, [], ◌∷◌, Option, Some, None}
 use Rattle.bpl_lex.specs.Token.{number}
 use Rattle.bpl_grammar.specs.Lexeme.{Lexeme, is_kind}
 use Rattle.bpl_grammar.specs.Part.{Part}
 use Rattle.bpl_grammar.specs.Derivative.{empties, left_of}
 use Rattle.bpl_grammar.specs.Depth.{depth_of}
 use Rattle.bpl_grammar.specs.Nesting.{value}
-use Rattle.bpl_grammar.specs.declared.nesting.TheConstants.{NESTINGS}
+use Rattle.bpl_grammar.specs.Limits.{nestings, number_end}
 
 pub data Mark : Type 0 where
   syntax deep wide : Mark
@@ -18,10 +18,10 @@ pub data Fate : Type 0 where
 
 abbrev pub too_deep : Option ℕ → Bool
 too_deep None = false
-too_deep (Some n) = nat_lt NESTINGS n
+too_deep (Some n) = nat_lt nestings n
 
 abbrev pub too_wide : Lexeme → Bool
-too_wide t = is_kind number t && not (nat_lt (value t.spelling) (2 ^ 127))
+too_wide t = is_kind number t && not (nat_lt (value t.spelling) number_end)
 
 -- no number is too wide
 abbrev pub Narrow : List Lexeme → Type 0

@@ -1,5 +1,6 @@
 pub mod Lexeme
 pub mod Part
+pub mod Limits
 pub mod Grammar
 pub mod Spelling
 pub mod Derivative

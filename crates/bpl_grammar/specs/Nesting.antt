@@ -1,12 +1,12 @@
 -- How deep the last of the tokens lies, and which numbers are too wide.
-use Rattle.std.specs.Prelude.{ℕ, suc, ◌-◌, ◌^◌, ◌<◌, ◌≤◌, List, [], ◌∷◌, map, IsTrue}
+use Rattle.std.specs.Prelude.{ℕ, suc, ◌-◌, ◌<◌, ◌≤◌, List, [], ◌∷◌, map, IsTrue}
 use Rattle.std.specs.Int.Digits.{number_from_digits}
 use Rattle.bpl_lex.specs.Token.{Kind, number}
 use Rattle.bpl_grammar.specs.Lexeme.{Lexeme, is_kind, reads}
 use Rattle.bpl_grammar.specs.Part.{Part, some, spelled, ◌⨟◌, ◌∣◌, maybe, many, inside, longest, Rule, rule}
 use Rattle.bpl_grammar.specs.Grammar.{grammar}
 use Rattle.bpl_grammar.specs.Spelling.{Takes}
-use Rattle.bpl_grammar.specs.declared.nesting.TheConstants.{NESTINGS}
+use Rattle.bpl_grammar.specs.Limits.{nestings, number_end}
 
 -- Lies p ts n: the tokens begin the part, and the last of them lies inside n of its pairs of brackets,
 -- operands of prefix signs, `if` expressions and ranges of map types.
@@ -26,7 +26,7 @@ pub data Lies : Part → List Lexeme → ℕ → Type 0 where
 
 -- The last of the tokens lies too deep. (After `else` the longest operand is the deepest reading.)
 abbrev pub IsDeep : Part → List Lexeme → Type 0
-IsDeep p ts = (n : ℕ) × (NESTINGS < n) × Lies p ts n
+IsDeep p ts = (n : ℕ) × (nestings < n) × Lies p ts n
 
 -- the number that decimal digits spell
 abbrev pub value : List ℕ → ℕ
@@ -34,4 +34,4 @@ value digits = number_from_digits 10 (map (λ digit. digit - 48) digits)
 
 pub record IsWide (t : Lexeme) : Type 0 where
   pub is_number : IsTrue (is_kind number t)
-  pub wide : 2 ^ 127 ≤ value t.spelling
+  pub wide : number_end ≤ value t.spelling

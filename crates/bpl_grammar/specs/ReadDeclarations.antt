@@ -11,7 +11,7 @@ use Rattle.bpl_grammar.specs.Reading.{Read, followed, read_as, place_of, read_fi
 use Rattle.bpl_grammar.specs.ReadTypes.{read_params, read_type}
 use Rattle.bpl_grammar.specs.ReadExpressions.{Together, groups_from, groups_with, e_with, read_inner}
 use Rattle.bpl_grammar.specs.ReadStatements.{read_attrs, formula_with, var_with, body_with}
-use Rattle.bpl_grammar.specs.declared.nesting.TheConstants.{NESTINGS}
+use Rattle.bpl_grammar.specs.Limits.{nestings}
 
 -- ["unique"]: its place
 unfoldable pub read_unique : List Lexeme → Read (Option Place)
@@ -134,4 +134,4 @@ module _ (room : ℕ) where
 
 -- a declaration, in which a token lies inside at most so many nestings
 abbrev pub read_decl : List Lexeme → Read DeclBody
-read_decl ls = decl_with (NESTINGS - 1) ls
+read_decl ls = decl_with (nestings - 1) ls

@@ -1,5 +1,5 @@
 -- Reading expressions, production by production.
-use Rattle.std.specs.Prelude.{ℕ, zero, suc, ◌^◌, ◌||◌, nat_lt, true, false, cond, List, [], ◌∷◌, drop, codes, Option, Some, None, Ok, Err}
+use Rattle.std.specs.Prelude.{ℕ, zero, suc, ◌||◌, nat_lt, true, false, cond, List, [], ◌∷◌, drop, codes, Option, Some, None, Ok, Err}
 use Rattle.bv_base.specs.declared.place.Place.{Place}
 use Rattle.bpl_lex.specs.Token.{id, number as number_kind, text}
 use Rattle.bpl_ast.specs.Place.{Name, Ty}
@@ -10,6 +10,7 @@ use Rattle.bpl_ast.specs.declared.expr.Term.TheVariants.{Plus, Less}
 use Rattle.bpl_ast.specs.declared.expr.Index.{Index}
 use Rattle.bpl_ast.specs.declared.expr.Index.TheVariants.{Read as AtIndex, Write}
 use Rattle.bpl_grammar.specs.Lexeme.{Lexeme}
+use Rattle.bpl_grammar.specs.Limits.{number_end}
 use Rattle.bpl_grammar.specs.Nesting.{value}
 use Rattle.bpl_grammar.specs.Judge.{syntax, wide}
 use Rattle.bpl_grammar.specs.Terminal.{Terminal, kind, fixed, sees}
@@ -57,7 +58,7 @@ relation_at ls =
 
 unfoldable pub read_number : List Lexeme → Read ℕ
 read_number ls = cond (sees (kind number_kind) ls)
-    (cond (nat_lt (value (text_at ls)) (2 ^ 127)) (Ok (value (text_at ls), drop 1 ls)) (Err (wide, ls)))
+    (cond (nat_lt (value (text_at ls)) number_end) (Ok (value (text_at ls), drop 1 ls)) (Err (wide, ls)))
     (Err (syntax, ls))
 
 -- names that are declared together, their type, and their condition
@@ -89,7 +90,7 @@ abbrev pub compared : (List Lexeme → Read Expr) → Expr → Option Relation �
 compared sum x None ls = Ok (x, ls)
 compared sum x (Some r) ls = read_as (λ y. expr (first_place x) (related r x y)) (sum (drop 1 ls))
 
--- where there is room for so repeated nestings more, in which `inner` reads
+-- where there is room for so many nestings more, in which `inner` reads
 module _ (room : ℕ) (inner : Inner → List Lexeme → Read Expr) where
   -- "(" [Es] ")"
   unfoldable pub args_with : List Lexeme → Read (List Expr)
@@ -235,7 +236,7 @@ module _ (room : ℕ) (inner : Inner → List Lexeme → Read Expr) where
       cond (sees (fixed (codes "forall")) ls) (bound_with for_all p (drop 1 ls))
       (cond (sees (fixed (codes "exists")) ls) (bound_with exists p (drop 1 ls)) (e_with room inner ls))
 
--- an expression where there is room for so repeated nestings, the one that it stands in among them
+-- an expression where there is room for so many nestings, the one that it stands in among them
 abbrev pub read_inner : ℕ → Inner → List Lexeme → Read Expr
 read_inner zero g ls = refused (firsts_of g) ls
 read_inner (suc room) whole ls = e_with room (read_inner room) ls

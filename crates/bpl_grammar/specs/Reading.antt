@@ -44,7 +44,7 @@ read_fixed w ls = read_token (fixed w) ls
 unfoldable pub read_name : List Lexeme → Read Name
 read_name ls = read_as (λ u. record { text = text_at ls; at = place_of ls }) (read_token (kind id) ls)
 
--- what lies inside too repeated nestings: where it could begin, it is too deep
+-- what lies inside too many nestings: where it could begin, it is too deep
 abbrev pub refused : {A : Type 0} → List Terminal → List Lexeme → Read A
 refused cs ls = Err (cond (sees_one cs ls) deep syntax, ls)
 

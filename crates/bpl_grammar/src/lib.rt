@@ -4,14 +4,12 @@
 #![tactic(auto)]
 
 pub mod laws;
-pub mod nesting;
 pub mod text_laws;
 
 pub use laws::{
     equal_parts_have_one_fate, expressions_are_exact, expressions_are_spelled, trees_are_unique,
     types_are_exact, types_are_spelled,
 };
-pub use nesting::NESTINGS;
 pub use text_laws::{
     fails_at_the_fault, faultless_or_fault, faults_are_found, fine_is_faultless, never_both,
     one_fault, one_program, programs_are_exact, programs_are_unique,

@@ -1,5 +1,6 @@
 // Atoms, from indices down to numbers and names.
-ghost use Rattle.std.specs.Prelude.{◌≡◌, ◌^◌, cond, nat_lt, IfOk, IsErrOf};
+ghost use Rattle.std.specs.Prelude.{◌≡◌, cond, nat_lt, IfOk, IsErrOf};
+ghost use Rattle.bpl_grammar.specs.Limits.{number_end};
 ghost use Rattle.bpl_grammar.specs.Nesting.{value};
 ghost use Rattle.bpl_grammar.specs.Reading.{listed};
 ghost use Rattle.bpl_grammar.specs.ReadExpressions.{whole, indexed_by, read_number, args_with, named_with, old_with, choose_with, enclosed_with, atom_with, index_with, indices_with, post_with, read_inner};
@@ -15,7 +16,7 @@ const NUMBER_END: u128 = 1 << 127;
 
 /// The number that decimal digits spell, where it is below 2^127.
 fn value_of(digits: &[u8]) -> Option<u128>
-    ensures { result ≡ cond (nat_lt (value digits.now) (2 ^ 127)) (Some (value digits.now)) None }
+    ensures { result ≡ cond (nat_lt (value digits.now) number_end) (Some (value digits.now)) None }
 {
     let mut value: u128 = 0;
     for digit in digits {

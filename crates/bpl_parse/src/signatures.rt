@@ -8,14 +8,13 @@ ghost use Rattle.bpl_parse.specs.Seen.{group_seen};
 use crate::cursor::Cursor;
 use crate::stop::Stop;
 use bpl_ast::{Argument, Expr, Group, Name, Signature, Spec, SpecForm, Type};
-use bpl_grammar::NESTINGS;
 use std::alloc::Global;
 
 /// So many nestings may lie in one another.
-pub(crate) const ROOM: u32 = NESTINGS;
+pub(crate) const ROOM: u32 = 200;
 
 /// So many may lie in one of them.
-pub(crate) const INSIDE: u32 = NESTINGS - 1;
+pub(crate) const INSIDE: u32 = ROOM - 1;
 
 impl<'a> Cursor<'a> {
     /// [Id ":"]

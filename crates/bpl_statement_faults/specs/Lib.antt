@@ -1,3 +1,4 @@
+pub mod Limits
 pub mod StmtFaults
 pub mod BodyView
 pub mod StackView

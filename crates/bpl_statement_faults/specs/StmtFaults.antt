@@ -17,7 +17,7 @@ use Rattle.bpl_scopes.specs.Scopes.{Text, Contract, Entity, a_constant, a_global
 use Rattle.bpl_scopes.specs.Sorts.{sort_in, sort_of_meaning, sorts_of_names}
 use Rattle.bpl_faults.specs.NameFaults.{same_sort_faults, map_faults}
 use Rattle.bpl_faults.specs.ExprFaults.{faults_as, formula_faults, argument_faults, count}
-use Rattle.bpl_statement_faults.specs.declared.labels.TheConstants.{LABELS}
+use Rattle.bpl_statement_faults.specs.Limits.{label_limit}
 
 -- the global variables that a procedure modifies
 abbrev pub spec_names : Spec → List Name
@@ -81,7 +81,7 @@ first_label_faults (n ∷ ns) = fault many_labels n.at
 
 -- the first of them that is one too many
 abbrev pub many_labels_faults : Stmts → List Fault
-many_labels_faults ss = first_label_faults (drop LABELS (named_labels ss))
+many_labels_faults ss = first_label_faults (drop label_limit (named_labels ss))
 
 -- where a body stands: its scope, what its procedure modifies, where it is one's, and the labels of all its statements
 pub record BodyScope : Type 0 where

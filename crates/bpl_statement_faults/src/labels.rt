@@ -7,7 +7,7 @@ ghost use Rattle.bpl_scopes.specs.Fault.{is_among, earlier, first_fault};
 ghost use Rattle.bpl_scopes.specs.Scopes.{texts_of};
 ghost use Rattle.bpl_faults.specs.Arguments.{names_seen};
 ghost use Rattle.bpl_statement_faults.specs.StackView.{let_through};
-ghost use Rattle.bpl_statement_faults.specs.declared.labels.TheConstants.{LABELS};
+ghost use Rattle.bpl_statement_faults.specs.Limits.{label_limit};
 ghost use Rattle.bpl_statement_faults.specs.StmtFaults.{labels_of, labels_in, branch_labels, goto_labels, goto_labels_in, branch_goto_labels, first_label_faults, many_labels_faults};
 
 use bpl_ast::{Branch, Name, Stmt, StmtForm};
@@ -181,7 +181,7 @@ fn let_through(left: usize, is_named: bool) -> Option<usize>
 
 // Finds the first of the labels that are named that is one too many.
 fn note_beyond(named: &Positions, labels: &[&Name], faults: &mut Faults)
-    ensures { faults.new.first ≡ earlier faults.old.first (first_fault (first_label_faults (drop LABELS (filter (λ (n : name). is_among named.now n.text) (names_seen labels.now))))) }
+    ensures { faults.new.first ≡ earlier faults.old.first (first_fault (first_label_faults (drop label_limit (filter (λ (n : name). is_among named.now n.text) (names_seen labels.now))))) }
 {
     let mut left: usize = LABELS;
     for label in labels {

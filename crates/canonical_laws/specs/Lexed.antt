@@ -1,9 +1,10 @@
 -- Tokens of a text that are the tokens of the canonical text.
-use Rattle.std.specs.Prelude.{◌≡◌, ℕ, ◌<◌, ◌^◌, true, ◌||◌, List, [], ◌∷◌, ◌++◌, length, Some}
+use Rattle.std.specs.Prelude.{◌≡◌, ℕ, ◌<◌, true, ◌||◌, List, [], ◌∷◌, ◌++◌, length, Some}
 use Rattle.bpl_lex.specs.Token.{Token, number, text_of}
 use Rattle.bpl_lex.specs.Shape.{token, kind_of}
 use Rattle.bpl_lex.specs.Lexing.{front}
 use Rattle.bpl_ast.specs.Glyph.{Glyph, line}
+use Rattle.bpl_grammar.specs.Limits.{number_end}
 use Rattle.bpl_grammar.specs.Nesting.{value}
 use Rattle.canonical_laws.specs.Spelled.{kind_in}
 
@@ -38,7 +39,7 @@ IsTight g = g.tight ≡ true → (c : ℕ) × IsEnd c × (g.text ≡ c ∷ [])
 
 -- a number that is not too wide
 abbrev pub IsNarrow : Glyph → Type 0
-IsNarrow g = kind_of g.text ≡ Some number → value g.text < 2 ^ 127
+IsNarrow g = kind_of g.text ≡ Some number → value g.text < number_end
 
 -- the tokens of a line, none of which merges with the next
 abbrev pub AreApart : List Glyph → Type 0

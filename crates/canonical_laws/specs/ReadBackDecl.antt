@@ -9,10 +9,10 @@ use Rattle.canonical_laws.specs.StatementNestings.{decl_depth}
 use Rattle.canonical_laws.specs.Tokens.{decl_tokens}
 use Rattle.canonical_laws.specs.Spelled.{Spelled}
 use Rattle.canonical_laws.specs.Ahead.{sees_text}
-use Rattle.bpl_grammar.specs.declared.nesting.TheConstants.{NESTINGS}
+use Rattle.bpl_grammar.specs.Limits.{nestings}
 
 -- where none of its tokens lies too deep, and no specification is behind it, which a procedure without a body would take in
 abbrev pub DeclarationsAreReadBack : Type 0
-DeclarationsAreReadBack = (d : DeclBody) → IsWrittenDecl d → decl_depth d ≤ NESTINGS → (ls us : List Lexeme)
+DeclarationsAreReadBack = (d : DeclBody) → IsWrittenDecl d → decl_depth d ≤ nestings → (ls us : List Lexeme)
     → (sees_text "free" us || (sees_text "requires" us || (sees_text "ensures" us || sees_text "modifies" us))) ≡ false → Spelled (decl_tokens d) ls us
     → (e : DeclBody) × (read_decl ls ≡ Ok (e, us)) × SameDeclBody e d

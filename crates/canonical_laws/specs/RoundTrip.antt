@@ -15,7 +15,7 @@ use Rattle.canonical_laws.specs.WrittenStatement.{IsWrittenDecl}
 use Rattle.canonical_laws.specs.StatementNestings.{decl_depth}
 use Rattle.canonical_laws.specs.Tokens.{decl_tokens}
 use Rattle.canonical_laws.specs.Lexed.{AreTokens}
-use Rattle.bpl_grammar.specs.declared.nesting.TheConstants.{NESTINGS}
+use Rattle.bpl_grammar.specs.Limits.{nestings}
 
 -- each declaration has its own name, where k axioms stand before them, and is one that some tokens spell
 abbrev pub AreWrittenDecls : ℕ → List Decl → Type 0
@@ -25,7 +25,7 @@ AreWrittenDecls k (d ∷ ds) = (d.name ≡ name_of k d.body) × IsWrittenDecl d.
 -- no token of their canonical text lies too deep
 abbrev pub AreShallow : List Decl → Type 0
 AreShallow [] = Unit {0}
-AreShallow (d ∷ ds) = (decl_depth d.body ≤ NESTINGS) × AreShallow ds
+AreShallow (d ∷ ds) = (decl_depth d.body ≤ nestings) × AreShallow ds
 
 abbrev pub program_tokens : List Decl → List Glyph
 program_tokens [] = []

@@ -1,10 +1,11 @@
 -- What holds of every tree that some tokens spell: names are identifiers, numbers are below the bound,
 -- and no list is empty where the grammar wants an item.
-use Rattle.std.specs.Prelude.{◌≡◌, ◌<◌, ◌^◌, Bool, true, false, List, [], ◌∷◌, Option, Some, None, IsTrue}
+use Rattle.std.specs.Prelude.{◌≡◌, ◌<◌, Bool, true, false, List, [], ◌∷◌, Option, Some, None, IsTrue}
 use Rattle.bpl_lex.specs.Token.{id}
 use Rattle.bpl_lex.specs.Shape.{kind_of}
 use Rattle.bpl_ast.specs.Place.{Name, Params, Ty, integer, boolean, named, map_type, Tys, no_tys, ty}
 use Rattle.bpl_ast.specs.Tree.{Expr, expr, Node, number, truth, variable, apply, old, choose, quantified, iffs, implies, ands, ors, related, sums, products, negation, minus, indexed, Exprs, no_exprs, item, Terms, no_terms, plus, less, Indices, no_indices, at_index, update, Triggers, no_triggers, trigger, Groups, no_groups, group, Clause, no_clause, clause}
+use Rattle.bpl_grammar.specs.Limits.{number_end}
 
 abbrev pub IsName : Name → Type 0
 IsName n = kind_of n.text ≡ Some id
@@ -63,7 +64,7 @@ abbrev mutual
   IsWritten (expr p n) = IsWrittenNode n
 
   pub IsWrittenNode : Node → Type 0
-  IsWrittenNode (number n) = n < 2 ^ 127
+  IsWrittenNode (number n) = n < number_end
   IsWrittenNode (truth b) = Unit {0}
   IsWrittenNode (variable n) = IsName n
   IsWrittenNode (apply n xs) = IsName n × AreWritten xs

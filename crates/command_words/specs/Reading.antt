@@ -3,23 +3,23 @@ use Rattle.std.specs.Prelude.{ℕ, List, [], ◌∷◌, Option, Some, None, opti
 use Rattle.clap.specs.Words.{Row, matches_of, first_of, fault_of}
 use Rattle.clap.specs.Kinds.{Kinds}
 use Rattle.command_words.specs.Modes.{mode_named}
+use Rattle.command_words.specs.Limits.{usual_turns, least_turns, most_turns, most_workers, last_seed, most_size}
 use Rattle.command_words.specs.Options.{use_of_turns, use_of_workers, use_of_draws, given_number}
 use Rattle.command_words.specs.CommandLine.{the_command}
-use Rattle.command_words.specs.declared.options.TheConstants.{USUAL_TURNS, MOST_TURNS, MOST_WORKERS, LAST_SEED, MOST_SIZE}
 use Rattle.command_words.specs.declared.command.Mode.{Mode}
 use Rattle.command_words.specs.declared.command.Command.{Command}
 
 abbrev pub turns_of : Mode → Option (List ℕ) → Option ℕ
-turns_of mode given = given_number (use_of_turns mode) USUAL_TURNS 1 MOST_TURNS given
+turns_of mode given = given_number (use_of_turns mode) usual_turns least_turns most_turns given
 
 abbrev pub workers_of : Mode → Option (List ℕ) → Option ℕ
-workers_of mode given = given_number (use_of_workers mode) 0 0 MOST_WORKERS given
+workers_of mode given = given_number (use_of_workers mode) 0 0 most_workers given
 
 abbrev pub seed_of : Mode → Option (List ℕ) → Option ℕ
-seed_of mode given = given_number (use_of_draws mode) 0 0 LAST_SEED given
+seed_of mode given = given_number (use_of_draws mode) 0 0 last_seed given
 
 abbrev pub size_of : Mode → Option (List ℕ) → Option ℕ
-size_of mode given = given_number (use_of_draws mode) 0 0 MOST_SIZE given
+size_of mode given = given_number (use_of_draws mode) 0 0 most_size given
 
 -- where the mode has a name, and each of the four options its number
 abbrev pub command_of : List ℕ → Option (List ℕ) → Option (List ℕ) → Option (List ℕ) → Option (List ℕ) → Option Command

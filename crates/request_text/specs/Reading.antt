@@ -5,12 +5,11 @@ use Rattle.std.specs.Str.{is_utf8}
 use Rattle.serde_json.specs.Data.{Data, Items, no_items, item}
 use Rattle.serde_json.specs.Find.{get, as_str, as_array}
 use Rattle.serde_json.specs.Read.{read}
-use Rattle.request_text.specs.declared.reading.TheConstants.{LONGEST}
 use Rattle.request_text.specs.Request.{Text, Put, Request, open_text, edit, status, report, sums, proofs, quit, BadRequest, bad_json, bad_op, bad_field, too_long}
 
--- the longest line that is read
+-- a line that is read has so many bytes at most
 abbrev pub longest : ℕ
-longest = LONGEST
+longest = 1_048_576
 
 -- the text that stands at a key; a value that is no object has none
 abbrev pub text_at : Text → Data → Option Text

@@ -2,17 +2,18 @@
 use Rattle.std.specs.Prelude.{ℕ, ◌+◌, nat_lt, List, [], ◌∷◌, cond, length, map, flat_map, Option, Some, None}
 use Rattle.obligation_text.specs.Text.{obligation_text}
 use Rattle.bpl_model.specs.Module.{Module}
-use Rattle.vc_build.specs.declared.fault.TheConstants.{COUNT_LIMIT, BYTE_LIMIT}
 use Rattle.vc_build.specs.declared.goal.Goal.{Goal}
 use Rattle.vc_build.specs.declared.fault.Measure.{Measure}
 use Rattle.vc_build.specs.declared.fault.Measure.TheVariants.{Count, Bytes}
 use Rattle.vc_build.specs.Goals.{goals}
 
+-- so many goals of a program at most
 abbrev pub count_limit : ℕ
-count_limit = COUNT_LIMIT
+count_limit = 65_536
 
+-- the texts of their obligations have so many bytes together at most
 abbrev pub byte_limit : ℕ
-byte_limit = BYTE_LIMIT
+byte_limit = 67_108_864
 
 -- the first goal that exceeds a limit, goals before bytes, with the number there; these goals and bytes went before
 abbrev pub large_after : ℕ → ℕ → List ℕ → Option (Measure × ℕ)

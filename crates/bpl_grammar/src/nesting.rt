@@ -1,4 +1,0 @@
-// How deep a token may lie.
-
-/// So many nestings may lie in one another.
-pub const NESTINGS: u32 = 200;
