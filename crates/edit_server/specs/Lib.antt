@@ -1,3 +1,4 @@
+pub mod Limits
 pub mod Exit
 pub mod Built
 pub mod Answer

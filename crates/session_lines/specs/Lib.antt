@@ -1,3 +1,4 @@
+pub mod Limits
 pub mod Replying
 pub mod Laws
 pub mod Served
