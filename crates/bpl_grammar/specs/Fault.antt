@@ -1,11 +1,12 @@
 -- The fault of a text that is to spell a part of the grammar.
-use Rattle.std.specs.Prelude.{◌≡◌, ℕ, suc, ◌<◌, ◌≤◌, List, take, length, slice_get, Some, None, Result, Ok, Err}
+use Rattle.std.specs.Prelude.{◌≡◌, ℕ, ◌≤◌, List, length, slice_get, Some, None, Result, Ok, Err}
 use Rattle.bpl_lex.specs.Token.{Token}
 use Rattle.bpl_lex.specs.Lexing.{tokens, end_of}
 use Rattle.bpl_grammar.specs.Lexeme.{Lexeme, lexemes}
 use Rattle.bpl_grammar.specs.Part.{Part}
 use Rattle.bpl_grammar.specs.Spelling.{Spells, Begins}
 use Rattle.bpl_grammar.specs.Nesting.{IsDeep, IsWide}
+pub use Rattle.bpl_grammar.specs.Faultless.{up_to, IsClean, AreClean, AreFaultless}
 use Rattle.bpl_grammar.specs.Judge.{Mark, syntax, deep, wide}
 
 -- each by the byte at which it stands
@@ -13,29 +14,11 @@ pub data Fault : Type 0 where
   lexical : ℕ → Fault
   marked : Mark → ℕ → Fault
 
--- the tokens up to and with the k-th, counted from 0
-abbrev pub up_to : ℕ → List Lexeme → List Lexeme
-up_to k ls = take (suc k) ls
-
--- the k-th token, which is t, has no fault
-pub record IsClean (p : Part) (ls : List Lexeme) (k : ℕ) (t : Lexeme) : Type 0 where
-  pub begins : Begins p (up_to k ls)
-  pub shallow : IsDeep p (up_to k ls) → ⊥
-  pub narrow : IsWide t → ⊥
-
-abbrev pub AreClean : Part → List Lexeme → ℕ → Type 0
-AreClean p ls n = (k : ℕ) (t : Lexeme) → k < n → slice_get ls k ≡ Some t → IsClean p ls k t
-
 -- the last of these tokens, which is t, has this fault: at one token Syntax comes before Deep, and Deep before Wide
 abbrev pub StopsAt : Part → List Lexeme → Lexeme → Mark → Type 0
 StopsAt p us t syntax = Begins p us → ⊥
 StopsAt p us t deep = Begins p us × IsDeep p us
 StopsAt p us t wide = Begins p us × (IsDeep p us → ⊥) × IsWide t
-
--- the tokens, all of them, spell the part, and none has a fault
-pub record AreFaultless (p : Part) (ls : List Lexeme) : Type 0 where
-  pub spells : Spells p ls
-  pub clean : AreClean p ls (length ls)
 
 -- The fault stands at the k-th token, the first that has one; or all tokens begin the part and spell none, and it stands
 -- at the end of the text, which counts as a token.

@@ -19,6 +19,7 @@ pub mod ReadExpressions
 pub mod ReadStatements
 pub mod ReadDeclarations
 pub mod Law
+pub mod Faultless
 pub mod Fault
 pub mod Programs
 pub mod ReadPrograms

@@ -10,7 +10,7 @@ use Rattle.bpl_grammar.specs.Lexeme.{Lexeme, lexemes}
 use Rattle.bpl_grammar.specs.Part.{rule, program}
 use Rattle.bpl_grammar.specs.Grammar.{attrs}
 use Rattle.bpl_grammar.specs.Spelling.{Takes}
-use Rattle.bpl_grammar.specs.Fault.{AreFaultless}
+use Rattle.bpl_grammar.specs.Faultless.{AreFaultless}
 use Rattle.bpl_grammar.specs.Types.{Lexemes, Is, IsId, name, Ids, TPar, Type'}
 use Rattle.bpl_grammar.specs.Expressions.{E, Groups'}
 use Rattle.bpl_grammar.specs.Statements.{Formula, Body'}

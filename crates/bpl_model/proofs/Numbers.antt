@@ -6,7 +6,8 @@ use Rattle.std.proofs.lemmas.List.Filters.{length-filter_both}
 use Rattle.std.proofs.lemmas.List.Sums.{length-filter, count_by-le-length}
 use Rattle.logic_core.specs.Tree.{Kind}
 use Rattle.bpl_model.specs.Module.{Const, Global, Local}
-use Rattle.bpl_model.specs.Numbering.{local_sorts, variables_from}
+use Rattle.bpl_model.specs.Numbering.{local_sorts}
+use Rattle.bpl_model.specs.VariablesView.{variables_from}
 
 six : (a b c d e f : List Kind) → ((((a ++ b) ++ c) ++ d) ++ e) ++ f ≡ a ++ (b ++ (c ++ (d ++ (e ++ f))))
 six a b c d e f = append_assoc (((a ++ b) ++ c) ++ d) e f ∙ append_assoc ((a ++ b) ++ c) d (e ++ f) ∙ append_assoc (a ++ b) c (d ++ (e ++ f)) ∙ append_assoc a b (c ++ (d ++ (e ++ f)))

@@ -19,7 +19,8 @@ use Rattle.flow_core.specs.Reading.{Mentions}
 use Rattle.flow_core.specs.declared.block.Invariant.{Invariant}
 use Rattle.bpl_model.specs.declared.variables.Variables.{Variables}
 use Rattle.bpl_model.specs.Module.{Name, Guard, Spec, requires, ensures, modifies, Stmt, assert, assume, havoc, assign, call, if_else, while, break, return, goto, labelled, Stmts, no_stmts, stmt, Global, Local, Proc, DeclText, Module}
-use Rattle.bpl_model.specs.Numbering.{defs_of, const_sorts, global_sorts, local_sorts, in_sorts, contract_sorts, sorts_of, first_global, first_entry, first_in, first_out, first_local, global_numbers, variables_of}
+use Rattle.bpl_model.specs.Numbering.{defs_of, const_sorts, global_sorts, local_sorts, in_sorts, contract_sorts, sorts_of, first_global, first_entry, first_in, first_out, first_local, global_numbers}
+use Rattle.bpl_model.specs.VariablesView.{variables_of}
 use Rattle.bpl_model.specs.Typed.{HasSort, IsGuard, MayBeSet, AreTargets, Fits, IsCall, IsTyped, AreTyped, IsOnlyLater, IsSpec, IsOld, IsClause, HaveClauses, IsBody, IsTypedProc, IsGlobalClause, IsText, IsTypedModule}
 use Rattle.bpl_model.specs.TypedTest.{distinct, between, labels_within, is_formula, is_formula_or_none, fits, may_be_set, are_targets, is_call_of, is_typed, are_typed, is_only_later, is_spec, is_clause, are_declared, is_body, is_typed_proc, is_text, is_typed_module}
 use Rattle.bpl_model.proofs.NamedVariables.{passing, any_passes, none_mentioned}

@@ -6,6 +6,7 @@ use Rattle.logic_core.specs.Variables.{renamed}
 use Rattle.bv_base.specs.declared.place.Place.{Place}
 use Rattle.flow_core.specs.Clause.{Clause, checked, assumed}
 use Rattle.bpl_model.specs.Module.{Name, Stmt, assert, assume, havoc, assign, call, if_else, while, break, return, goto, labelled, Stmts, no_stmts, stmt, Global, Local, Proc, Module}
+pub use Rattle.bpl_model.specs.Module.{append, one}
 use Rattle.bpl_model.specs.StmtView.{stmts_of}
 use Rattle.bpl_model.specs.Numbering.{first_global, first_entry, first_in, first_out, first_local}
 use Rattle.bpl_model.specs.Contract.{postconditions, call_checks, modified}
@@ -13,13 +14,6 @@ use Rattle.bpl_model.specs.Contract.{postconditions, call_checks, modified}
 -- what stands for a statement, and the variables that its calls own
 abbrev pub Cut : Type 0
 Cut = Stmts × List Local
-
-abbrev pub append : Stmts → Stmts → Stmts
-append no_stmts ts = ts
-append (stmt s ss) ts = stmt s (append ss ts)
-
-abbrev pub one : Stmt → Stmts
-one s = stmt s no_stmts
 
 -- a call's own variable for an argument, and for an old global
 abbrev pub owned : Local → Local

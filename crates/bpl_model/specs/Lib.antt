@@ -5,6 +5,7 @@ pub mod SpecView
 pub mod StmtView
 pub mod StmtFalls
 pub mod Numbering
+pub mod VariablesView
 pub mod Clauses
 pub mod Reach
 pub mod Names

@@ -10,7 +10,8 @@ use Rattle.logic_core.specs.View.{trees_of}
 use Rattle.flow_core.specs.State.{sorts_at}
 use Rattle.bpl_model.specs.declared.variables.Variables.{Variables}
 use Rattle.bpl_model.specs.Module.{Name, Spec, requires, ensures, modifies, Stmt, assert, assume, havoc, assign, call, if_else, while, break, return, goto, labelled, Stmts, no_stmts, stmt, is_scope, Local, Proc, DeclText, Module}
-use Rattle.bpl_model.specs.Numbering.{defs_of, const_sorts, global_sorts, local_sorts, variables_of}
+use Rattle.bpl_model.specs.Numbering.{defs_of, const_sorts, global_sorts, local_sorts}
+use Rattle.bpl_model.specs.VariablesView.{variables_of}
 
 abbrev pub distinct : List ℕ → Bool
 distinct [] = true

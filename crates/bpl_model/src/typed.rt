@@ -2,7 +2,8 @@
 ghost use Rattle.std.specs.Prelude.{◌≡◌, ◌↔◌, ◌++◌, length, nat_lt, IsTrue, IfOk, []};
 ghost use Rattle.std.specs.List.{list_all};
 ghost use Rattle.logic_core.specs.Sorts.{bodies_sorted};
-ghost use Rattle.bpl_model.specs.Numbering.{defs_of, const_sorts, global_sorts, variables_of};
+ghost use Rattle.bpl_model.specs.Numbering.{defs_of, const_sorts, global_sorts};
+ghost use Rattle.bpl_model.specs.VariablesView.{variables_of};
 ghost use Rattle.bpl_model.specs.Typed.{IsTypedModule};
 ghost use Rattle.bpl_model.specs.TypedTest.{is_formula_or_none, is_typed_proc, is_text, is_typed_over, is_typed_module};
 

@@ -1,7 +1,8 @@
 // The variables of a procedure, by number: constants, globals, the globals' entry values,
 // in-parameters, outs, locals.
 ghost use Rattle.std.specs.Prelude.{◌≡◌, ◌++◌, IfOk, OnOk, count_by, length, map};
-ghost use Rattle.bpl_model.specs.Numbering.{local_sorts, variables_from, variables_of};
+ghost use Rattle.bpl_model.specs.Numbering.{local_sorts};
+ghost use Rattle.bpl_model.specs.VariablesView.{variables_from, variables_of};
 
 use crate::decl::{Const, Global, Local};
 use crate::module::Parts;

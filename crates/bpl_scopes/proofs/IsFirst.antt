@@ -5,7 +5,8 @@ use Rattle.std.specs.declared.cmp.Ordering.TheVariants.{Less, Equal, Greater}
 use Rattle.std.specs.Ordering.{ordering_reverse}
 use Rattle.std.proofs.lemmas.Cmp.{tied_itself}
 use Rattle.bpl_scopes.specs.declared.fault.Fault.{Fault}
-use Rattle.bpl_scopes.specs.Fault.{order, chosen, first_of_two, earlier, first_fault, NoneBefore, IsFirstOf}
+use Rattle.bpl_scopes.specs.Fault.{order, chosen, first_of_two, earlier, first_fault}
+use Rattle.bpl_scopes.specs.FaultLaws.{NoneBefore, IsFirstOf}
 use Rattle.bpl_scopes.proofs.FirstOfTwo.{equal_not_less, greater_not_less}
 use Rattle.bpl_scopes.proofs.FirstFault.{order_total}
 

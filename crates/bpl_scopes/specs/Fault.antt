@@ -1,5 +1,5 @@
 -- The numbers of the kinds of fault, the faults of a declaration, and the first of them.
-use Rattle.std.specs.Prelude.{◌≡◌, ◌≢◌, ◌⊎◌, ⊤, ℕ, Bool, true, false, List, [], ◌∷◌, ◌++◌, bytes_eq, Option, Some, None}
+use Rattle.std.specs.Prelude.{ℕ, Bool, true, false, List, [], ◌∷◌, ◌++◌, bytes_eq, Option, Some, None}
 use Rattle.std.specs.List.{list_any}
 use Rattle.bv_base.specs.declared.place.Place.{Place}
 use Rattle.std.specs.declared.cmp.Ordering.{Ordering}
@@ -83,17 +83,3 @@ earlier (Some f) (Some g) = Some (first_of_two f g)
 abbrev pub first_fault : List Fault → Option Fault
 first_fault [] = None
 first_fault (f ∷ fs) = earlier (Some f) (first_fault fs)
-
--- the fault is one of these
-abbrev pub IsOneOf : Fault → List Fault → Type 0
-IsOneOf f [] = ⊥
-IsOneOf f (g ∷ gs) = (f ≡ g) ⊎ IsOneOf f gs
-
--- none of these stands before the fault
-abbrev pub NoneBefore : Fault → List Fault → Type 0
-NoneBefore f [] = ⊤
-NoneBefore f (g ∷ gs) = (order g f ≢ Less) × NoneBefore f gs
-
-pub record IsFirstOf (f : Fault) (fs : List Fault) : Type 0 where
-  pub there : IsOneOf f fs
-  pub first : NoneBefore f fs

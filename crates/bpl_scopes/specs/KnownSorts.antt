@@ -4,14 +4,12 @@ use Rattle.logic_core.specs.Tree.{Kind}
 use Rattle.bpl_scopes.specs.Fault.{is_among}
 use Rattle.bpl_scopes.specs.Positions.{at_name}
 use Rattle.bpl_scopes.specs.Scopes.{Text, Table, Entry, BoundVar, bound_names}
+pub use Rattle.bpl_scopes.specs.Scopes.{names_in}
 use Rattle.bpl_scopes.specs.Sorts.{unless_hidden, synonym_sort}
 use Rattle.bpl_scopes.specs.Shape.{kind_seen}
 use Rattle.bpl_scopes.specs.declared.shape.Shape.{Shape}
 use Rattle.bpl_scopes.specs.declared.hidden.Bound.{Bound}
 use Rattle.bpl_scopes.specs.declared.hidden.Hidden.{Hidden}
-
-abbrev pub names_in : Table → List Text
-names_in t = map (λ (e : Entry). e.name) t
 
 abbrev pub known_sort : Table → List (Option Kind) → Text → Option Kind
 known_sort t ks n = at_name None (names_in t) ks n

@@ -1,11 +1,8 @@
 -- Where a name stands first, and what stands beside it in a list of the same length.
-use Rattle.std.specs.Prelude.{◌≡◌, ℕ, suc, cond, List, [], ◌∷◌, map, Option, Some, None, option_map, slice_get, bytes_eq}
+use Rattle.std.specs.Prelude.{◌≡◌, ℕ, List, map, Option, Some, None, slice_get, bytes_eq}
 use Rattle.std.specs.Borrow.{Bor}
 use Rattle.std.specs.Map.{lookup}
-
-abbrev pub first_at : List ℕ → List (List ℕ) → Option ℕ
-first_at n [] = None
-first_at n (m ∷ ms) = cond (bytes_eq n m) (Some 0) (option_map suc (first_at n ms))
+pub use Rattle.bpl_scopes.specs.Scopes.{first_at}
 
 abbrev pub or_other : {A : Type 0} → Option A → A → A
 or_other None d = d

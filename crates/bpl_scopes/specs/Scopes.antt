@@ -1,5 +1,5 @@
 -- What is declared under which name, and what a name stands for in an expression.
-use Rattle.std.specs.Prelude.{ℕ, ◌+◌, Bool, true, false, List, [], ◌∷◌, ◌++◌, map, length, find, bytes_eq, Option, Some, None, option_map}
+use Rattle.std.specs.Prelude.{ℕ, suc, ◌+◌, Bool, true, false, cond, List, [], ◌∷◌, ◌++◌, map, length, find, bytes_eq, Option, Some, None, option_map}
 use Rattle.logic_core.specs.Tree.{Kind}
 use Rattle.bpl_ast.specs.Place.{Name, Ty}
 use Rattle.bpl_ast.specs.Tree.{Expr, Groups, no_groups, group}
@@ -112,6 +112,14 @@ table_of ds = entries_after no_counts 0 ds
 abbrev pub counts_after : Counts → List Decl → Counts
 counts_after c [] = c
 counts_after c (x ∷ xs) = counts_after (counts_with c x.body) xs
+
+abbrev pub names_in : Table → List Text
+names_in t = map (λ (e : Entry). e.name) t
+
+-- where a name stands first among names
+abbrev pub first_at : Text → List Text → Option ℕ
+first_at n [] = None
+first_at n (m ∷ ms) = cond (bytes_eq n m) (Some 0) (option_map suc (first_at n ms))
 
 -- what the name is, outside all procedures; of several declarations the first counts
 abbrev pub entry_of : Table → Text → Option Entry

@@ -2,8 +2,7 @@
 use Rattle.std.specs.Prelude.{ℕ, ◌-◌, nat_eq, Bool, true, false, cond, List, length, set, slice_get, Option, Some, None, option_map}
 use Rattle.logic_core.specs.Tree.{truth}
 use Rattle.flow_core.specs.declared.mark.Mark.{Mark}
-use Rattle.bpl_model.specs.Module.{Stmt, assert, assume, havoc, assign, call, if_else, while, break, return, goto, labelled, Stmts, no_stmts, stmt, Proc, Module}
-use Rattle.bpl_model.specs.Cut.{append, one}
+use Rattle.bpl_model.specs.Module.{Stmt, assert, assume, havoc, assign, call, if_else, while, break, return, goto, labelled, Stmts, no_stmts, stmt, append, one, Proc, Module}
 use Rattle.bpl_smoke.specs.Points.{is_else, points_in, points_within, point_at}
 use Rattle.bpl_smoke.specs.declared.point.Point.{Point}
 

@@ -1,9 +1,7 @@
 -- User types, and the types that stand for one through synonyms. A user type is told by the place of its name in the table.
 use Rattle.std.specs.Prelude.{ℕ, zero, suc, length, Option, Some, None}
 use Rattle.bpl_ast.specs.Place.{Ty, integer, boolean, named, map_type}
-use Rattle.bpl_scopes.specs.Scopes.{Text, Entity, a_constant, a_global, a_function, a_synonym, a_procedure, Table, entity_of}
-use Rattle.bpl_scopes.specs.KnownSorts.{names_in}
-use Rattle.bpl_scopes.specs.Positions.{first_at}
+use Rattle.bpl_scopes.specs.Scopes.{Text, Entity, a_constant, a_global, a_function, a_synonym, a_procedure, Table, names_in, first_at, entity_of}
 
 -- of a type, by the user types of names
 abbrev pub user_in : (Text → Option ℕ) → Ty → Option ℕ

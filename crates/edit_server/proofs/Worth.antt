@@ -1,6 +1,10 @@
 -- What an answer is worth, from what it is.
 use Rattle.std.proofs.Common.{◌≡◌, ◌∙◌, ℕ, inl, inr, List, Option, Some, None, get_or, sym, ap, subst, arith}
+use Rattle.bpl_ast.specs.Statement.{Decl}
 use Rattle.bpl_model.specs.Module.{Module}
+use Rattle.bpl_sorts.specs.Erased.{erased}
+use Rattle.module_laws.specs.Elaborated.{IsElaborated}
+use Rattle.module_laws.specs.Elaborate.{module_of}
 use Rattle.program_opening.specs.ProcGoals.{goals_by_proc}
 use Rattle.program_opening.specs.Opening.{Opening, program, refused, Opens}
 use Rattle.program_opening.specs.Laws.{ModulesAreSound}
@@ -20,11 +24,14 @@ use Rattle.edit_server.specs.Answer.{IsCheck, IsReportOn, IsRecheck, IsReviewOn,
 use Rattle.edit_server.specs.Worth.{IsProgram, IsCorrectSafe, IsAcceptedSafe, IsNamedUnreached}
 use Rattle.edit_server.proofs.Ends.{same_line}
 
+is_elaborated : (ds : List Decl) (m : Module) → m ≡ module_of ds → IsElaborated ds m
+is_elaborated ds m e = record { consts = λ i. (e i).consts; axioms = λ i. (e i).axioms; functions = λ i. (e i).functions; globals = λ i. (e i).globals; procs = λ i. (e i).procs }
+
 -- a text that is a program, and not a fault, spells it, and it has no fault by names and types
 pub is_program : (text : List ℕ) (m : Module) → Opens text (program m) → IsProgram text m
 is_program text m (inl s) =
     let found = program_of s.decls m s.is in
-    record { decls = s.decls; spelled = s.spelled; faultless = found.0; told = found.2; is = found.1 }
+    record { decls = s.decls; spelled = s.spelled; faultless = found.0; told = found.2; is = is_elaborated (erased s.decls) m found.1 }
 is_program text m (inr f) = absurd (let never = f.is in cc)
 
 of_report : CorrectIsSafe → (turns : ℕ) (text written : List ℕ) (status : Status) (o : Opening) → Opens text o → IsReportOn turns o written status → IsCorrectSafe text written status

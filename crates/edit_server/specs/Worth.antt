@@ -5,14 +5,14 @@ use Rattle.bpl_grammar.specs.Programs.{SpellsProgram}
 use Rattle.bpl_declaration_faults.specs.DeclFaults.{fault_of}
 use Rattle.bpl_sorts.specs.Erased.{erased}
 use Rattle.bpl_sorts.specs.CarrierFaults.{carrier_fault}
-use Rattle.module_laws.specs.Elaborate.{module_of}
+use Rattle.module_laws.specs.Elaborated.{IsElaborated}
 use Rattle.bpl_model.specs.Module.{Proc, Module}
 use Rattle.bpl_model.specs.Safe.{Safe}
 use Rattle.command_words.specs.declared.command.Mode.{Mode}
 use Rattle.command_words.specs.declared.command.Mode.TheVariants.{Check, Serve, Recheck, Gen, Smoke}
 use Rattle.report_text.specs.Lines.{ended}
 use Rattle.check_report.specs.Called.{CallsCorrectTheSafe}
-use Rattle.proof_lines.specs.Parts.{program_in}
+use Rattle.proof_lines.specs.Program.{program_in}
 use Rattle.recheck_report.specs.Accepted.{accepted_line}
 use Rattle.smoke_report.specs.Unreached.{NamesUnreached}
 use Rattle.edit_server.specs.declared.status.Status.{Status}
@@ -24,7 +24,7 @@ pub record IsProgram (text : List ℕ) (m : Module) : Type 0 where
   pub spelled : SpellsProgram text decls
   pub faultless : fault_of (erased decls) ≡ None
   pub told : carrier_fault decls ≡ None
-  pub is : m ≡ module_of (erased decls)
+  pub is : IsElaborated (erased decls) m
 
 abbrev pub AllAreSafe : Module → Type 0
 AllAreSafe m = (p : Proc) → Contains m.procs p → Safe m p

@@ -1,2 +1,3 @@
+pub mod Elaborated
 pub mod Elaborate
 pub mod ModuleLaws

@@ -16,7 +16,7 @@ use Rattle.vc_build.specs.Goals.{goals_at}
 use Rattle.vc_build.specs.Large.{large}
 use Rattle.smoke_report.specs.declared.program_point.ProgramPoint.{ProgramPoint}
 use Rattle.smoke_report.specs.ProgramPoints.{program_points}
-use Rattle.smoke_report.specs.PointLines.{point_line, summary}
+use Rattle.smoke_report.specs.Unreached.{point_line, summary}
 
 -- ---- a point
 

@@ -1,12 +1,26 @@
--- What bytes say of points: that no execution reaches them.
-use Rattle.std.specs.Prelude.{◌≡◌, ℕ, List, [], ◌∷◌, ◌++◌, map, length, slice_get, Some}
+-- What bytes say of points: the line of each that is unreachable, and that no execution reaches it.
+use Rattle.std.specs.Prelude.{◌≡◌, ℕ, List, [], ◌∷◌, ◌++◌, map, length, slice_get, Some, codes, decimal}
 use Rattle.std.specs.List.{AllByRecursion}
 use Rattle.bpl_model.specs.Module.{Proc, Module}
+use Rattle.bpl_smoke.specs.declared.point.PointKind.{PointKind}
+use Rattle.bpl_smoke.specs.declared.point.PointKind.TheVariants.{Branch, Else, Loop, End}
 use Rattle.bpl_smoke.specs.Points.{point_at}
 use Rattle.bpl_smoke.specs.Reach.{Reaches}
 use Rattle.report_text.specs.Lines.{text_of}
 use Rattle.smoke_report.specs.declared.program_point.ProgramPoint.{ProgramPoint}
-use Rattle.smoke_report.specs.PointLines.{point_line, summary}
+
+abbrev pub kind_text : PointKind → List ℕ
+kind_text (Branch k) = codes "branch(" ++ decimal k ++ codes ")"
+kind_text Else = codes "else"
+kind_text Loop = codes "loop"
+kind_text End = codes "end"
+
+abbrev pub point_line : ProgramPoint → List ℕ
+point_line x = x.name ++ codes " " ++ decimal x.point.mark.place.line ++ codes ":" ++ decimal x.point.mark.place.col ++ codes " " ++ kind_text x.point.kind ++ codes " unreachable"
+
+-- so many points, and so many of them unreachable
+abbrev pub summary : ℕ → ℕ → List ℕ
+summary n u = codes "smoke points=" ++ decimal n ++ codes " unreachable=" ++ decimal u
 
 -- it is a point of a procedure of this module, and that procedure reaches it from none of its entry states
 pub record IsUnreached (m : Module) (x : ProgramPoint) : Type 0 where

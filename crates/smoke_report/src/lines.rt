@@ -1,6 +1,6 @@
 // The lines on points.
 ghost use Rattle.std.specs.Prelude.{◌≡◌, ◌++◌, IfOk, OnOk};
-ghost use Rattle.smoke_report.specs.PointLines.{kind_text, point_line, summary};
+ghost use Rattle.smoke_report.specs.Unreached.{kind_text, point_line, summary};
 
 use crate::program_point::ProgramPoint;
 use bpl_smoke::PointKind;

@@ -1,6 +1,6 @@
 use Rattle.std.proofs.Common.{◌≡◌, ◌++◌, drop, map}
 use Rattle.std.specs.Prelude.{filter}
-use Rattle.smoke_report.specs.PointLines.{point_line}
+use Rattle.smoke_report.specs.Unreached.{point_line}
 use Rattle.smoke_report.specs.Smoke.{is_unreachable, large_among}
 use Rattle.smoke_report.proofs.report.point_lines.Given as goal
 

@@ -1,6 +1,7 @@
 use Rattle.std.proofs.Common.{◌≡◌, ◌∙◌, ap, subst}
 use Rattle.std.specs.Prelude.{IfOk}
-use Rattle.bpl_model.specs.Numbering.{sorts_of, variables_of}
+use Rattle.bpl_model.specs.Numbering.{sorts_of}
+use Rattle.bpl_model.specs.VariablesView.{variables_of}
 use Rattle.bpl_model.specs.Cut.{cut_calls}
 use Rattle.bpl_blocks.specs.Blocks.{to_blocks}
 use Rattle.loop_cut.specs.Cut.{cut}

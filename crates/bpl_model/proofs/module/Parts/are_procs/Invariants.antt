@@ -1,6 +1,6 @@
 use Rattle.std.proofs.Common.{◌≡◌, drop}
 use Rattle.std.specs.List.{list_all}
-use Rattle.bpl_model.specs.Numbering.{variables_of}
+use Rattle.bpl_model.specs.VariablesView.{variables_of}
 use Rattle.bpl_model.specs.TypedTest.{is_typed_proc}
 use Rattle.bpl_model.proofs.module.Parts.are_procs.Given as goal
 
