@@ -1,10 +1,9 @@
 -- What an answer is worth, said by executions alone: procedures that it calls correct, or all of them where it says `accepted`, have no execution from an entry state that fails, and none comes to a point that it calls unreachable.
-use Rattle.std.specs.Prelude.{◌≡◌, ◌≢◌, ℕ, List, None, Contains}
+use Rattle.std.specs.Prelude.{◌≡◌, ◌≢◌, ℕ, List, None, Contains, codes}
 use Rattle.bpl_ast.specs.Statement.{Decl}
 use Rattle.bpl_grammar.specs.Programs.{SpellsProgram}
 use Rattle.bpl_declaration_faults.specs.DeclFaults.{fault_of}
-use Rattle.bpl_sorts.specs.Erased.{erased}
-use Rattle.bpl_sorts.specs.CarrierFaults.{carrier_fault}
+use Rattle.bpl_sorts.specs.Erased.{erased, told_apart}
 use Rattle.module_laws.specs.Elaborated.{IsElaborated}
 use Rattle.bpl_model.specs.Module.{Proc, Module}
 use Rattle.bpl_model.specs.Safe.{Safe}
@@ -13,7 +12,6 @@ use Rattle.command_words.specs.declared.command.Mode.TheVariants.{Check, Serve, 
 use Rattle.report_text.specs.Lines.{ended}
 use Rattle.check_report.specs.Called.{CallsCorrectTheSafe}
 use Rattle.proof_lines.specs.Program.{program_in}
-use Rattle.recheck_report.specs.Accepted.{accepted_line}
 use Rattle.smoke_report.specs.Unreached.{NamesUnreached}
 use Rattle.edit_server.specs.declared.status.Status.{Status}
 use Rattle.edit_server.specs.declared.status.Status.TheVariants.{Refused}
@@ -23,7 +21,7 @@ pub record IsProgram (text : List ℕ) (m : Module) : Type 0 where
   pub decls : List Decl
   pub spelled : SpellsProgram text decls
   pub faultless : fault_of (erased decls) ≡ None
-  pub told : carrier_fault decls ≡ None
+  pub told : fault_of (told_apart decls) ≡ None
   pub is : IsElaborated (erased decls) m
 
 abbrev pub AllAreSafe : Module → Type 0
@@ -35,7 +33,7 @@ IsCorrectSafe text written status = status ≢ Refused → (m : Module) × IsPro
 
 -- where `accepted` is written, the text before the proofs is a program, and each of its procedures is safe
 abbrev pub IsAcceptedSafe : List ℕ → List ℕ → Type 0
-IsAcceptedSafe text written = written ≡ ended accepted_line → (m : Module) × IsProgram (program_in text) m × AllAreSafe m
+IsAcceptedSafe text written = written ≡ ended (codes "accepted") → (m : Module) × IsProgram (program_in text) m × AllAreSafe m
 
 -- where the text isn't refused, it is a program, and what is written names points that no execution from an entry state reaches
 abbrev pub IsNamedUnreached : List ℕ → List ℕ → Status → Type 0
