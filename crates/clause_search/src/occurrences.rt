@@ -2,6 +2,7 @@
 ghost use Rattle.std.specs.Prelude.{◌≡◌, ◌<◌, [], ◌∷◌, ◌++◌, map, false, OnOk};
 ghost use Rattle.std.specs.List.{list_any};
 ghost use Rattle.std.specs.Vec.{vec_len, vec_capacity};
+ghost use Rattle.term_bank.specs.Hash.{hash_of};
 ghost use Rattle.clause_search.specs.Listed.{listed, AreListed, IsListed, rewrites_at};
 ghost use Rattle.clause_search.specs.Slotted.{AreEmptied};
 
@@ -63,26 +64,35 @@ fn empty_slots(slots: &mut Vec<Option<usize>>, links: &[Link])
     }
 }
 
-/// Whether the fact at this position is another than that of the number in the proof, and the term
-/// occurs in it.
-fn rewrites_at(number: u64, left: &Term, facts: &[Fact], position: usize) -> bool
+/// Whether the fact at this position is another than that of the number in the proof, and the term,
+/// whose hash this is, occurs in it.
+fn rewrites_at(number: u64, left: &Term, hash: u64, facts: &[Fact], position: usize) -> bool
+    requires { hash ≡ hash_of left.now }
     ensures { result ≡ rewrites_at number left.now facts.now position }
 {
     match facts.get(position) {
-        Some(fact) => rewrites(number, left, fact),
+        Some(fact) => rewrites(number, left, hash, fact),
         None => false,
     }
 }
 
 /// The same at a position that isn't the last one, at which it isn't so.
-fn rewrites_new(number: u64, left: &Term, facts: &[Fact], position: usize, last: usize) -> bool
-    requires { rewrites_at number left.now facts.now last ≡ false }
+fn rewrites_new(
+    number: u64,
+    left: &Term,
+    hash: u64,
+    facts: &[Fact],
+    position: usize,
+    last: usize,
+) -> bool
+    requires hash { hash ≡ hash_of left.now }
+    requires passed { rewrites_at number left.now facts.now last ≡ false }
     ensures { result ≡ rewrites_at number left.now facts.now position }
 {
     if position == last {
         return false;
     }
-    rewrites_at(number, left, facts, position)
+    rewrites_at(number, left, hash, facts, position)
 }
 
 impl Occurrences {
@@ -154,15 +164,23 @@ impl Occurrences {
     }
 
     /// Whether at one of the variable's positions there is a fact with another number in the proof in
-    /// which the term occurs.
-    pub fn in_another(&self, variable: usize, number: u64, left: &Term, facts: &[Fact]) -> bool
+    /// which the term, whose hash this is, occurs.
+    pub fn in_another(
+        &self,
+        variable: usize,
+        number: u64,
+        left: &Term,
+        hash: u64,
+        facts: &[Fact],
+    ) -> bool
+        requires { hash ≡ hash_of left.now }
         ensures { result ≡ list_any (rewrites_at number left.now facts.now) (listed self.now variable) }
     {
         let mut next = in_slot(&self.first, variable).copied();
         let mut last = facts.len();
         while let Some(place) = next {
             let link = self.links[place];
-            if rewrites_new(number, left, facts, link.position, last) {
+            if rewrites_new(number, left, hash, facts, link.position, last) {
                 return true;
             }
             last = link.position;

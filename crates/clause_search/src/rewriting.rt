@@ -7,6 +7,7 @@ ghost use Rattle.tableau_branch.specs.Applied.{Tries};
 ghost use Rattle.tableau_branch.specs.Branch.{oldest};
 ghost use Rattle.tableau_branch.specs.Replacing.{rewrites};
 ghost use Rattle.logic_rules.specs.Rewriting.{left_in_another, rewrite};
+ghost use Rattle.term_bank.specs.Hash.{hash_of};
 ghost use Rattle.clause_search.specs.Listed.{AreListed};
 
 use crate::occurrences::Occurrences;
@@ -19,8 +20,8 @@ use std::alloc::{AllocError, Global};
 use tableau_branch::branch::Branch;
 use tableau_branch::fact::Fact;
 use tableau_branch::found::At;
-use tableau_branch::oriented::left_side;
 use tableau_branch::played::Attempt;
+use term_bank::hash::hash;
 
 /// The first variable of the term, where it mentions one.
 fn first_variable(alloc: Global, term: &Term) -> Result<Option<u64>, AllocError>
@@ -34,12 +35,14 @@ fn first_variable(alloc: Global, term: &Term) -> Result<Option<u64>, AllocError>
     Ok(mentioned.variables.first().copied())
 }
 
-/// Whether the term occurs in one of the facts other than that of the number in the proof.
-fn rewrites_one(number: u64, left: &Term, facts: &[Fact]) -> bool
+/// Whether the term, whose hash this is, occurs in one of the facts other than that of the number in
+/// the proof.
+fn rewrites_one(number: u64, left: &Term, hash: u64, facts: &[Fact]) -> bool
+    requires { hash ≡ hash_of left.now }
     ensures { result ≡ list_any (rewrites number left.now) facts.now }
 {
     for other in facts {
-        if rewrites(number, left, other) {
+        if rewrites(number, left, hash, other) {
             return true;
         }
     }
@@ -57,9 +60,10 @@ fn occurs_in_another(
     requires { AreListed facts.now occurrences.now }
     ensures { IfOk result (λ b. b ≡ list_any (rewrites number left.now) facts.now) }
 {
+    let hash = hash(left);
     match first_variable(alloc, left)? {
-        Some(variable) => Ok(occurrences.in_another(variable as usize, number, left, facts)),
-        None => Ok(rewrites_one(number, left, facts)),
+        Some(variable) => Ok(occurrences.in_another(variable as usize, number, left, hash, facts)),
+        None => Ok(rewrites_one(number, left, hash, facts)),
     }
 }
 
@@ -74,7 +78,7 @@ fn left_in_another<'a>(
     requires { AreListed branch.now.facts occurrences.now }
     ensures { IfOk result (λ l. option_copied l ≡ left_in_another defs.now branch.now fact.now) }
 {
-    match left_side(alloc, &branch.vars, defs, fact.term())? {
+    match fact.left_side(alloc, &branch.vars, defs)? {
         Some(left) => {
             if occurs_in_another(alloc, occurrences, fact.number(), left, &branch.facts)? {
                 Ok(Some(left))

@@ -9,6 +9,7 @@ ghost use Rattle.tableau_branch.specs.Replacing.{rewrites};
 ghost use Rattle.logic_rules.specs.Rewriting.{left_in_another, rewritten_by, rewritten_within, rewritten_mark, rewrite};
 ghost use Rattle.tableau_branch.specs.View.{move_of};
 ghost use Rattle.proof_core.specs.Says.{says};
+ghost use Rattle.term_bank.specs.Hash.{hash_of};
 ghost use Rattle.logic_rules.specs.View.{bare, facts_rewritten, rest_rewritten};
 
 use logic_core::def::Def;
@@ -24,22 +25,24 @@ use tableau_branch::changing::{Ground, Replacing, change_each};
 use tableau_branch::fact::Fact;
 use tableau_branch::forms::replaced_form;
 use tableau_branch::found::At;
-use tableau_branch::oriented::left_side;
 use tableau_branch::played::{Attempt, Move};
+use term_bank::hash::hash;
 
-/// Whether this is another fact than that of the number, and the term occurs in it.
-pub fn rewrites(number: u64, left: &Term, other: &Fact) -> bool
+/// Whether this is another fact than that of the number, and the term, whose hash this is, occurs in it.
+pub fn rewrites(number: u64, left: &Term, hash: u64, other: &Fact) -> bool
+    requires { hash ≡ hash_of left.now }
     ensures { result ≡ rewrites number left.now other.now }
 {
-    number != other.number() && other.holds(left)
+    number != other.number() && other.holds(left, hash)
 }
 
 /// Whether the term occurs in another fact than that of the number.
 fn occurs_in_another(number: u64, left: &Term, facts: &[Fact]) -> bool
     ensures { result ≡ list_any (rewrites number left.now) facts.now }
 {
+    let hash = hash(left);
     for other in facts {
-        if rewrites(number, left, other) {
+        if rewrites(number, left, hash, other) {
             return true;
         }
     }
@@ -55,7 +58,7 @@ pub fn left_in_another<'a>(
 ) -> Result<Option<&'a Term>, AllocError>
     ensures { IfOk result (λ l. option_copied l ≡ left_in_another defs.now branch.now fact.now) }
 {
-    match left_side(alloc, &branch.vars, defs, fact.term())? {
+    match fact.left_side(alloc, &branch.vars, defs)? {
         Some(left) => {
             if occurs_in_another(fact.number(), left, &branch.facts) {
                 Ok(Some(left))

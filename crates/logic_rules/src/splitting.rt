@@ -23,7 +23,6 @@ use tableau_branch::build::{both, not};
 use tableau_branch::cases::case;
 use tableau_branch::fact::Fact;
 use tableau_branch::found::At;
-use tableau_branch::oriented::left_side;
 use tableau_branch::played::{Attempt, Ending, Move};
 
 /// The parts of an Or, of which there is one at least.
@@ -99,11 +98,11 @@ fn is_oriented(
     alloc: Global,
     defs: &[Def],
     branch: &Branch,
-    fact: &Term,
+    fact: &Fact,
 ) -> Result<bool, AllocError>
-    ensures { IfOk result (λ b. b ≡ is_some (left_side branch.now.vars defs.now fact.now)) }
+    ensures { IfOk result (λ b. b ≡ is_some (left_side branch.now.vars defs.now fact.now.term)) }
 {
-    Ok(left_side(alloc, &branch.vars, defs, fact)?.is_some())
+    Ok(fact.left_side(alloc, &branch.vars, defs)?.is_some())
 }
 
 /// The cases of a fact that isn't oriented.
@@ -115,12 +114,11 @@ pub fn cases_of(
 ) -> Result<Option<Sequence<Term>>, AllocError>
     ensures { IfOk result (λ o. o ≡ cases_of defs.now branch.now fact.now) }
 {
-    let formula = fact.term();
-    let oriented = is_oriented(alloc, defs, branch, formula)?;
+    let oriented = is_oriented(alloc, defs, branch, fact)?;
     if oriented {
         return Ok(None);
     }
-    let found = cases(alloc, defs, branch, formula)?;
+    let found = cases(alloc, defs, branch, fact.term())?;
     Ok(found)
 }
 

@@ -9,5 +9,6 @@ pub mod OneBranch
 pub mod Oriented
 pub mod Replacing
 pub mod Shapes
+pub mod Sides
 pub mod Variables
 pub mod View

@@ -2,6 +2,7 @@
 ghost use Rattle.std.specs.Prelude.{◌≡◌, ◌<◌, ◌≤◌, ◌+◌, ◌-◌, ◌^◌, IfOk, IfErr, Some, None, length, option_map, slice_get};
 ghost use Rattle.logic_core.specs.Gives.{GivesAs};
 ghost use Rattle.proof_core.specs.View.{step_of};
+ghost use Rattle.term_bank.specs.Hash.{hash_of};
 ghost use Rattle.tableau_branch.specs.Replacing.{picks_on, node_on, replaced_in, replaced_from, replaced_each};
 
 use crate::branch::Made;
@@ -14,6 +15,7 @@ use logic_core::sort::Sort;
 use logic_core::term::Term;
 use proof_core::proof::Step;
 use std::alloc::{AllocError, Global};
+use term_bank::hash::hash;
 
 /// Why a term may be replaced.
 #[derive(Clone, Copy)]
@@ -36,13 +38,14 @@ pub struct Replacing<'a> {
 }
 
 impl<'a> Replacing<'a> {
-    /// Whether the term is to be replaced in the fact.
-    fn picks(&self, fact: &Fact) -> bool
+    /// Whether the term, whose hash this is, is to be replaced in the fact.
+    fn picks(&self, hash: u64, fact: &Fact) -> bool
+        requires { hash ≡ hash_of self.now.left.now }
         ensures { result ≡ picks_on self.now.ground self.now.left.now fact.now }
     {
         match self.ground {
-            Ground::Fact(number) => number != fact.number() && fact.holds(self.left),
-            Ground::Equation(_) => fact.holds(self.left),
+            Ground::Fact(number) => number != fact.number() && fact.holds(self.left, hash),
+            Ground::Equation(_) => fact.holds(self.left, hash),
             Ground::Access => self.left.stands_in(fact.term()),
         }
     }
@@ -67,18 +70,20 @@ impl<'a> Replacing<'a> {
         }
     }
 
-    /// The node that changes the fact, and the fact's new normal form; None where the term isn't to be
-    /// replaced in it. Wide exactly where the normal form leaves 128 bits.
+    /// The node that changes the fact, and the fact's new normal form; None where the term, whose hash
+    /// this is, isn't to be replaced in it. Wide exactly where the normal form leaves 128 bits.
     fn replace_in(
         &self,
         alloc: Global,
         vars: &[Sort],
         defs: &[Def],
+        hash: u64,
         fact: &Fact,
     ) -> Result<Option<(Step, Term)>, NormalFault>
+        requires { hash ≡ hash_of self.now.left.now }
         ensures { GivesAs (λ o. option_map (λ p. (step_of p.0, p.1)) o) result (replaced_in defs.now self.now.ground self.now.left.now self.now.right.now vars.now fact.now) }
     {
-        if !self.picks(fact) {
+        if !self.picks(hash, fact) {
             return Ok(None);
         }
         let step = self.node(alloc, fact)?;
@@ -111,7 +116,7 @@ fn variables(made: &Made) -> &[Sort]
     &made.branch.vars
 }
 
-/// Where the term is to be replaced in the fact at `at`, it is. The place of the fact that comes next.
+/// Where the term, whose hash this is, is to be replaced in the fact at `at`, it is. The place of the fact that comes next.
 /// Wide exactly where the normal form leaves 128 bits.
 fn change_next(
     alloc: Global,
@@ -119,15 +124,17 @@ fn change_next(
     made: &mut Made,
     at: usize,
     replacing: &Replacing,
+    hash: u64,
 ) -> Result<usize, NormalFault>
-    requires { at < length made.old.branch.facts }
+    requires there { at < length made.old.branch.facts }
+    requires hash { hash ≡ hash_of replacing.now.left.now }
     ensures gives { IfOk result (λ k. replaced_from defs.now replacing.now.ground replacing.now.left.now replacing.now.right.now made.new k ≡ replaced_from defs.now replacing.now.ground replacing.now.left.now replacing.now.right.now made.old at) }
     ensures wide { IfErr result (λ e. e ≡ NormalFault.Wide → replaced_from defs.now replacing.now.ground replacing.now.left.now replacing.now.right.now made.old at ≡ None) }
     ensures within { IfOk result (λ k. k ≤ length made.new.branch.facts) }
     ensures nearer { IfOk result (λ k. length made.new.branch.facts - k < length made.old.branch.facts - at) }
 {
     let fact = fact_at(facts(made), at);
-    match replacing.replace_in(alloc, variables(made), defs, fact)? {
+    match replacing.replace_in(alloc, variables(made), defs, hash, fact)? {
         Some((step, term)) => {
             let changed = append_by(alloc, made, step, term)?;
             Ok(change_at(made, at, changed))
@@ -146,9 +153,10 @@ pub fn change_each(
 ) -> Result<(), NormalFault>
     ensures { GivesAs (λ _. made.new) result (replaced_each defs.now replacing.now.ground replacing.now.left.now replacing.now.right.now made.old) }
 {
+    let hash = hash(replacing.left);
     let mut at: usize = 0;
     while at < made.branch.facts.len() {
-        at = change_next(alloc, defs, made, at, replacing)?;
+        at = change_next(alloc, defs, made, at, replacing, hash)?;
     }
     Ok(())
 }

@@ -9,12 +9,16 @@ ghost use Rattle.logic_core.specs.Tree.{nodes};
 ghost use Rattle.logic_core.specs.Variables.{variables};
 ghost use Rattle.proof_core.specs.Close.{is_negation_of};
 ghost use Rattle.tableau_branch.specs.Branch.{is_there};
+ghost use Rattle.tableau_branch.specs.Oriented.{left_side};
 ghost use Rattle.term_bank.specs.Hash.{hash_of};
 
 use crate::applications::Applications;
+use crate::oriented::{Side, defined_side, left_side_by};
+use logic_core::def::Def;
 use logic_core::fault::NormalFault;
 use logic_core::mention::Mentioned;
 use logic_core::negation::negated;
+use logic_core::sort::Sort;
 use logic_core::term::{Node, Term};
 use std::alloc::{AllocError, Global};
 use std::marker::Model;
@@ -107,13 +111,15 @@ impl SizedTerm {
     }
 }
 
-/// A normal fact of a branch, and its number in the proof. Its normal Not, the variables that it
-/// mentions, and the hashes of its Reads and Calls are kept beside it.
+/// A normal fact of a branch, and its number in the proof. Its normal Not, the side that it defines
+/// where it is an equation, the variables that it mentions, and the hashes of its Reads and Calls are
+/// kept beside it.
 #[derive(Drop)]
 pub struct Fact {
     term: SizedTerm,
     number: u64,
     negation: Option<SizedTerm>,
+    side: Option<Side>,
     variables: Vec<u64>,
     applications: Vec<u64>,
 }
@@ -125,6 +131,7 @@ impl Model for Fact {
     ghost use Rattle.tableau_branch.specs.Applications.{applications as applications_of};
     ghost use Rattle.tableau_branch.specs.Branch.{Fact as fact};
     ghost use Rattle.tableau_branch.specs.Codes.{coded_fact};
+    ghost use Rattle.tableau_branch.specs.Sides.{defined_side};
 
     ghost Value = { fact };
 
@@ -132,7 +139,7 @@ impl Model for Fact {
 
     ghost view = { λ a. record { term = a.term; number = a.number } };
 
-    ghost invariant = { λ a. (a.negation ≡ negated a.term) × (a.variables.items ≡ variables_of a.term) × (a.applications.items ≡ applications_of a.term) };
+    ghost invariant = { λ a. (a.negation ≡ negated a.term) × (a.variables.items ≡ variables_of a.term) × (a.applications.items ≡ applications_of a.term) × (a.side ≡ defined_side a.term) };
 }
 
 impl Fact {
@@ -141,6 +148,7 @@ impl Fact {
         ensures { IfOk result (λ f. f ≡ record { term = term; number = number }) }
     {
         let negation = negation(alloc, &term)?;
+        let side = defined_side(&term);
         let variables = variables(alloc, &term)?;
         let mut applications = Applications::none(alloc);
         let hash = applications.add_term(&term)?;
@@ -148,6 +156,7 @@ impl Fact {
             term: SizedTerm::hashed(term, hash),
             number,
             negation,
+            side,
             variables,
             applications: applications.hashes,
         })
@@ -195,24 +204,39 @@ impl Fact {
         &self.variables
     }
 
-    /// Whether the term is a variable that the formula doesn't mention, or a Read or a Call of
-    /// another hash than those in it.
-    fn lacks(&self, term: &Term) -> bool
+    /// The left side of the fact, by what it says that it is equal to. None exactly where the fact
+    /// isn't oriented.
+    pub fn left_side(
+        &self,
+        alloc: Global,
+        vars: &[Sort],
+        defs: &[Def],
+    ) -> Result<Option<&Term>, AllocError>
+        ensures { IfOk result (λ l. option_copied l ≡ left_side vars.now defs.now self.now.term) }
+    {
+        left_side_by(alloc, vars, defs, self.term.term(), self.side)
+    }
+
+    /// Whether the term, whose hash this is, is a variable that the formula doesn't mention, or a Read
+    /// or a Call of another hash than those in it.
+    fn lacks(&self, term: &Term, hash: u64) -> bool
+        requires { hash ≡ hash_of term.now }
         ensures { IsTrue result → occurs term.now self.now.term ≡ false }
     {
         match &term.node {
             Node::Free(v) => !self.variables.contains(v),
-            Node::Read(_, _) => !self.applications.contains(&hash(term)),
-            Node::Call(_, _) => !self.applications.contains(&hash(term)),
+            Node::Read(_, _) => !self.applications.contains(&hash),
+            Node::Call(_, _) => !self.applications.contains(&hash),
             _ => false,
         }
     }
 
-    /// Whether the term occurs in the formula.
-    pub fn holds(&self, term: &Term) -> bool
+    /// Whether the term, whose hash this is, occurs in the formula.
+    pub fn holds(&self, term: &Term, hash: u64) -> bool
+        requires { hash ≡ hash_of term.now }
         ensures { result ≡ occurs term.now self.now.term }
     {
-        if self.lacks(term) {
+        if self.lacks(term, hash) {
             return false;
         }
         term.occurs_in(self.term())
@@ -235,6 +259,7 @@ impl Fact {
         let term = self.term.copy(alloc)?;
         let number = self.number;
         let negation = copy_some(alloc, &self.negation)?;
+        let side = self.side;
         let mut variables = Vec::new(alloc);
         variables.extend_from_slice(&self.variables)?;
         let mut applications = Vec::new(alloc);
@@ -243,6 +268,7 @@ impl Fact {
             term,
             number,
             negation,
+            side,
             variables,
             applications,
         })

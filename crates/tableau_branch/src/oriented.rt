@@ -5,12 +5,22 @@ ghost use Rattle.std.specs.Option.{option_copied};
 ghost use Rattle.logic_core.specs.Subterm.{has_quantifier, has_any, has_part, is_quantifier};
 ghost use Rattle.logic_core.specs.View.{trees_of, parts_of};
 ghost use Rattle.logic_core.specs.Combine.{sum_of};
+ghost use Rattle.tableau_branch.specs.Sides.{side_between, defined_side};
 ghost use Rattle.tableau_branch.specs.Oriented.{is_variable, is_application, is_one, is_minus_one, parts_with, greater_number, solvable_among, simple_lead, linear_left, defines, defined, greater_side, equation_left, left_side};
 
 use logic_core::def::Def;
 use logic_core::sort::{Sort, SortKind};
 use logic_core::term::{Node, Term};
 use std::alloc::{AllocError, Global};
+
+/// A side of an equation.
+#[derive(Clone, Copy)]
+pub enum Side {
+    /// The left one.
+    First,
+    /// The right one.
+    Second,
+}
 
 /// Whether the term is a free variable.
 fn is_variable(term: &Term) -> bool
@@ -192,15 +202,37 @@ fn defines(variable: &Term, term: &Term) -> bool
 }
 
 /// The side of an equation that is a variable and is defined by the other side.
-fn defined<'a>(a: &'a Term, b: &'a Term) -> Option<&'a Term>
-    ensures { option_copied result ≡ defined a.now b.now }
+fn side_between(a: &Term, b: &Term) -> Option<Side>
+    ensures { result ≡ side_between a.now b.now }
 {
     if defines(b, a) {
-        Some(b)
+        Some(Side::Second)
     } else if defines(a, b) {
-        Some(a)
+        Some(Side::First)
     } else {
         None
+    }
+}
+
+/// The side that a fact defines, where it is an equation.
+pub fn defined_side(fact: &Term) -> Option<Side>
+    ensures { result ≡ defined_side fact.now }
+{
+    match &fact.node {
+        Node::Eq(a, b) => side_between(a, b),
+        _ => None,
+    }
+}
+
+/// The side of an equation that is defined by the other side, where this one is.
+fn defined<'a>(a: &'a Term, b: &'a Term, side: Option<Side>) -> Option<&'a Term>
+    requires { side ≡ side_between a.now b.now }
+    ensures { option_copied result ≡ defined a.now b.now }
+{
+    match side {
+        Some(Side::First) => Some(a),
+        Some(Side::Second) => Some(b),
+        None => None,
     }
 }
 
@@ -225,37 +257,41 @@ fn greater_side<'a>(sort: Option<Sort>, a: &'a Term, b: &'a Term) -> Option<&'a 
     }
 }
 
-/// The left side of an equation.
+/// The left side of an equation, of which this side is defined by the other.
 fn equation_left<'a>(
     alloc: Global,
     vars: &[Sort],
     defs: &[Def],
     a: &'a Term,
     b: &'a Term,
+    side: Option<Side>,
 ) -> Result<Option<&'a Term>, AllocError>
+    requires { side ≡ side_between a.now b.now }
     ensures { IfOk result (λ l. option_copied l ≡ equation_left vars.now defs.now a.now b.now) }
 {
     if b.is_zero() {
         return Ok(linear_left(a));
     }
-    match defined(a, b) {
+    match defined(a, b, side) {
         Some(variable) => Ok(Some(variable)),
         None => Ok(greater_side(a.sort_over(alloc, vars, defs, &[])?, a, b)),
     }
 }
 
-/// The left side of a fact, by what the fact says that it is equal to. None exactly where the fact
-/// isn't oriented.
-pub fn left_side<'a>(
+/// The left side of a fact that defines this side, by what the fact says that it is equal to. None
+/// exactly where the fact isn't oriented.
+pub fn left_side_by<'a>(
     alloc: Global,
     vars: &[Sort],
     defs: &[Def],
     fact: &'a Term,
+    side: Option<Side>,
 ) -> Result<Option<&'a Term>, AllocError>
+    requires { side ≡ defined_side fact.now }
     ensures { IfOk result (λ l. option_copied l ≡ left_side vars.now defs.now fact.now) }
 {
     match &fact.node {
-        Node::Eq(a, b) => equation_left(alloc, vars, defs, a, b),
+        Node::Eq(a, b) => equation_left(alloc, vars, defs, a, b, side),
         Node::Free(_) => Ok(Some(fact)),
         Node::Not(t) => {
             if is_variable(t) {

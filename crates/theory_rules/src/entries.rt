@@ -16,7 +16,6 @@ use std::alloc::{AllocError, Global};
 use std::marker::Model;
 use tableau_branch::branch::Branch;
 use tableau_branch::fact::Fact;
-use tableau_branch::oriented::left_side;
 
 /// A linear fact of this number: `Le(0, form)`, or `Eq(form, 0)` counted as `Le(0, form)` or, where it
 /// is turned, as `Le(0, -form)`.
@@ -191,7 +190,7 @@ pub fn push_entries(
         })?;
         return Ok(());
     }
-    if left_side(alloc, &branch.vars, defs, fact.term())?.is_some() {
+    if fact.left_side(alloc, &branch.vars, defs)?.is_some() {
         return Ok(());
     }
     push_both(alloc, fact.number(), form, entries)

@@ -41,5 +41,5 @@ loop-next-preserved c =
       passed = other;
     }
 
-pub rewrites_new-requires : goal.rewrites_new-requires
-rewrites_new-requires c = c.loop-next.invariant.passed
+pub rewrites_new-requires-clause-passed : goal.rewrites_new-requires-clause-passed
+rewrites_new-requires-clause-passed c = c.loop-next.invariant.passed

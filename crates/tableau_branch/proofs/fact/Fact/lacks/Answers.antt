@@ -13,10 +13,10 @@ returns-in-Free c =
 
 pub returns-in-Read : goal.returns-in-Read
 returns-in-Read c =
-    lacking_read c.contains-in-Read.result c.hash.result _ _ c.args.term.now c.args.self.now.term c.deref-in-Read.result.now c.contains-in-Read.ensures.value
-    (c.deref-in-Read.ensures.value ∙ (c.self.invariant.2 ∙ ap (λ f. applications f.term) c.self.view_is)) c.hash.ensures (sym c.term.view_is ∙ ap tree_of c.in-Read.is)
+    lacking_read c.contains-in-Read.result c.args.hash _ _ c.args.term.now c.args.self.now.term c.deref-in-Read.result.now c.contains-in-Read.ensures.value
+    (c.deref-in-Read.ensures.value ∙ (c.self.invariant.2 ∙ ap (λ f. applications f.term) c.self.view_is)) c.requires (sym c.term.view_is ∙ ap tree_of c.in-Read.is)
 
 pub returns-in-Call : goal.returns-in-Call
 returns-in-Call c =
-    lacking_call c.contains-in-Call.result c.hash-in-Call.result _ _ c.args.term.now c.args.self.now.term c.deref-in-Call.result.now c.contains-in-Call.ensures.value
-    (c.deref-in-Call.ensures.value ∙ (c.self.invariant.2 ∙ ap (λ f. applications f.term) c.self.view_is)) c.hash-in-Call.ensures (sym c.term.view_is ∙ ap tree_of c.in-Call.is)
+    lacking_call c.contains-in-Call.result c.args.hash _ _ c.args.term.now c.args.self.now.term c.deref-in-Call.result.now c.contains-in-Call.ensures.value
+    (c.deref-in-Call.ensures.value ∙ (c.self.invariant.2 ∙ ap (λ f. applications f.term) c.self.view_is)) c.requires (sym c.term.view_is ∙ ap tree_of c.in-Call.is)
