@@ -2,14 +2,9 @@
 use Rattle.std.proofs.Common.{◌≡◌, refl, ◌∙◌, ap, Bool, true, false, Option, Some, None, if◌then◌else◌}
 use Rattle.logic_core.specs.Tree.{Tree}
 use Rattle.tableau_branch.specs.Oriented.{defines, defined}
-use Rattle.tableau_branch.specs.Sides.{side_between}
+use Rattle.tableau_branch.specs.Sides.{at_side, side_between}
 use Rattle.tableau_branch.specs.declared.oriented.Side.{Side}
 use Rattle.tableau_branch.specs.declared.oriented.Side.TheVariants.{First, Second}
-
-abbrev pub at_side : Tree → Tree → Option Side → Option Tree
-at_side a b None = None
-at_side a b (Some First) = Some a
-at_side a b (Some Second) = Some b
 
 pub is_defined : (a b : Tree) (o : Option Side) → o ≡ side_between a b → at_side a b o ≡ defined a b
 is_defined a b o e = ap (at_side a b) e ∙ by (defines b a) (defines a b)

@@ -5,7 +5,7 @@ ghost use Rattle.std.specs.Option.{option_copied};
 ghost use Rattle.logic_core.specs.Subterm.{has_quantifier, has_any, has_part, is_quantifier};
 ghost use Rattle.logic_core.specs.View.{trees_of, parts_of};
 ghost use Rattle.logic_core.specs.Combine.{sum_of};
-ghost use Rattle.tableau_branch.specs.Sides.{side_between, defined_side};
+ghost use Rattle.tableau_branch.specs.Sides.{at_side, side_between, defined_side};
 ghost use Rattle.tableau_branch.specs.Oriented.{is_variable, is_application, is_one, is_minus_one, parts_with, greater_number, solvable_among, simple_lead, linear_left, defines, defined, greater_side, equation_left, left_side};
 
 use logic_core::def::Def;
@@ -224,14 +224,23 @@ pub fn defined_side(fact: &Term) -> Option<Side>
     }
 }
 
+/// This side of an equation.
+fn at_side<'a>(a: &'a Term, b: &'a Term, side: Side) -> &'a Term
+    ensures { Some result.now ≡ at_side a.now b.now (Some side) }
+{
+    match side {
+        Side::First => a,
+        Side::Second => b,
+    }
+}
+
 /// The side of an equation that is defined by the other side, where this one is.
 fn defined<'a>(a: &'a Term, b: &'a Term, side: Option<Side>) -> Option<&'a Term>
     requires { side ≡ side_between a.now b.now }
     ensures { option_copied result ≡ defined a.now b.now }
 {
     match side {
-        Some(Side::First) => Some(a),
-        Some(Side::Second) => Some(b),
+        Some(one) => Some(at_side(a, b, one)),
         None => None,
     }
 }
