@@ -118,7 +118,8 @@ pub fn cases_of(
     if oriented {
         return Ok(None);
     }
-    let found = cases(alloc, defs, branch, fact.term())?;
+    let formula = fact.term();
+    let found = cases(alloc, defs, branch, formula)?;
     Ok(found)
 }
 

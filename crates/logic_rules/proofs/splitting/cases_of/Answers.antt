@@ -1,5 +1,5 @@
 use Rattle.std.proofs.Common.{◌≡◌, ◌∙◌, subst, sym, Option, List, ◌∷◌}
-use Rattle.std.specs.Prelude.{option_map, is_some}
+use Rattle.std.specs.Prelude.{option_map}
 use Rattle.logic_core.specs.Tree.{Tree}
 use Rattle.proof_core.specs.Split.{cases}
 use Rattle.tableau_branch.specs.Branch.{context_of}
@@ -12,15 +12,13 @@ returns-then-oriented c =
     let d = c.args.defs.now in
     let b = c.args.branch.now in
     let t = c.args.fact.now.term in
-    let is = subst (λ u. c.in_ok-oriented.oriented ≡ is_some (left_side b.vars d u)) c.term-formula.ensures c.in_ok-oriented.ensures in
-    sym (of_oriented (left_side b.vars d t) (option_map (λ p. p.0 ∷ p.1) (cases d (context_of b) t)) c.in_ok-oriented.oriented is c.if-oriented.true)
+    sym (of_oriented (left_side b.vars d t) (option_map (λ p. p.0 ∷ p.1) (cases d (context_of b) t)) c.in_ok-oriented.oriented c.in_ok-oriented.ensures c.if-oriented.true)
 
 pub returns : goal.returns
 returns c =
     let d = c.args.defs.now in
     let b = c.args.branch.now in
     let t = c.args.fact.now.term in
-    let is = subst (λ u. c.in_ok-oriented.oriented ≡ is_some (left_side b.vars d u)) c.term-formula.ensures c.in_ok-oriented.ensures in
     let whole : Option (List Tree) = option_map (λ p. p.0 ∷ p.1) (cases d (context_of b) t) in
     let found = subst (λ u. c.in_ok-found.found ≡ option_map (λ p. p.0 ∷ p.1) (cases d (context_of b) u)) c.term-formula.ensures c.in_ok-found.ensures in
-    found ∙ sym (of_unoriented (left_side b.vars d t) whole c.in_ok-oriented.oriented is c.if-oriented.false)
+    found ∙ sym (of_unoriented (left_side b.vars d t) whole c.in_ok-oriented.oriented c.in_ok-oriented.ensures c.if-oriented.false)
