@@ -3,3 +3,4 @@ pub mod Growing
 pub mod Held
 pub mod Deciding
 pub mod Ending
+pub mod Knowing

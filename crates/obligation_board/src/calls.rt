@@ -2,12 +2,12 @@
 ghost use Rattle.std.specs.Prelude.{◌≡◌, ℕ, map, IfOk, IfErr, OnErr};
 ghost use Rattle.std.specs.Arc.{arc_value};
 ghost use Rattle.std.specs.Option.{option_map};
-ghost use Rattle.turn_lock.specs.Lock.{above, number};
+ghost use Rattle.turn_lock.specs.Lock.{above, number, splits};
 ghost use Rattle.board_core.specs.Board.{open_keys, claim, deposit, give_back, look, gather, close, no_memory, deposited, given_back, gathered, closed_now, memory};
 ghost use Rattle.board_core.specs.Step.{without};
 ghost use Rattle.board_core.specs.History.{after_reply};
 ghost use Rattle.board_core.specs.Handed.{ticket, open_answer, claim_answer, look_answer};
-ghost use Rattle.obligation_board.specs.Calls.{Holds, IsCall, claims_of};
+ghost use Rattle.obligation_board.specs.Calls.{Holds, IsCall, Knows, claims_of};
 ghost use Rattle.obligation_board.specs.Passes.{IsPassOf, StaysPassOf};
 
 use crate::shared::{Pass, Receipt, SharedBoard};
@@ -36,6 +36,8 @@ where
         requires opener { number opener.old ≡ 0 }
         ensures pass { StaysPassOf self.now opener.old opener.new }
         ensures above { above opener.new ≡ above opener.old }
+        ensures splits { splits opener.new ≡ splits opener.old }
+        ensures knows { Knows (λ a. A.Q.key (A.asked a)) A.right opener.new }
         ensures call { IfOk result (λ r. IsCall (λ a. A.Q.key (A.asked a)) A.right opener.old opener.new (open_keys (map (λ q. A.Q.key (arc_value q)) items.items)) r.place (open_answer r.reply)) }
         ensures memory { IfErr result (λ _. (place : ℕ) × IsCall (λ a. A.Q.key (A.asked a)) A.right opener.old opener.new no_memory place memory) }
         ensures claims { claims_of opener.new ≡ claims_of opener.old }
@@ -45,6 +47,8 @@ where
         match posted.board.open(items) {
             Ok(reply) => {
                 let place = self.finish::<Brand>(opener, turn);
+                self.questions.ring();
+                self.changes.ring();
                 Ok(Receipt { place, reply })
             }
             Err(error) => {
@@ -66,6 +70,8 @@ where
         requires { IsPassOf self.now pass.old }
         ensures pass { StaysPassOf self.now pass.old pass.new }
         ensures above { above pass.new ≡ above pass.old }
+        ensures splits { splits pass.new ≡ splits pass.old }
+        ensures knows { Knows (λ a. A.Q.key (A.asked a)) A.right pass.new }
         ensures call { IfOk result (λ r. IsCall (λ a. A.Q.key (A.asked a)) A.right pass.old pass.new claim r.place (claim_answer A.Q.key r.reply)) }
         ensures memory { IfErr result (λ _. (place : ℕ) × IsCall (λ a. A.Q.key (A.asked a)) A.right pass.old pass.new no_memory place memory) }
         ensures claims { IfOk result (λ r. claims_of pass.new ≡ after_reply (claims_of pass.old) (claim_answer A.Q.key r.reply)) }
@@ -99,6 +105,8 @@ where
         requires key { A.Q.key (A.asked (arc_value answer)) ≡ (ticket A.Q.key claim).key }
         ensures pass { StaysPassOf self.now pass.old pass.new }
         ensures above { above pass.new ≡ above pass.old }
+        ensures splits { splits pass.new ≡ splits pass.old }
+        ensures knows { Knows (λ a. A.Q.key (A.asked a)) A.right pass.new }
         ensures call { IsCall (λ a. A.Q.key (A.asked a)) A.right pass.old pass.new (deposit (ticket A.Q.key claim) (arc_value answer)) result.place (deposited result.reply) }
         ensures claims { claims_of pass.new ≡ without (ticket A.Q.key claim).number (claims_of pass.old) }
     {
@@ -110,6 +118,7 @@ where
         let posted = turn.state();
         let reply = posted.board.deposit(claim, answer);
         let place = self.finish_deposit::<Brand>(pass, turn, &claimed, &answered, reply);
+        self.changes.ring();
         Receipt { place, reply }
     }
 
@@ -119,6 +128,8 @@ where
         requires held { Holds pass.old (ticket A.Q.key claim) }
         ensures pass { StaysPassOf self.now pass.old pass.new }
         ensures above { above pass.new ≡ above pass.old }
+        ensures splits { splits pass.new ≡ splits pass.old }
+        ensures knows { Knows (λ a. A.Q.key (A.asked a)) A.right pass.new }
         ensures call { IsCall (λ a. A.Q.key (A.asked a)) A.right pass.old pass.new (give_back (ticket A.Q.key claim)) result.place given_back }
         ensures claims { claims_of pass.new ≡ without (ticket A.Q.key claim).number (claims_of pass.old) }
     {
@@ -127,6 +138,8 @@ where
         let posted = turn.state();
         posted.board.give_back(claim);
         let place = self.finish_give_back::<Brand>(pass, turn, &claimed);
+        self.questions.ring();
+        self.changes.ring();
         Receipt { place, reply: () }
     }
 
@@ -136,6 +149,8 @@ where
         requires { IsPassOf self.now pass.old }
         ensures pass { StaysPassOf self.now pass.old pass.new }
         ensures above { above pass.new ≡ above pass.old }
+        ensures splits { splits pass.new ≡ splits pass.old }
+        ensures knows { Knows (λ a. A.Q.key (A.asked a)) A.right pass.new }
         ensures call { IsCall (λ a. A.Q.key (A.asked a)) A.right pass.old pass.new look result.place (look_answer result.reply) }
         ensures claims { claims_of pass.new ≡ claims_of pass.old }
     {
@@ -156,6 +171,8 @@ where
         requires { IsPassOf self.now pass.old }
         ensures pass { StaysPassOf self.now pass.old pass.new }
         ensures above { above pass.new ≡ above pass.old }
+        ensures splits { splits pass.new ≡ splits pass.old }
+        ensures knows { Knows (λ a. A.Q.key (A.asked a)) A.right pass.new }
         ensures call { IfOk result (λ r. IsCall (λ a. A.Q.key (A.asked a)) A.right pass.old pass.new gather r.place (gathered (map (option_map arc_value) r.reply.items))) }
         ensures memory { IfErr result (λ _. (place : ℕ) × IsCall (λ a. A.Q.key (A.asked a)) A.right pass.old pass.new no_memory place memory) }
         ensures claims { claims_of pass.new ≡ claims_of pass.old }
@@ -181,6 +198,8 @@ where
         requires opener { number opener.old ≡ 0 }
         ensures pass { StaysPassOf self.now opener.old opener.new }
         ensures above { above opener.new ≡ above opener.old }
+        ensures splits { splits opener.new ≡ splits opener.old }
+        ensures knows { Knows (λ a. A.Q.key (A.asked a)) A.right opener.new }
         ensures call { IsCall (λ a. A.Q.key (A.asked a)) A.right opener.old opener.new close result.place closed_now }
         ensures claims { claims_of opener.new ≡ claims_of opener.old }
     {
@@ -188,6 +207,8 @@ where
         let posted = turn.state();
         posted.board.close();
         let place = self.finish::<Brand>(opener, turn);
+        self.questions.ring();
+        self.changes.ring();
         Receipt { place, reply: () }
     }
 }

@@ -1,11 +1,11 @@
 //! How turns end.
 ghost use Rattle.std.specs.Prelude.{◌≡◌, ℕ, Some};
 ghost use Rattle.std.specs.Arc.{arc_value};
-ghost use Rattle.turn_lock.specs.Lock.{IsHolding, above, lock_id};
+ghost use Rattle.turn_lock.specs.Lock.{IsHolding, above, lock_id, splits};
 ghost use Rattle.board_core.specs.Board.{Event, Reply, deposit, give_back, no_memory, deposited, given_back, memory};
 ghost use Rattle.board_core.specs.Step.{Steps};
 ghost use Rattle.board_core.specs.Handed.{ticket};
-ghost use Rattle.obligation_board.specs.Calls.{Holds, IsCall, MayCall};
+ghost use Rattle.obligation_board.specs.Calls.{Holds, IsCall, Knows, MayCall};
 ghost use Rattle.obligation_board.specs.Passes.{StaysPassOf};
 
 use crate::posted::Posted;
@@ -29,6 +29,8 @@ where
         requires call { (e : Event A) × (r : Reply A) × (W.what ≡ Some (record { event = e; reply = r })) × Steps turn.was.value.board e turn.state.board r × MayCall (λ a. A.Q.key (A.asked a)) A.right pass.old e }
         ensures pass { StaysPassOf self.now pass.old pass.new }
         ensures above { above pass.new ≡ above pass.old }
+        ensures splits { splits pass.new ≡ splits pass.old }
+        ensures knows { Knows (λ a. A.Q.key (A.asked a)) A.right pass.new }
         ensures call { (e : Event A) (r : Reply A) → W.what ≡ Some (record { event = e; reply = r }) → IsCall (λ a. A.Q.key (A.asked a)) A.right pass.old pass.new e result r }
     {
         self.lock.leave_as::<W>(pass, turn)
@@ -40,6 +42,8 @@ where
         requires same { turn.state.board ≡ turn.was.value.board }
         ensures pass { StaysPassOf self.now pass.old pass.new }
         ensures above { above pass.new ≡ above pass.old }
+        ensures splits { splits pass.new ≡ splits pass.old }
+        ensures knows { Knows (λ a. A.Q.key (A.asked a)) A.right pass.new }
         ensures call { (place : ℕ) × IsCall (λ a. A.Q.key (A.asked a)) A.right pass.old pass.new no_memory place memory }
     {
         self.finish::<Brand>(pass, turn);
@@ -61,6 +65,8 @@ where
         requires answer { (A.Q.key (A.asked (arc_value answer.now.value)) ≡ (ticket A.Q.key claim.now.value).key) × A.right (arc_value answer.now.value) }
         ensures pass { StaysPassOf self.now pass.old pass.new }
         ensures above { above pass.new ≡ above pass.old }
+        ensures splits { splits pass.new ≡ splits pass.old }
+        ensures knows { Knows (λ a. A.Q.key (A.asked a)) A.right pass.new }
         ensures call { IsCall (λ a. A.Q.key (A.asked a)) A.right pass.old pass.new (deposit (ticket A.Q.key claim.now.value) (arc_value answer.now.value)) result (deposited present) }
     {
         self.finish::<W>(pass, turn)
@@ -79,6 +85,8 @@ where
         requires held { Holds pass.old (ticket A.Q.key claim.now.value) }
         ensures pass { StaysPassOf self.now pass.old pass.new }
         ensures above { above pass.new ≡ above pass.old }
+        ensures splits { splits pass.new ≡ splits pass.old }
+        ensures knows { Knows (λ a. A.Q.key (A.asked a)) A.right pass.new }
         ensures call { IsCall (λ a. A.Q.key (A.asked a)) A.right pass.old pass.new (give_back (ticket A.Q.key claim.now.value)) result given_back }
     {
         self.finish::<W>(pass, turn)
