@@ -11,6 +11,7 @@ mod worker;
 
 pub use gate::{Gate, OpenGate};
 pub use prover::Prover;
+pub use round::work_once;
 pub use worker::{Ended, Worked, work};
 
 #[cfg(test)]

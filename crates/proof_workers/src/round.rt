@@ -1,13 +1,14 @@
 //! One claim, and what becomes of it.
-ghost use Rattle.std.specs.Prelude.{◌≡◌, ◌++◌, ◌+◌, ◌<◌, ◌^◌, List, length, IfOk};
+ghost use Rattle.std.specs.Prelude.{◌≡◌, ◌++◌, ◌+◌, ◌<◌, ◌^◌, List, length, IfOk, IfErr};
 ghost use Rattle.std.specs.Arc.{arc_value};
 ghost use Rattle.turn_lock.specs.History.{StartsWith};
-ghost use Rattle.turn_lock.specs.Lock.{above, mine, number, seen};
+ghost use Rattle.turn_lock.specs.Lock.{above, mine, number, seen, splits};
 ghost use Rattle.board_core.specs.Board.{Call};
-ghost use Rattle.obligation_board.specs.Calls.{Holds};
+ghost use Rattle.obligation_board.specs.Calls.{Holds, Knows, SawClose};
 ghost use Rattle.obligation_board.specs.Passes.{IsPassOf, StaysPassOf};
 ghost use Rattle.board_core.specs.Handed.{ticket};
 ghost use Rattle.proof_workers.specs.Rounds.{made_by, IsTry, IsSettled};
+ghost use Rattle.proof_workers.specs.declared.worker.Ended.TheVariants.{Closed};
 
 use crate::gate::Gate;
 use crate::prover::Prover;
@@ -17,7 +18,6 @@ use bv_base::Answered;
 use obligation_board::{Pass, Receipt, SharedBoard};
 use std::alloc::{AllocError, Global};
 use std::sync::{Arc, Wait};
-use std::thread;
 
 // The prover's answer, to be shared.
 fn answer<P: Prover>(
@@ -54,8 +54,10 @@ where
     requires held { Holds pass.old (ticket P.A.Q.key claim) }
     ensures pass { StaysPassOf board.now pass.old pass.new }
     ensures above { above pass.new ≡ above pass.old }
+    ensures splits { splits pass.new ≡ splits pass.old }
     ensures seen { StartsWith (seen pass.new) (seen pass.old) }
     ensures calls { (calls : List (Call P.A)) × (mine pass.new ≡ mine pass.old ++ made_by (number pass.old) calls) × IsSettled P.A.Q.key (P.gives prover.now) (ticket P.A.Q.key claim) result calls }
+    ensures knows { Knows (λ a. P.A.Q.key (P.A.asked a)) P.A.right pass.new }
     ensures room { IfOk result (λ _. length (mine pass.old) < 2 ^ 64) }
 {
     gate.begin(claim.number());
@@ -71,8 +73,9 @@ where
     }
 }
 
-// Claims a question and settles the claim: how many answers were deposited, or why the worker ends.
-pub(crate) fn round<P: Prover, G: Gate, R: Wait>(
+/// Claims a question and settles the claim: 1 where its answer was deposited, 0 where there was no question to
+/// claim, or why the worker ends. It doesn't wait for a question.
+pub fn work_once<P: Prover, G: Gate, R: Wait>(
     rt: &R,
     alloc: Global,
     board: &SharedBoard<P::A>,
@@ -86,8 +89,11 @@ where
     requires { IsPassOf board.now pass.old }
     ensures pass { StaysPassOf board.now pass.old pass.new }
     ensures above { above pass.new ≡ above pass.old }
+    ensures splits { splits pass.new ≡ splits pass.old }
     ensures seen { StartsWith (seen pass.new) (seen pass.old) }
     ensures calls { (calls : List (Call P.A)) × (mine pass.new ≡ mine pass.old ++ made_by (number pass.old) calls) × IsTry P.A.Q.key (P.gives prover.now) result calls }
+    ensures knows { Knows (λ a. P.A.Q.key (P.A.asked a)) P.A.right pass.new }
+    ensures closed { IfErr result (λ ended. ended ≡ Closed → SawClose pass.new) }
     ensures room { IfOk result (λ deposits. 0 < deposits → length (mine pass.old) + deposits < 2 ^ 64) }
 {
     match board.claim(rt, pass) {
@@ -95,10 +101,7 @@ where
             let Receipt { place: _, reply } = receipt;
             match reply {
                 Claimed::Claim(claim) => settle(rt, alloc, board, pass, prover, gate, claim),
-                Claimed::Empty => {
-                    thread::yield_now();
-                    Ok(0)
-                }
+                Claimed::Empty => Ok(0),
                 Claimed::Closed => Err(Ended::Closed),
             }
         }

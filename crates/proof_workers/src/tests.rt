@@ -126,12 +126,13 @@ fn close_when_done<R: Wait>(rt: &R, board: &SharedBoard<Found>, mut opener: Pass
     requires { IsPassOf board.now opener × (number opener ≡ 0) }
 {
     for _ in rt.forever() {
+        let heard = board.changes_heard();
         let looked = board.look(rt, &mut opener);
         if looked.reply.pending == 0 {
             board.close(rt, &mut opener);
             return looked.reply.done;
         }
-        thread::yield_now();
+        board.wait_for_changes(rt, heard);
     }
     unreachable!()
 }

@@ -1,14 +1,16 @@
 //! The rounds of a worker.
 ghost use Rattle.std.specs.Prelude.{◌≡◌, ◌++◌, List};
 ghost use Rattle.turn_lock.specs.History.{StartsWith};
-ghost use Rattle.turn_lock.specs.Lock.{above, mine, number, seen};
+ghost use Rattle.turn_lock.specs.Lock.{above, mine, number, seen, splits};
 ghost use Rattle.board_core.specs.Board.{Call};
+ghost use Rattle.obligation_board.specs.Calls.{SawClose};
 ghost use Rattle.obligation_board.specs.Passes.{IsPassOf, StaysPassOf};
 ghost use Rattle.proof_workers.specs.Rounds.{made_by, IsWork};
+ghost use Rattle.proof_workers.specs.declared.worker.Ended.TheVariants.{Closed};
 
 use crate::gate::Gate;
 use crate::prover::Prover;
-use crate::round::round;
+use crate::round::work_once;
 use bv_base::Answered;
 use obligation_board::{Pass, SharedBoard};
 use std::alloc::Global;
@@ -31,8 +33,8 @@ pub struct Worked {
 }
 
 /// Claims a question, calls the gate, answers the question and deposits the answer, again and again,
-/// until a claim is answered Closed or there is no memory. Where there is no question now it tries
-/// again. The search runs outside every turn.
+/// until a claim is answered Closed or there is no memory. Where there is no question now it sleeps until
+/// there may be one, and tries again. The search runs outside every turn.
 pub fn work<P: Prover, G: Gate, R: Wait>(
     rt: &R,
     alloc: Global,
@@ -47,13 +49,22 @@ where
     requires { IsPassOf board.now pass.old }
     ensures pass { StaysPassOf board.now pass.old pass.new }
     ensures above { above pass.new ≡ above pass.old }
+    ensures splits { splits pass.new ≡ splits pass.old }
     ensures seen { StartsWith (seen pass.new) (seen pass.old) }
     ensures calls { (calls : List (Call P.A)) × (mine pass.new ≡ mine pass.old ++ made_by (number pass.old) calls) × IsWork P.A.Q.key (P.gives prover.now) result.ended result.deposits calls }
+    ensures closed { result.ended ≡ Closed → SawClose pass.new }
 {
     let mut deposits = 0;
     for _ in rt.forever() {
-        match round(rt, alloc, board, pass, prover, gate) {
-            Ok(made) => deposits += made,
+        // Read before the claim, so that no question is slept through that comes after it.
+        let heard = board.questions_heard();
+        match work_once(rt, alloc, board, pass, prover, gate) {
+            Ok(made) => {
+                if made == 0 {
+                    board.wait_for_questions(rt, heard);
+                }
+                deposits += made;
+            }
             Err(ended) => return Worked { deposits, ended },
         }
     }

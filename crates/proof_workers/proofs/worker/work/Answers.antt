@@ -8,6 +8,7 @@ pub loop-init : goal.loop-init
 loop-init g c = record {
   pass = (c.requires, refl);
   above = refl;
+  splits = refl;
   seen = ([], sym (append-nil (seen c.args.pass.now)));
   calls = ([], sym (append-nil (mine c.args.pass.now)), no_rounds g.P.A.Q.Question.key (g.P.Prover.gives c.args.prover.now));
 }
@@ -25,12 +26,13 @@ loop-preserved g c =
     let i = c.loop.invariant.calls in
     let r = c.in-Ok.ensures.calls in
     record {
-      pass = (c.round.ensures.pass.0, c.round.ensures.pass.1 ∙ c.loop.invariant.pass.1);
-      above = c.round.ensures.above ∙ c.loop.invariant.above;
-      seen = begins_on _ _ _ c.loop.invariant.seen c.round.ensures.seen;
+      pass = (c.work_once.ensures.pass.0, c.work_once.ensures.pass.1 ∙ c.loop.invariant.pass.1);
+      above = c.work_once.ensures.above ∙ c.loop.invariant.above;
+      splits = c.work_once.ensures.splits ∙ c.loop.invariant.splits;
+      seen = begins_on _ _ _ c.loop.invariant.seen c.work_once.ensures.seen;
       calls = (
         i.0 ++ r.0,
-        made_more (number c.args.pass.now) (mine c.args.pass.now) (mine c.loop.pass) (mine c.round.new.pass) i.0 r.0 i.1 (r.1 ∙ ap (λ n. mine c.loop.pass ++ made_by n r.0) c.loop.invariant.pass.1),
+        made_more (number c.args.pass.now) (mine c.args.pass.now) (mine c.loop.pass) (mine c.work_once.new.pass) i.0 r.0 i.1 (r.1 ∙ ap (λ n. mine c.loop.pass ++ made_by n r.0) c.loop.invariant.pass.1),
         rounds_more g.P.A.Q.Question.key (g.P.Prover.gives c.args.prover.now) c.loop.deposits c.in-Ok.made i.0 r.0 i.2 r.2,
       );
     }
@@ -40,9 +42,9 @@ returns-in-Err-clause-calls g c =
     let i = c.loop.invariant.calls in
     let r = c.in-Err.ensures.calls in (
       i.0 ++ r.0,
-      made_more (number c.args.pass.now) (mine c.args.pass.now) (mine c.loop.pass) (mine c.round.new.pass) i.0 r.0 i.1 (r.1 ∙ ap (λ n. mine c.loop.pass ++ made_by n r.0) c.loop.invariant.pass.1),
+      made_more (number c.args.pass.now) (mine c.args.pass.now) (mine c.loop.pass) (mine c.work_once.new.pass) i.0 r.0 i.1 (r.1 ∙ ap (λ n. mine c.loop.pass ++ made_by n r.0) c.loop.invariant.pass.1),
       record { before = i.0; last = r.0; made = refl; rounds = i.2; end = r.2 },
     )
 
 pub returns-in-Err-clause-seen : goal.returns-in-Err-clause-seen
-returns-in-Err-clause-seen g c = begins_on _ _ _ c.loop.invariant.seen c.round.ensures.seen
+returns-in-Err-clause-seen g c = begins_on _ _ _ c.loop.invariant.seen c.work_once.ensures.seen

@@ -1,11 +1,12 @@
+use Rattle.obligation_board.proofs.Knowing.{closed_after}
 use Rattle.std.proofs.Common.{◌≡◌, ◌+◌, [], ◌∷◌, ◌++◌, length, inl, refl, ap, ◌∙◌, length-append, arith}
 use Rattle.turn_lock.specs.Lock.{number, mine}
 use Rattle.board_core.specs.Board.{Call, claim, claimed, was_empty, no_memory, memory}
 use Rattle.board_core.specs.Handed.{ticket, claim_answer}
 use Rattle.board_core.specs.declared.claim.Claimed.{Claimed}
 use Rattle.proof_workers.specs.Rounds.{made_by, no_question}
-use Rattle.proof_workers.proofs.Working.{made_more, after_claim, room_before, begins_on, sees_more}
-use Rattle.proof_workers.proofs.round.round.Goals as goal
+use Rattle.proof_workers.proofs.Working.{made_more, after_claim, room_before, ends_open, begins_on, sees_more}
+use Rattle.proof_workers.proofs.round.work_once.Goals as goal
 
 pub returns-in-Err-clause-calls : goal.returns-in-Err-clause-calls
 returns-in-Err-clause-calls g c = (record { event = no_memory; reply = memory } ∷ [], c.in-Err.ensures.memory.1.mine, inl refl)
@@ -54,3 +55,9 @@ returns-in-Closed-clause-seen g c = sees_more _ _ c.args.pass.now c.claim.new.pa
 
 pub returns-in-Claim-clause-seen : goal.returns-in-Claim-clause-seen
 returns-in-Claim-clause-seen g c = begins_on _ _ _ (sees_more _ _ c.args.pass.now c.claim.new.pass _ c.in-Ok.receipt.place _ c.in-Ok.ensures.call) c.settle.ensures.seen
+
+pub returns-in-Closed-clause-closed : goal.returns-in-Closed-clause-closed
+returns-in-Closed-clause-closed g c = λ _. closed_after _ _ c.args.pass.now c.claim.new.pass c.in-Ok.receipt.place _ c.in-Ok.ensures.call (ap (claim_answer g.P.A.Q.Question.key) c.in-Closed.is)
+
+pub returns-in-Claim-clause-closed : goal.returns-in-Claim-clause-closed
+returns-in-Claim-clause-closed g c = ends_open g.P.A.Q.Question.key (g.P.Prover.gives c.args.prover.now) _ (ticket g.P.A.Q.Question.key c.in-Claim.claim) c.settle.result c.settle.ensures.calls.0 c.settle.ensures.calls.2
