@@ -14,8 +14,8 @@ def left_out(at, names):
     return [it for it in names if it != "rlib"] if os.path.basename(at) == "out" else []
 
 
-def workspace(folder, name, stands_on, program):
-    """A copy of the crates, with the measured program; the program's own folder."""
+def workspace(folder, name, stands_on, program, proofs=None):
+    """A copy of the crates, with the measured program and what its proof needs; the program's own folder."""
     crates = os.path.join(folder, "crates")
     shutil.copytree(os.path.join(TOP, "crates"), crates, ignore=left_out)
     own = os.path.join(crates, name)
@@ -26,6 +26,11 @@ def workspace(folder, name, stands_on, program):
         all_crates.write(lines.read() + f"{name}: {stands_on}\n")
     with open(os.path.join(own, "src", "main.rt"), "w") as source:
         source.write(program)
+    for file, text in (proofs or {}).items():
+        at = os.path.join(own, "proofs", file)
+        os.makedirs(os.path.dirname(at), exist_ok=True)
+        with open(at, "w") as proof:
+            proof.write(text)
     return own
 
 
