@@ -3,3 +3,4 @@ mod FoundProofs
 mod NamedProcs
 mod SpelledNames
 mod CorrectProcs
+pub mod Programs

@@ -3,3 +3,4 @@ pub mod Keeps
 pub mod Steps
 pub mod Replacing
 pub mod Placed
+mod Leaving

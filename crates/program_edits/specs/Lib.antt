@@ -1,4 +1,6 @@
+pub mod Applied
 pub mod Edited
+pub mod Leaves
 pub mod Laws
 pub mod Refusals
 pub mod Replaced
