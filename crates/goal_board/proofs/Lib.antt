@@ -3,3 +3,7 @@ pub mod Claims
 pub mod Rounds
 pub mod Nexts
 pub mod Shown
+pub mod Betweens
+pub mod Gathering
+pub mod ByItself
+pub mod Making
