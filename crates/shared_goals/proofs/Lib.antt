@@ -1,0 +1,4 @@
+pub mod Histories
+pub mod Openers
+pub mod Besides
+pub mod Crossing

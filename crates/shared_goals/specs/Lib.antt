@@ -1,0 +1,4 @@
+pub mod Known
+pub mod Opener
+pub mod Codes
+pub mod Beside

@@ -1,0 +1,26 @@
+//! The search as a prover: the workers', and the session's own.
+use clause_search::search::search;
+use obligation_text::Asked;
+use proof_workers::Prover;
+use std::alloc::{AllocError, Global};
+use std::sync::Arc;
+use tableau::settled::Settled;
+
+/// Answers a question as the search does.
+#[derive(Clone, Copy)]
+pub struct Searcher {
+    pub alloc: Global,
+}
+
+impl Prover for Searcher {
+    ghost use Rattle.std.specs.Prelude.{◌≡◌};
+    ghost use Rattle.tableau.specs.Settled.{settled_by};
+
+    type A = Settled;
+
+    ghost gives = { λ _ q a. a ≡ settled_by q };
+
+    fn answer(&self, asked: &Arc<Asked, Global>) -> Result<Settled, AllocError> {
+        search(self.alloc, asked)
+    }
+}
