@@ -1,11 +1,14 @@
-mod LinesAlone
 mod Parts
 mod Programs
 mod Calls
+mod Answering
+mod Unchanged
+pub mod AnsweredLines
 mod Sessions
 mod RefusedEdits
 mod ShortTexts
 mod TrueReports
+mod WorthOfSessions
 mod StaySpelled
 mod ErasedWritten
 mod EditedWritten

@@ -1,7 +1,7 @@
 -- What is found of all goals, procedure by procedure.
 use Rattle.std.proofs.Common.{◌≡◌, ◌∙◌, refl, sym, ap, arith, add-one, append_assoc, drop-cons, ℕ, ◌+◌, ◌<◌, List, get_or, [], ◌∷◌, ◌++◌, map, length, take, drop, sum, length-append}
 use Rattle.std.specs.Prelude.{flat_map}
-use Rattle.std.proofs.lemmas.List.{map-append, take-map, drop-map, take_at, drop_at, length-map}
+use Rattle.std.proofs.lemmas.List.{map-append, map-id, take-map, drop-map, take_at, drop_at, length-map}
 use Rattle.std.proofs.lemmas.List.Sums.{sum_by-cons}
 use Rattle.obligation_text.specs.Asked.{Asked}
 use Rattle.tableau.specs.Settled.{Settled, settled_by}
@@ -18,6 +18,7 @@ use Rattle.check_report.specs.Scratch.{verdicts, lines_on}
 use Rattle.edit_session.specs.Program.{question, text_or_none, proof_line}
 use Rattle.edit_session.specs.Sums.{sums_on}
 use Rattle.edit_session.specs.Built.{proc_goals, goal_counts, questions_of, in_parts}
+use Rattle.edit_session.specs.AnswerLines.{report_by}
 
 pub map_map : {A B C : Type 0} (f : A → B) (g : B → C) (xs : List A) → map g (map f xs) ≡ map (λ x. g (f x)) xs
 map_map f g [] = refl
@@ -100,6 +101,15 @@ pub reported_lines : (turns : ℕ) (bs : List BuiltProc) (ns : List (List ℕ)) 
 reported_lines turns bs ns mss vss n k v =
     let found : vss ≡ map (λ (p : ProcGoals). verdicts turns p.goals) (map proc_goals bs) = v ∙ sym (map_map proc_goals (λ (p : ProcGoals). verdicts turns p.goals) bs) in
     λ i. report (its_names bs ns n i) (its_marks bs mss k i) (found i)
+
+-- by the answers of the questions
+pub reported_by : (turns : ℕ) (bs : List BuiltProc) (xs : List Settled) → xs ≡ map settled_by (questions_of turns bs) → report_by (map proc_goals bs) xs ≡ lines_on turns (map proc_goals bs)
+reported_by turns bs xs e =
+    let ps = map proc_goals bs in
+    let counts : map (λ (p : ProcGoals). length p.goals) ps ≡ goal_counts bs = map_map proc_goals (λ (p : ProcGoals). length p.goals) bs in
+    let found : map (map (λ (a : Settled). a.verdict)) (in_parts (map (λ (p : ProcGoals). length p.goals) ps) xs) ≡ map (λ (p : ProcGoals). verdicts turns p.goals) ps =
+    ap (λ ns. map (map (λ (a : Settled). a.verdict)) (in_parts ns xs)) counts ∙ (verdicts_by_proc (λ a. a) turns bs xs (map-id xs ∙ e) ∙ sym (map_map proc_goals (λ (p : ProcGoals). verdicts turns p.goals) bs)) in
+    ap (report (map (λ (p : ProcGoals). p.name) ps) (map (λ (p : ProcGoals). map (λ (g : Goal). g.mark) p.goals) ps)) found
 
 summed_lines : (m : Module) (ds : List Decl) (bs : List BuiltProc) (ns : List (List ℕ)) (mss : List (List Mark)) → ns ≡ map (λ (b : BuiltProc). b.name) bs
     → mss ≡ map (λ (b : BuiltProc). map (λ (g : Goal). g.mark) b.goals) bs → sum_lines m ds ns mss ≡ sums_on m ds (map proc_goals bs)

@@ -129,5 +129,5 @@ edited_asks old ds r o is e = record { edit = edited ds; is_edited = is; is = sy
 pub no_keys : (turns : ℕ) (m : Module) → IsModuleOf [] m → [] ≡ keys turns m
 no_keys turns m is = sym (ap (keys turns) (program_of [] m (sym is)).1)
 
-pub nothing_ready : (turns : ℕ) (m : Module) → IsModuleOf [] m → IsReady turns m (first Settled)
-nothing_ready turns m is = record { goals = no_keys turns m is; rests = record { unclosed = refl; none_out = refl } }
+pub nothing_ready : (turns : ℕ) (m : Module) → IsModuleOf [] m → IsReady turns 0 m (first Settled)
+nothing_ready turns m is = record { goals = no_keys turns m is; version = refl; unclosed = refl }

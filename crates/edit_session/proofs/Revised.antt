@@ -23,7 +23,7 @@ use Rattle.body_module.specs.declared.revised.Revision.{Revision}
 use Rattle.vc_build.specs.Large.{program_large}
 use Rattle.vc_build.specs.Rebuild.{BuiltProc, built, rebuilt}
 use Rattle.vc_rebuild.specs.Kept.{Program}
-use Rattle.goal_board.specs.Calls.{Board}
+use Rattle.goal_board.specs.Calls.{Board, BoardCall}
 use Rattle.request_text.specs.Request.{Reply}
 use Rattle.request_text.specs.ReplyView.{reply_view}
 use Rattle.request_text.specs.declared.reply.Reply.{Reply as Told}
@@ -113,16 +113,22 @@ module _ (ds : List Decl) (at : ℕ) (e : Decl) (r : Revision) (m : Module) (is 
   opens_after n same within = opens_so (slice_set ds at e) n (same_typed (slice_set ds at e) n h.stays_plain h.faultless (same ∙ after)) within
 
   -- by the result of building it and opening its goals
-  pub is_opened : (turns : ℕ) (n : Module) (old new : List BuiltProc) (s t : Board) (o : Option Told) → IfSome o (λ x. n ≡ revised at r m) → IfSome o (λ x. IsReopened turns n old new s t (reply_view x)) → IfSome o (λ x. IsModuleOf (slice_set ds at e) n)
-  is_opened turns n old new s t None same opened = tt
-  is_opened turns n old new s t (Some x) same opened = opens_after n same opened.within
+  pub is_opened : (workers : ℕ) (s : Board) (noted : List BoardCall) (t : Board) (noted' : List BoardCall) (turns : ℕ) (n : Module) (old new : List BuiltProc) (o : Option Told) → IfSome o (λ x. n ≡ revised at r m)
+      → IfSome o (λ x. IsReopened workers s noted t noted' turns n old new (reply_view x)) → IfSome o (λ x. IsModuleOf (slice_set ds at e) n)
+  is_opened workers s noted t noted' turns n old new None same opened = tt
+  is_opened workers s noted t noted' turns n old new (Some x) same opened = opens_after n same opened.within
 
 -- ---- the program is open with what was built
 
-pub stays_open : (turns : ℕ) (ds : List Decl) (m : Module) (old : List BuiltProc) (p : Program) (s t : Board) (x : Reply) → SourcesAreShort ds → AreWrittenDecls 0 ds → IsModuleOf ds m → IsReopened turns m old p.procs s t x
-    → IsOpen (record { decls = ds; typed = m }) p
-stays_open turns ds m old p s t x short written is r = record { short = short; written = written; is_module = is; built = r.are_built }
+-- so many are new
+pub as_many_new : (workers : ℕ) (s : Board) (noted : List BoardCall) (t : Board) (noted' : List BoardCall) (turns : ℕ) (m : Module) (x : Reply) (n k : ℕ) → n ≡ k → IsOpened workers s noted t noted' turns n m x → IsOpened workers s noted t noted' turns k m x
+as_many_new workers s noted t noted' turns m x n k same h = subst (λ (i : ℕ). IsOpened workers s noted t noted' turns i m x) same h
 
--- by the procedures of the module before
-pub opened_by : (turns : ℕ) (m n : Module) (old new : List BuiltProc) (s t : Board) (x : Reply) → old ≡ built m → IsReopened turns n old new s t x → IsOpened turns n (rebuilt (built m) n) s t x
-opened_by turns m n old new s t x same r = subst (λ (bs : List BuiltProc). IsOpened turns n (rebuilt bs n) s t x) same r.opened
+module _ (workers : ℕ) (s : Board) (noted : List BoardCall) (t : Board) (noted' : List BoardCall) (turns : ℕ) where
+  pub stays_open : (ds : List Decl) (m : Module) (old : List BuiltProc) (p : Program) (x : Reply) → SourcesAreShort ds → AreWrittenDecls 0 ds → IsModuleOf ds m → IsReopened workers s noted t noted' turns m old p.procs x
+      → IsOpen (record { decls = ds; typed = m }) p
+  stays_open ds m old p x short written is r = record { short = short; written = written; is_module = is; built = r.are_built }
+
+  -- by the procedures of the module before
+  pub opened_by : (m n : Module) (old new : List BuiltProc) (x : Reply) → old ≡ built m → IsReopened workers s noted t noted' turns n old new x → IsOpened workers s noted t noted' turns (rebuilt (built m) n) n x
+  opened_by m n old new x same r = subst (λ (bs : List BuiltProc). IsOpened workers s noted t noted' turns (rebuilt bs n) n x) same r.opened

@@ -1,5 +1,5 @@
 -- A session before and after a line.
-use Rattle.std.proofs.Common.{◌≡◌, ◌∙◌, refl, sym, ap, subst, arith, ℕ, ◌+◌, ◌-◌, ◌^◌, ◌<◌, ◌≤◌, Bool, List, length, Result, Ok, Err}
+use Rattle.std.proofs.Common.{◌≡◌, ◌∙◌, refl, sym, ap, subst, arith, ℕ, ◌+◌, ◌-◌, ◌^◌, ◌<◌, ◌≤◌, false, List, [], ◌∷◌, length, Result, Ok, Err}
 use Rattle.std.specs.Prelude.{IfOk, OnErr}
 use Rattle.std.proofs.lemmas.List.{length-map}
 use Rattle.bpl_ast.specs.Statement.{Decl}
@@ -7,155 +7,119 @@ use Rattle.bpl_model.specs.Module.{Module}
 use Rattle.obligation_text.specs.Asked.{key_of}
 use Rattle.vc_build.specs.Large.{count_limit, program_goals}
 use Rattle.vc_build.specs.Rebuild.{built, rebuilt}
-use Rattle.request_text.specs.Request.{Request, bad_json, bad_op, bad_field, too_long, status, report, sums, proofs, Reply as Told, accepted, counted, reported, summed, proved, memory}
-use Rattle.request_text.specs.RequestView.{IsAnswer}
-use Rattle.request_text.specs.ReplyView.{reply_view, refusal_view}
+use Rattle.request_text.specs.Request.{Request, report, proofs, Reply as Told, accepted, reported, proved}
+use Rattle.request_text.specs.ReplyView.{reply_view}
 use Rattle.request_text.specs.declared.reply.Reply.{Reply}
-use Rattle.request_text.specs.declared.request.BadRequest.{BadRequest}
-use Rattle.request_text.specs.declared.request.BadRequest.TheVariants as why
-use Rattle.program_edits.specs.Refusals.{IsRefused}
-use Rattle.program_edits.specs.declared.fault.EditFault.{EditFault}
-use Rattle.board_core.specs.Board.{open_keys, look, looked}
-use Rattle.board_core.specs.Step.{reply}
-use Rattle.goal_board.specs.Calls.{Board}
-use Rattle.goal_board.specs.Rests.{IsAtRest, IsSameProgram, IsWorkedOn}
-use Rattle.check_report.specs.Scratch.{scratch}
-use Rattle.edit_session.specs.Program.{IsModuleOf, question, questions, keys, proof_lines}
-use Rattle.edit_session.specs.Sums.{sums_of}
-use Rattle.edit_session.specs.Asking.{Taken, taken, denied, Asks}
-use Rattle.edit_session.specs.Answers.{Asked, State, NeedsAnswers, Line}
+use Rattle.tableau.specs.Settled.{Settled}
+use Rattle.board_core.specs.Board.{open_keys, look}
+use Rattle.board_core.specs.Board as board
+use Rattle.goal_board.specs.Calls.{Board, BoardCall, made}
+use Rattle.goal_board.specs.Made.{AreMade, AreWork}
+use Rattle.goal_board.proofs.Betweens.{others_decide_nothing}
+use Rattle.goal_board.proofs.Making.{work_keeps_program, settled_are_work, plays_alone}
+use Rattle.edit_session.specs.Program.{IsModuleOf, question, questions, keys}
+use Rattle.edit_session.specs.Asking.{Taken, taken, Asks}
+use Rattle.edit_session.specs.Answers.{NeedsAnswers}
 use Rattle.edit_session.specs.Answers as answers
-use Rattle.edit_session.specs.Kept.{Session, IsReady, IsLater, HasRoom}
-use Rattle.edit_session.specs.Told.{IsOpened, IsReported, AreProved}
+use Rattle.edit_session.specs.Kept.{Session, IsReady, IsLater, HasRoom, IsAnswered}
+use Rattle.edit_session.specs.Laws.{IsSameProgram}
+use Rattle.edit_session.specs.Told.{IsOpened, AreGathered, IsReported, AreProved}
 use Rattle.edit_session.specs.Judged.{reply_of}
-use Rattle.edit_session.proofs.LinesAlone.{without_memory, bad_line, refused_line, accepted_line, status_line, report_line, proofs_line, sums_line, worked_line}
+use Rattle.edit_session.proofs.AnsweredLines.{opens_answer_changes, gathered_answer_reports, gathered_answer_proofs, proofs_from_scratch, work_answers_memory}
 use Rattle.edit_session.proofs.Programs.{few_goals}
 
--- these declarations are open, on this board
-abbrev pub state : List Decl → Board → State
-state ds b = record { decls = ds; version = b.version; board = b }
+-- these declarations are open, with this version, on this board
+abbrev pub session : ℕ → ℕ → List Decl → ℕ → Board → List BoardCall → Session
+session turns workers ds v b n = record { turns = turns; workers = workers; state = record { decls = ds; version = v; board = b }; noted = n }
 
-abbrev pub session : ℕ → List Decl → Board → Session
-session turns ds b = record { turns = turns; state = state ds b }
+pub same_program : (turns workers : ℕ) (ds : List Decl) (v : ℕ) (b t : Board) (n n' : List BoardCall) → IsSameProgram (session turns workers ds v b n) (session turns workers ds v t n')
+same_program turns workers ds v b t n n' = record { turns = refl; workers = refl; decls = refl; version = refl }
 
--- of a reply that tells the version
-told_goes : (turns : ℕ) (s : State) (r : Request) (y : ℕ → Told) (x : Told) (ds : List Decl) (v : ℕ) (t : Board) → t.version ≡ v → x ≡ y t.version
-    → Line turns 0 s (Ok r) (y v) (record { decls = ds; version = v; board = t }) → Line turns 0 s (Ok r) x (state ds t)
-told_goes turns s r y x ds v t same told l =
-    subst (λ (z : Told). Line turns 0 s (Ok r) z (state ds t)) (sym told) (subst (λ (n : ℕ). Line turns 0 s (Ok r) (y n) (record { decls = ds; version = n; board = t })) (sym same) l)
+-- ---- a look
 
--- ---- a line that is a request, or none
+module _ (turns workers : ℕ) (ds : List Decl) (m : Module) (v : ℕ) (b : Board) (n : List BoardCall) (t : Board) (n' : List BoardCall) (r : board.Reply Settled) (h : AreMade workers b n t n' (made look r ∷ [])) where
+  pub looked_ready : IsReady turns v m b → IsReady turns v m t
+  looked_ready ready =
+      let d = others_decide_nothing workers b t (made look r ∷ []) h.between in
+      record { goals = d.present ∙ ready.goals; version = d.version ∙ ready.version; unclosed = d.closed ∙ ready.unclosed }
 
-pub as_wanted : (turns : ℕ) (s t : State) (x : Told) (w : Asked) (r : Request) → w ≡ Ok r → Line turns 0 s (Ok r) x t → Line turns 0 s w x t
-as_wanted turns s t x w r same l = subst (λ (v : Asked). Line turns 0 s v x t) (sym same) l
-
-pub bad_goes : (turns : ℕ) (s : State) (b : BadRequest) (w : Asked) → IsAnswer w (Err b) → Line turns 0 s w (refusal_view b) s
-bad_goes turns s why.Json w same = subst (λ (v : Asked). Line turns 0 s v (refusal_view why.Json) s) (sym same) (bad_line turns s bad_json)
-bad_goes turns s why.Op w same = subst (λ (v : Asked). Line turns 0 s v (refusal_view why.Op) s) (sym same) (bad_line turns s bad_op)
-bad_goes turns s why.Field w same = subst (λ (v : Asked). Line turns 0 s v (refusal_view why.Field) s) (sym same) (bad_line turns s bad_field)
-bad_goes turns s why.Long w same = subst (λ (v : Asked). Line turns 0 s v (refusal_view why.Long) s) (sym same) (bad_line turns s too_long)
-bad_goes turns s why.Memory w same = without_memory turns s w
-
-pub no_later : (s : Session) → IsLater s s
-no_later s = record { turns = refl; version = omega arith; claims = omega arith }
-
--- ---- without memory nothing is done
-
-pub failed_goes : (turns : ℕ) (ds : List Decl) (b t : Board) (w : Asked) → t ≡ b → Line turns 0 (state ds b) w memory (state ds t)
-failed_goes turns ds b t w same = subst (λ (u : Board). Line turns 0 (state ds b) w memory (state ds u)) (sym same) (without_memory turns (state ds b) w)
-
-pub failed_later : (turns : ℕ) (ds : List Decl) (b t : Board) → t ≡ b → IsLater (session turns ds b) (session turns ds t)
-failed_later turns ds b t same = subst (λ (u : Board). IsLater (session turns ds b) (session turns ds u)) (sym same) (no_later (session turns ds b))
-
-pub failed_ready : (turns : ℕ) (m : Module) (b t : Board) → IsReady turns m b → t ≡ b → IsReady turns m t
-failed_ready turns m b t ready same = subst (IsReady turns m) (sym same) ready
-
--- ---- an edit that is refused
-
-pub refused_goes : {E : Type 0} (turns : ℕ) (ds : List Decl) (b : Board) (r : Request) (fault : EditFault) (o : Result Reply E)
-    → IfOk o (λ x. (old : List Decl) (q : Request) → IsRefused old q fault → Asks old q (denied (reply_view x))) → IsRefused ds r fault → Line turns 0 (state ds b) (Ok r) (reply_of o) (state ds b)
-refused_goes turns ds b r fault (Ok x) h is = refused_line turns (state ds b) r (reply_view x) (h ds r is)
-refused_goes turns ds b r fault (Err e) h is = without_memory turns (state ds b) (Ok r)
+  pub looked_later : IsLater (session turns workers ds v b n) (session turns workers ds v t n')
+  looked_later = record { turns = refl; workers = refl; version = omega arith; claims = λ none. omega (arith, ap (λ (u : Board). u.next) (sym (plays_alone workers b t (made look r ∷ []) none h.between).2)) }
 
 -- ---- an open
 
-module _ (turns new : ℕ) (p : Taken) (b t : Board) (x : Told) (h : IsOpened turns p.typed new b t x) where
-  version_after : t.version ≡ b.version + 1
-  version_after = ap (λ (u : Board). u.version) h.goes
+module _ (turns workers new : ℕ) (p : Taken) (v : ℕ) (b : Board) (n : List BoardCall) (t : Board) (n' : List BoardCall) (x : Told) (same : b.version ≡ v) (h : IsOpened workers b n t n' turns new p.typed x) where
+  pub opened_ready : b.closed ≡ false → IsReady turns (v + 1) p.typed t
+  opened_ready unclosed =
+      let d = others_decide_nothing workers b t (made (open_keys (keys turns p.typed)) h.answer ∷ []) (h.are).between in
+      record { goals = d.present; version = d.version ∙ ap (λ k. k + 1) same; unclosed = d.closed ∙ unclosed }
 
-  pub opened_ready : IsAtRest b → IsReady turns p.typed t
-  opened_ready rests = record {
-    goals = ap (λ (u : Board). u.present) h.goes;
-    rests = record { unclosed = ap (λ (u : Board). u.closed) h.goes ∙ rests.unclosed; none_out = ap (λ (u : Board). u.out) h.goes ∙ rests.none_out };
-  }
+  -- alone, nothing was claimed
+  no_claims : workers ≡ 0 → t.next ≡ b.next
+  no_claims none = ap (λ (u : Board). u.next) (sym (plays_alone workers b t (made (open_keys (keys turns p.typed)) h.answer ∷ []) none (h.are).between).2)
 
-  pub opened_later : (ds : List Decl) → IsLater (session turns ds b) (session turns p.decls t)
-  opened_later ds = record { turns = refl; version = omega (arith, version_after); claims = omega (arith, ap (λ (u : Board). u.next) h.goes) }
+  pub opened_later : (ds : List Decl) → IsLater (session turns workers ds v b n) (session turns workers p.decls (v + 1) t n')
+  opened_later ds = record { turns = refl; workers = refl; version = omega arith; claims = λ none. omega (arith, no_claims none) }
 
-  pub opened_goes : (ds : List Decl) (r : Request) (m : Module) → IsModuleOf ds m → new ≡ rebuilt (built m) p.typed → Asks ds r (taken p) → Line turns 0 (state ds b) (Ok r) x (state p.decls t)
+  pub opened_goes : (ds : List Decl) (r : Request) (m : Module) → IsModuleOf ds m → new ≡ rebuilt (built m) p.typed → Asks ds r (taken p) → IsAnswered (session turns workers ds v b n) (Ok r) x (session turns workers p.decls (v + 1) t n')
   opened_goes ds r m is anew asks =
-      told_goes turns (state ds b) r (λ v. accepted (length (program_goals p.typed)) new v) x p.decls (b.version + 1) t version_after h.told (
-      subst (λ (n : ℕ). Line turns 0 (state ds b) (Ok r) (accepted (length (program_goals p.typed)) n (b.version + 1)) (record { decls = p.decls; version = b.version + 1; board = t })) (sym anew)
-      (accepted_line turns (state ds b) m p r t (reply b (open_keys (keys turns p.typed))) is asks h.goes refl)
-      )
+      let s = session turns workers ds v b n in
+      let u = session turns workers p.decls (v + 1) t n' in
+      let told : x ≡ accepted (length (program_goals p.typed)) (rebuilt (built m) p.typed) (v + 1) = h.told ∙ (λ i. accepted (length (program_goals p.typed)) (anew i) (same i + 1)) in
+      subst (λ y. IsAnswered s (Ok r) y u) (sym told) (opens_answer_changes s u r m p h.answer [] is asks refl refl refl refl tt h.are)
 
 -- ---- what waits for the goals' answers, where the board has the goals of the module
 
-module _ (turns : ℕ) (ds : List Decl) (m : Module) (is : IsModuleOf ds m) (b : Board) (ready : IsReady turns m b) where
+module _ (turns workers : ℕ) (ds : List Decl) (m : Module) (is : IsModuleOf ds m) (v : ℕ) (b : Board) (n : List BoardCall) (ready : IsReady turns v m b) where
   few : length b.present ≤ count_limit
   few = omega (arith, few_goals ds m is, ap length ready.goals, length-map (questions turns m) key_of, length-map (program_goals m) (question turns))
 
-  pub has_claims : HasRoom (session turns ds b) → b.next + length b.present < 2 ^ 64 - 1
-  has_claims h = omega (arith, h.claims, few)
+  pub has_claims : HasRoom (session turns workers ds v b n) → workers ≡ 0 → b.next + length b.present < 2 ^ 64 - 1
+  has_claims h none = omega (arith, h.claims none, few)
 
-  same_ready : (t : Board) → IsSameProgram b t → IsReady turns m t
-  same_ready t same = record { goals = same.present ∙ ready.goals; rests = same.rests }
+  worked_ready : (t : Board) (n' : List BoardCall) → AreWork workers b n t n' → IsReady turns v m t
+  worked_ready t n' h =
+      let k = work_keeps_program workers b t n n' h in
+      record { goals = k.present ∙ ready.goals; version = k.version ∙ ready.version; unclosed = k.closed ∙ ready.unclosed }
 
-  same_later : (t : Board) → IsSameProgram b t → IsLater (session turns ds b) (session turns ds t)
-  same_later t same = record { turns = refl; version = omega (arith, same.version); claims = omega (arith, same.claims, few) }
+  pub worked_later : (t : Board) (n' : List BoardCall) → (workers ≡ 0 → t.next ≤ b.next + length b.present) → IsLater (session turns workers ds v b n) (session turns workers ds v t n')
+  worked_later t n' claims = record { turns = refl; workers = refl; version = omega arith; claims = λ none. omega (arith, claims none, few) }
 
-  worked_goes : (t : Board) (r : Request) → NeedsAnswers r → IsWorkedOn b t → Line turns 0 (state ds b) (Ok r) memory (state ds t)
-  worked_goes t r needs worked = told_goes turns (state ds b) r (λ v. memory) memory ds b.version t worked.same.version refl (worked_line turns (state ds b) t r needs worked)
+  gathered_work : (t : Board) (n' : List BoardCall) → AreGathered workers b n t n' turns m → AreWork workers b n t n'
+  gathered_work t n' g = settled_are_work workers b t n n' g.answers g.settled
 
   -- by the result of the calls
-  module _ {E : Type 0} (t : Board) where
-    reported_same : (o : Result Reply E) → IfOk o (λ x. IsReported turns m b t (reply_view x)) → OnErr o (IsWorkedOn b t) → IsSameProgram b t
-    reported_same (Ok x) h k = h.settled.same
-    reported_same (Err e) h k = k.same
+  module _ {E : Type 0} (t : Board) (n' : List BoardCall) where
+    reported_work : (o : Result Reply E) → IfOk o (λ x. IsReported workers b n t n' turns v m (reply_view x)) → OnErr o (AreWork workers b n t n') → AreWork workers b n t n'
+    reported_work (Ok x) h k = gathered_work t n' h.gathered
+    reported_work (Err e) h k = k
 
-    pub reported_ready : (o : Result Reply E) → IfOk o (λ x. IsReported turns m b t (reply_view x)) → OnErr o (IsWorkedOn b t) → IsReady turns m t
-    reported_ready o h k = same_ready t (reported_same o h k)
+    pub reported_ready : (o : Result Reply E) → IfOk o (λ x. IsReported workers b n t n' turns v m (reply_view x)) → OnErr o (AreWork workers b n t n') → IsReady turns v m t
+    reported_ready o h k = worked_ready t n' (reported_work o h k)
 
-    pub reported_later : (o : Result Reply E) → IfOk o (λ x. IsReported turns m b t (reply_view x)) → OnErr o (IsWorkedOn b t) → IsLater (session turns ds b) (session turns ds t)
-    reported_later o h k = same_later t (reported_same o h k)
+    pub reported_goes : (o : Result Reply E) → IfOk o (λ x. IsReported workers b n t n' turns v m (reply_view x)) → OnErr o (AreWork workers b n t n')
+        → IsAnswered (session turns workers ds v b n) (Ok report) (reply_of o) (session turns workers ds v t n')
+    reported_goes (Ok x) h k =
+        let s = session turns workers ds v b n in
+        let u = session turns workers ds v t n' in
+        let g = h.gathered in
+        let r = gathered_answer_reports s u m g.answers (same_program turns workers ds v b t n n') is g.settled g.kept g.right in
+        subst (λ y. IsAnswered s (Ok report) y u) (ap (λ ls. reported ls v) r.0 ∙ sym h.told) r.1
+    reported_goes (Err e) h k = work_answers_memory (session turns workers ds v b n) (session turns workers ds v t n') report answers.NeedsAnswers.report_does (same_program turns workers ds v b t n n') k
 
-    pub reported_goes : (o : Result Reply E) → IfOk o (λ x. IsReported turns m b t (reply_view x)) → OnErr o (IsWorkedOn b t) → Line turns 0 (state ds b) (Ok report) (reply_of o) (state ds t)
-    reported_goes (Ok x) h k = told_goes turns (state ds b) report (reported (scratch turns m)) (reply_view x) ds b.version t h.settled.same.version h.told (report_line turns (state ds b) t m is h.settled)
-    reported_goes (Err e) h k = worked_goes t report answers.NeedsAnswers.report_does k
+    proved_work : (o : Result Reply E) → IfOk o (λ x. AreProved workers b n t n' turns v m (reply_view x)) → OnErr o (AreWork workers b n t n') → AreWork workers b n t n'
+    proved_work (Ok x) h k = gathered_work t n' h.gathered
+    proved_work (Err e) h k = k
 
-    proved_same : (o : Result Reply E) → IfOk o (λ x. AreProved turns m b t (reply_view x)) → OnErr o (IsWorkedOn b t) → IsSameProgram b t
-    proved_same (Ok x) h k = h.settled.same
-    proved_same (Err e) h k = k.same
+    pub proved_ready : (o : Result Reply E) → IfOk o (λ x. AreProved workers b n t n' turns v m (reply_view x)) → OnErr o (AreWork workers b n t n') → IsReady turns v m t
+    proved_ready o h k = worked_ready t n' (proved_work o h k)
 
-    pub proved_ready : (o : Result Reply E) → IfOk o (λ x. AreProved turns m b t (reply_view x)) → OnErr o (IsWorkedOn b t) → IsReady turns m t
-    proved_ready o h k = same_ready t (proved_same o h k)
-
-    pub proved_later : (o : Result Reply E) → IfOk o (λ x. AreProved turns m b t (reply_view x)) → OnErr o (IsWorkedOn b t) → IsLater (session turns ds b) (session turns ds t)
-    proved_later o h k = same_later t (proved_same o h k)
-
-    pub proved_goes : (o : Result Reply E) → IfOk o (λ x. AreProved turns m b t (reply_view x)) → OnErr o (IsWorkedOn b t) → Line turns 0 (state ds b) (Ok proofs) (reply_of o) (state ds t)
-    proved_goes (Ok x) h k = told_goes turns (state ds b) proofs (proved (proof_lines turns m)) (reply_view x) ds b.version t h.settled.same.version h.told (proofs_line turns (state ds b) t m is h.settled)
-    proved_goes (Err e) h k = worked_goes t proofs answers.NeedsAnswers.proofs_do k
-
--- ---- what only looks
-
-pub status_goes : (turns : ℕ) (ds : List Decl) (b : Board) (done pending v : ℕ) (closed : Bool) → looked v done pending closed ≡ reply b look → Line turns 0 (state ds b) (Ok status) (counted done pending v) (state ds b)
-status_goes turns ds b done pending v closed told =
-    let version : v ≡ b.version = cc (told) in
-    told_goes turns (state ds b) status (counted done pending) (counted done pending v) ds b.version b refl (ap (counted done pending) version) (status_line turns (state ds b) done pending v closed told)
-
-pub sums_go : (turns : ℕ) (ds : List Decl) (m : Module) (b : Board) (lines : List (List ℕ)) (done pending v : ℕ) (closed : Bool) → IsModuleOf ds m → lines ≡ sums_of m ds → looked v done pending closed ≡ reply b look
-    → Line turns 0 (state ds b) (Ok sums) (summed lines v) (state ds b)
-sums_go turns ds m b lines done pending v closed is same told =
-    let version : v ≡ b.version = cc (told) in
-    told_goes turns (state ds b) sums (summed (sums_of m ds)) (summed lines v) ds b.version b refl (λ i. summed (same i) (version i)) (sums_line turns (state ds b) m is)
+    pub proved_goes : (o : Result Reply E) → IfOk o (λ x. AreProved workers b n t n' turns v m (reply_view x)) → OnErr o (AreWork workers b n t n')
+        → IsAnswered (session turns workers ds v b n) (Ok proofs) (reply_of o) (session turns workers ds v t n')
+    proved_goes (Ok x) h k =
+        let s = session turns workers ds v b n in
+        let u = session turns workers ds v t n' in
+        let g = h.gathered in
+        let a = gathered_answer_proofs s u m g.answers (same_program turns workers ds v b t n n') is g.settled g.kept g.right in
+        subst (λ y. IsAnswered s (Ok proofs) y u) (ap (λ ls. proved ls v) (proofs_from_scratch turns m g.answers g.right) ∙ sym h.told) a
+    proved_goes (Err e) h k = work_answers_memory (session turns workers ds v b n) (session turns workers ds v t n') proofs answers.NeedsAnswers.proofs_do (same_program turns workers ds v b t n n') k

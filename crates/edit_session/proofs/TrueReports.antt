@@ -75,7 +75,7 @@ taken_opening ds (refused w) p e = absurd (cc)
 pub record IsEdit (e : Edited) (ds : List Decl) : Type 0 where
   pub is : e ≡ edited ds
 
-is_edit : (e : Edited) (p : Taken) → taken p ≡ outcome_of e → IsEdit e p.decls
+pub is_edit : (e : Edited) (p : Taken) → taken p ≡ outcome_of e → IsEdit e p.decls
 is_edit (edited ds) p e = record { is = ap edited (sym (taken_opening ds (opening ds) p e)) }
 is_edit (lacking n) p e = absurd (cc)
 is_edit (faulty put text f) p e = absurd (cc)

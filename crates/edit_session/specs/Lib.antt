@@ -4,9 +4,14 @@ pub mod Asking
 pub mod Answers
 pub mod Session
 pub mod Built
+pub mod AnswerLines
+pub mod OwnCalls
+pub mod GenCalls
 pub mod Kept
 pub mod Codes
 pub mod Judged
 pub mod Told
 pub mod Revising
+pub mod Laws
+pub mod SessionWorth
 pub mod Worth

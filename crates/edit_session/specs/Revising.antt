@@ -8,7 +8,7 @@ use Rattle.body_module.specs.declared.revised.Revision.{Revision}
 use Rattle.vc_build.specs.Large.{program_large}
 use Rattle.vc_build.specs.Rebuild.{BuiltProc, built, rebuilt}
 use Rattle.program_opening.specs.NoUsers.{has_user_types}
-use Rattle.goal_board.specs.Calls.{Board}
+use Rattle.goal_board.specs.Calls.{Board, BoardCall}
 use Rattle.request_text.specs.Request.{Reply}
 use Rattle.edit_session.specs.Told.{IsOpened}
 
@@ -24,7 +24,7 @@ pub record Revises (ds : List Decl) (at : ℕ) (e : Decl) (r : Revision) : Type 
   pub is : IsRevision ds at e r
 
 -- the module exceeds no limit and is built, where this was built before, and the board has its goals
-pub record IsReopened (turns : ℕ) (m : Module) (old new : List BuiltProc) (s t : Board) (x : Reply) : Type 0 where
+pub record IsReopened (workers : ℕ) (s : Board) (noted : List BoardCall) (t : Board) (noted' : List BoardCall) (turns : ℕ) (m : Module) (old new : List BuiltProc) (x : Reply) : Type 0 where
   pub within : program_large m ≡ None
   pub are_built : new ≡ built m
-  pub opened : IsOpened turns m (rebuilt old m) s t x
+  pub opened : IsOpened workers s noted t noted' turns (rebuilt old m) m x

@@ -1,19 +1,17 @@
 -- What the reports of a session are worth.
-use Rattle.std.specs.Prelude.{◌≡◌, ℕ, List, Contains}
+use Rattle.std.specs.Prelude.{◌≡◌, ℕ, List, [], map}
 use Rattle.std.specs.List.{AllByRecursion}
 use Rattle.bpl_ast.specs.Statement.{Decl}
 use Rattle.bpl_model.specs.Module.{Module}
-use Rattle.report_text.specs.Called.{correct_line, IsName}
 use Rattle.program_opening.specs.Opening as opening
 use Rattle.request_text.specs.Request.{reported}
 use Rattle.check_report.specs.Scratch.{scratch}
-use Rattle.check_report.specs.Called.{IsSafeIn}
 use Rattle.edit_session.specs.Program.{IsModuleOf}
 use Rattle.edit_session.specs.Session.{Exchange, WholeSession}
-
--- of each line `P correct` the procedure P has, in the module, no execution from an entry state that fails
-abbrev pub NamesTheSafe : Module → List (List ℕ) → Type 0
-NamesTheSafe m lines = (name : List ℕ) → IsName name → Contains lines (correct_line name) → IsSafeIn m name
+pub use Rattle.edit_session.specs.SessionWorth.{NamesTheSafe}
+use Rattle.edit_session.specs.SessionWorth.{AreWorth}
+use Rattle.request_text.specs.Reading.{request_of}
+use Rattle.request_text.specs.Replies.{reply_text}
 
 -- of the program that is open then it is the report from scratch, and what it calls correct is safe; the module is that of the declarations by names and types
 pub record IsTrueReport (turns : ℕ) (ds : List Decl) (lines : List (List ℕ)) : Type 0 where
@@ -29,3 +27,7 @@ ReportIsTrue turns x = (lines : List (List ℕ)) (version : ℕ) → x.reply ≡
 -- each report of each session is true, whatever was opened, edited, kept and claimed before, by any number of workers
 abbrev pub ReportsAreTrue : Type 0
 ReportsAreTrue = (turns workers : ℕ) (xs : List Exchange) → WholeSession turns workers xs → AllByRecursion (ReportIsTrue turns) xs
+
+-- the lines of each session with the texts of their replies are worth what is said by executions alone, by any number of workers
+abbrev pub SessionsAreWorth : Type 0
+SessionsAreWorth = (turns workers : ℕ) (xs : List Exchange) (lines : List (List ℕ)) → WholeSession turns workers xs → map (λ x. x.asked) xs ≡ map request_of lines → AreWorth [] lines (map (λ x. reply_text x.reply) xs)

@@ -11,14 +11,14 @@ ghost use Rattle.request_text.specs.ReplyView.{reply_view};
 ghost use Rattle.edit_session.specs.Program.{IsModuleOf};
 ghost use Rattle.edit_session.specs.Built.{proc_goals};
 ghost use Rattle.edit_session.specs.Judged.{IsJudged};
-ghost use Rattle.edit_session.specs.Told.{IsOpened};
+ghost use Rattle.edit_session.specs.Told.{IsOpened, IsUndone};
 
 use crate::refusals::fault_reply;
 use crate::revising::reopen_revised;
-use board_core::Board;
 use bpl_ast::{Decl, Program};
 use bpl_model::Module;
 use bv_base::Steps;
+use goal_board::GoalBoard;
 use program_edits::Replacement;
 use program_opening::size::written_of_size;
 use program_opening::{Typed, type_check};
@@ -27,7 +27,6 @@ use std::alloc::{AllocError, Global};
 use std::marker::Model;
 use std::mem;
 use std::sync::ledger::Ledger;
-use tableau::settled::Settled;
 use vc_build::BuildFault;
 use vc_rebuild::{Built, BuiltProc, rebuild};
 
@@ -207,10 +206,10 @@ impl OpenProgram {
     /// differ in their bodies alone and the program with it has no fault; the board has the goals of the
     /// program then. Else nothing changes, and so it is without memory.
     #[tactic(auto, using(crate::proofs::Revised::stays_open, crate::proofs::Revised::opened_by))]
-    pub fn revise<L: Ledger>(
+    pub fn revise<B: GoalBoard, L: Ledger>(
         &mut self,
         alloc: Global,
-        board: &mut Board<Settled>,
+        board: &mut B,
         replacement: Replacement,
         turns: u64,
         steps: &mut Steps<L>,
@@ -218,12 +217,12 @@ impl OpenProgram {
         requires there { replacement.at < length self.old.decls }
         requires short { SourcesAreShort (slice_set self.old.decls replacement.at replacement.decl) }
         requires written { AreWrittenDecls 0 (slice_set self.old.decls replacement.at replacement.decl) }
-        requires room { board.old.version < 2 ^ 64 - 1 }
+        requires room { B.workers ≡ 0 → (B.state board.old).version < 2 ^ 64 - 1 }
         ensures decls { IfSome result (λ x. self.new.decls ≡ slice_set self.old.decls replacement.at replacement.decl) }
         ensures is_module { IfSome result (λ x. IsModuleOf self.new.decls self.new.typed) }
-        ensures opened { IfSome result (λ x. IsOpened turns self.new.typed (rebuilt (built self.old.typed) self.new.typed) board.old board.new (reply_view x)) }
+        ensures opened { IfSome result (λ x. IsOpened B.workers (B.state board.old) (B.noted board.old) (B.state board.new) (B.noted board.new) turns (rebuilt (built self.old.typed) self.new.typed) self.new.typed (reply_view x)) }
         ensures same { IfNone result (self.new ≡ self.old) }
-        ensures board { IfNone result (board.new ≡ board.old) }
+        ensures board { IfNone result (IsUndone B.workers (B.state board.old) (B.noted board.old) (B.state board.new) (B.noted board.new)) }
     {
         match reopen_revised(
             alloc,

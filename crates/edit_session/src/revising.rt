@@ -10,23 +10,23 @@ ghost use Rattle.program_opening.specs.NoUsers.{has_user_types};
 ghost use Rattle.request_text.specs.ReplyView.{reply_view};
 ghost use Rattle.edit_session.specs.Program.{IsModuleOf};
 ghost use Rattle.edit_session.specs.Revising.{revised, Revises, IsReopened};
+ghost use Rattle.edit_session.specs.Told.{IsUndone};
 
 use crate::board_calls::open_goals;
 use crate::program::has_few;
-use board_core::Board;
 use body_faults::stays_faultless;
 use body_module::Revision;
 use body_module::module::revision;
 use bpl_ast::Decl;
 use bpl_model::Module;
 use bv_base::Steps;
+use goal_board::GoalBoard;
 use procedure_heads::is_revised;
 use program_edits::Replacement;
 use program_opening::typing::has_user_types;
 use request_text::Reply;
 use std::alloc::{AllocError, Global};
 use std::sync::ledger::Ledger;
-use tableau::settled::Settled;
 use vc_build::BuildFault;
 use vc_rebuild::{Built, rebuild};
 
@@ -65,20 +65,20 @@ fn revision_of(
 
 // The module is built, where this was built before, and the board has its goals. Where it exceeds a
 // limit, and without memory, all is as it was.
-fn reopen<L: Ledger>(
+fn reopen<B: GoalBoard, L: Ledger>(
     alloc: Global,
     kept: &mut Built,
     typed: &Module,
-    board: &mut Board<Settled>,
+    board: &mut B,
     turns: u64,
     steps: &mut Steps<L>,
 ) -> Result<Reply, BuildFault>
     requires forward { AllGoForward typed.now }
     requires resolved { IsResolved typed.now }
-    requires room { board.old.version < 2 ^ 64 - 1 }
-    ensures opened { IfOk result (λ x. IsReopened turns typed.now kept.old.procs kept.new.procs board.old board.new (reply_view x)) }
+    requires room { B.workers ≡ 0 → (B.state board.old).version < 2 ^ 64 - 1 }
+    ensures opened { IfOk result (λ x. IsReopened B.workers (B.state board.old) (B.noted board.old) (B.state board.new) (B.noted board.new) turns typed.now kept.old.procs kept.new.procs (reply_view x)) }
     ensures kept { OnErr result (kept.new ≡ kept.old) }
-    ensures board { OnErr result (board.new ≡ board.old) }
+    ensures board { OnErr result (IsUndone B.workers (B.state board.old) (B.noted board.old) (B.state board.new) (B.noted board.new)) }
 {
     let new = rebuild(alloc, kept, typed, steps)?;
     let reply = open_goals(alloc, board, new.procs(), new.rebuilt(), turns)?;
@@ -88,11 +88,11 @@ fn reopen<L: Ledger>(
 
 // The module with what is new takes its place, is built, and the board has its goals; or else all is as
 // it was.
-fn reopen_with<L: Ledger>(
+fn reopen_with<B: GoalBoard, L: Ledger>(
     alloc: Global,
     typed: &mut Module,
     kept: &mut Built,
-    board: &mut Board<Settled>,
+    board: &mut B,
     at: usize,
     revision: Revision,
     turns: u64,
@@ -104,12 +104,12 @@ fn reopen_with<L: Ledger>(
     requires after { IsTypedModule (revised at revision typed.old) }
     requires forward { AllGoForward (revised at revision typed.old) }
     requires resolved { IsResolved (revised at revision typed.old) }
-    requires room { board.old.version < 2 ^ 64 - 1 }
+    requires room { B.workers ≡ 0 → (B.state board.old).version < 2 ^ 64 - 1 }
     ensures revised { IfSome result (λ x. typed.new ≡ revised at revision typed.old) }
-    ensures opened { IfSome result (λ x. IsReopened turns typed.new kept.old.procs kept.new.procs board.old board.new (reply_view x)) }
+    ensures opened { IfSome result (λ x. IsReopened B.workers (B.state board.old) (B.noted board.old) (B.state board.new) (B.noted board.new) turns typed.new kept.old.procs kept.new.procs (reply_view x)) }
     ensures typed { IfNone result (typed.new ≡ typed.old) }
     ensures kept { IfNone result (kept.new ≡ kept.old) }
-    ensures board { IfNone result (board.new ≡ board.old) }
+    ensures board { IfNone result (IsUndone B.workers (B.state board.old) (B.noted board.old) (B.state board.new) (B.noted board.new)) }
 {
     let Revision { proc_at, declared } = revision;
     let before = typed.put_procedure(proc_at, at, declared);
@@ -128,12 +128,12 @@ fn reopen_with<L: Ledger>(
 /// The module of declarations becomes that of the same with another in its place, and the board has
 /// its goals, if the two are procedures that differ in their bodies alone and the new declarations have
 /// no fault. Else all is as it was, and so it is without memory.
-pub fn reopen_revised<L: Ledger>(
+pub fn reopen_revised<B: GoalBoard, L: Ledger>(
     alloc: Global,
     decls: &[Decl],
     typed: &mut Module,
     kept: &mut Built,
-    board: &mut Board<Settled>,
+    board: &mut B,
     replacement: &Replacement,
     turns: u64,
     steps: &mut Steps<L>,
@@ -141,12 +141,12 @@ pub fn reopen_revised<L: Ledger>(
     requires is_module { IsModuleOf decls.now typed.old }
     requires there { replacement.now.at < length decls.now }
     requires written { AreWrittenDecls 0 (slice_set decls.now replacement.now.at replacement.now.decl) }
-    requires room { board.old.version < 2 ^ 64 - 1 }
+    requires room { B.workers ≡ 0 → (B.state board.old).version < 2 ^ 64 - 1 }
     ensures is_module { IfSome result (λ x. IsModuleOf (slice_set decls.now replacement.now.at replacement.now.decl) typed.new) }
-    ensures opened { IfSome result (λ x. IsReopened turns typed.new kept.old.procs kept.new.procs board.old board.new (reply_view x)) }
+    ensures opened { IfSome result (λ x. IsReopened B.workers (B.state board.old) (B.noted board.old) (B.state board.new) (B.noted board.new) turns typed.new kept.old.procs kept.new.procs (reply_view x)) }
     ensures typed { IfNone result (typed.new ≡ typed.old) }
     ensures kept { IfNone result (kept.new ≡ kept.old) }
-    ensures board { IfNone result (board.new ≡ board.old) }
+    ensures board { IfNone result (IsUndone B.workers (B.state board.old) (B.noted board.old) (B.state board.new) (B.noted board.new)) }
 {
     has_few(typed);
     match revision_of(alloc, decls, replacement) {

@@ -1,46 +1,50 @@
 // The session.
-ghost use Rattle.std.specs.Prelude.{◌≡◌, ◌<◌, ◌^◌, ◌-◌, length, slice_set, Result, Ok, Err, IfOk, IfSome, IfNone};
+ghost use Rattle.std.specs.Prelude.{◌≡◌, ◌<◌, ◌^◌, ◌-◌, length, slice_set, Result, Ok, Err, IfOk, IfErr, IfSome, IfNone};
 ghost use Rattle.bpl_model.specs.Module.{Module as typed_module};
 ghost use Rattle.canonical_laws.specs.RoundTrip.{AreWrittenDecls};
 ghost use Rattle.vc_build.specs.Rebuild.{built, rebuilt as rebuilt_of};
 ghost use Rattle.program_faults.specs.FaultView.{SourcesAreShort};
+ghost use Rattle.tableau.specs.Settled.{Settled as settled};
+ghost use Rattle.board_core.specs.Board.{first};
 ghost use Rattle.program_edits.specs.Edited.{IsEdited, edited as edited_to};
 ghost use Rattle.program_edits.specs.Refusals.{IsChange, TextsAreShort};
 ghost use Rattle.request_text.specs.Request as asked;
 ghost use Rattle.request_text.specs.RequestView.{request_view, IsAnswer};
 ghost use Rattle.request_text.specs.ReplyView.{reply_view};
 ghost use Rattle.edit_session.specs.Program.{IsModuleOf};
-ghost use Rattle.edit_session.specs.Answers.{Asked, Line, new_session};
+ghost use Rattle.edit_session.specs.Answers.{Asked, new_session};
 ghost use Rattle.edit_session.specs.Asking.{Asks, taken};
 ghost use Rattle.edit_session.specs.Judged.{reply_of};
-ghost use Rattle.edit_session.specs.Kept.{IsLater, HasRoom};
+ghost use Rattle.edit_session.specs.Kept.{IsAnswered, IsLater, HasRoom};
+ghost use Rattle.edit_session.specs.Told.{IsUnchanged};
 
 use crate::board_calls::{open_goals, prove_goals, report_goals};
 use crate::lines::sum_lines;
 use crate::program::{Judged, OpenProgram};
 use crate::refusals::refusal;
 use crate::texts::has_short_texts;
-use board_core::Board;
 use bpl_ast::Decl;
 use bv_base::Steps;
+use goal_board::GoalBoard;
 use program_edits::{Replacement, edited, replacement_of};
 use request_text::{BadRequest, Reply, Request};
 use std::alloc::{AllocError, Global};
 use std::marker::Model;
 use std::sync::ledger::Ledger;
-use tableau::settled::Settled;
 
-/// The program that is open, and the board of its goals. Each goal is searched with the same turns.
-#[derive(Drop)]
-pub struct Session<L: Ledger> {
+/// The program that is open, and the board of its goals, which nobody else works on or others do. Each
+/// goal is searched with the same turns.
+pub struct Session<B: GoalBoard, L: Ledger> {
     alloc: Global,
     turns: u64,
+    // The board's.
+    version: u64,
     opened: OpenProgram,
-    board: Board<Settled>,
+    board: B,
     steps: Steps<L>,
 }
 
-impl<L: Ledger> Model for Session<L> {
+impl<B: GoalBoard, L: Ledger> Model for Session<B, L> {
     ghost use Rattle.edit_session.specs.Kept.{Session as session, IsReady};
     ghost use Rattle.edit_session.specs.Codes.{coded_session};
 
@@ -48,36 +52,58 @@ impl<L: Ledger> Model for Session<L> {
 
     ghost coded = { coded_session };
 
-    ghost view = { λ a. record { turns = a.turns; state = record { decls = a.opened.decls; version = a.board.version; board = a.board } } };
+    ghost view = { λ a. record { turns = a.turns; workers = B.workers; state = record { decls = a.opened.decls; version = a.version; board = B.state a.board }; noted = B.noted a.board } };
 
-    ghost invariant = { λ a. IsReady a.turns a.opened.typed a.board };
+    ghost invariant = { λ a. IsReady a.turns a.version a.opened.typed (B.state a.board) };
 }
 
-impl<L: Ledger> Session<L> {
-    /// A session without declarations, at version 0. Each goal is to be searched with so many turns.
-    pub fn new(alloc: Global, turns: u64, mut steps: Steps<L>) -> Result<Session<L>, AllocError>
-        ensures { IfOk result (λ s. s ≡ record { turns = turns; state = new_session }) }
+impl<B: GoalBoard, L: Ledger> Session<B, L> {
+    /// A session without declarations, at version 0, on a new board. Each goal is to be searched with so
+    /// many turns. Without memory the board is handed back.
+    pub fn new(alloc: Global, turns: u64, board: B, mut steps: Steps<L>) -> Result<Session<B, L>, B>
+        requires { B.state board ≡ first settled }
+        ensures new { IfOk result (λ s. s ≡ record { turns = turns; workers = B.workers; state = new_session; noted = B.noted board }) }
+        ensures memory { IfErr result (λ b. b ≡ board) }
     {
-        let opened = OpenProgram::empty(alloc, &mut steps)?;
-        Ok(Session {
-            alloc,
-            turns,
-            opened,
-            board: Board::new(alloc),
-            steps,
-        })
+        match OpenProgram::empty(alloc, &mut steps) {
+            Ok(opened) => Ok(Session {
+                alloc,
+                turns,
+                version: 0,
+                opened,
+                board,
+                steps,
+            }),
+            Err(_) => Err(board),
+        }
     }
 
-    /// Lets go of the session.
-    pub fn end(self) {}
+    /// Lets go of the session, and hands the board out.
+    pub fn end(self) -> B
+        ensures noted { B.noted result ≡ self.noted }
+        ensures state { B.state result ≡ self.state.board }
+    {
+        let Session {
+            alloc: _alloc,
+            turns: _turns,
+            version: _version,
+            opened,
+            board,
+            steps,
+        } = self;
+        drop(opened);
+        drop(steps);
+        board
+    }
 
     /// Answers a line: the request that it is, or why it is none. The reply, the calls on the board, and
-    /// the declarations and the version after it are those that the definitions give a line. A refusal
-    /// leaves all as it was, and so does want of memory, but for goals that were settled before it. A
-    /// quit is answered by `Reply::Quit`, with which the session ends.
+    /// the declarations and the version after it are those that the definitions give a line; where others
+    /// work on the board, the calls are exactly the line's. A refusal leaves all as it was, and so does
+    /// want of memory, but for goals that were settled before it. A quit is answered by `Reply::Quit`,
+    /// with which the session ends.
     pub fn answer(&mut self, request: Result<Request, BadRequest>) -> Reply
         requires { HasRoom self.old }
-        ensures line { (wanted : Asked) → IsAnswer wanted request → Line self.old.turns 0 self.old.state wanted (reply_view result) self.new.state }
+        ensures answered { (wanted : Asked) → IsAnswer wanted request → IsAnswered self.old wanted (reply_view result) self.new }
         ensures later { IsLater self.old self.new }
     {
         match self.reply(request) {
@@ -88,7 +114,7 @@ impl<L: Ledger> Session<L> {
 
     fn reply(&mut self, request: Result<Request, BadRequest>) -> Result<Reply, AllocError>
         requires { HasRoom self.old }
-        ensures line { (wanted : Asked) → IsAnswer wanted request → Line self.old.turns 0 self.old.state wanted (reply_of result) self.new.state }
+        ensures answered { (wanted : Asked) → IsAnswer wanted request → IsAnswered self.old wanted (reply_of result) self.new }
         ensures later { IsLater self.old self.new }
     {
         match request {
@@ -97,10 +123,10 @@ impl<L: Ledger> Session<L> {
         }
     }
 
-    #[tactic(auto, using(crate::proofs::Sessions::no_later, crate::proofs::LinesAlone::quit_line))]
+    #[tactic(auto, using(crate::proofs::Answering::no_later))]
     fn reply_to(&mut self, request: &Request) -> Result<Reply, AllocError>
         requires { HasRoom self.old }
-        ensures line { Line self.old.turns 0 self.old.state (Ok (request_view request.now)) (reply_of result) self.new.state }
+        ensures answered { IsAnswered self.old (Ok (request_view request.now)) (reply_of result) self.new }
         ensures later { IsLater self.old self.new }
     {
         match request {
@@ -115,11 +141,11 @@ impl<L: Ledger> Session<L> {
     }
 
     // An open or an edit: where one procedure gets another body, the program stays open with it.
-    #[tactic(auto, using(crate::proofs::LinesAlone::without_memory, crate::proofs::Sessions::no_later))]
+    #[tactic(auto, using(crate::proofs::Answering::no_later))]
     fn edit(&mut self, request: &Request) -> Result<Reply, AllocError>
         requires change { IsChange (request_view request.now) }
         requires room { HasRoom self.old }
-        ensures line { Line self.old.turns 0 self.old.state (Ok (request_view request.now)) (reply_of result) self.new.state }
+        ensures answered { IsAnswered self.old (Ok (request_view request.now)) (reply_of result) self.new }
         ensures later { IsLater self.old self.new }
     {
         if !has_short_texts(request) {
@@ -135,9 +161,9 @@ impl<L: Ledger> Session<L> {
     fn revise(&mut self, request: &Request) -> Option<Reply>
         requires short { TextsAreShort (request_view request.now) }
         requires room { HasRoom self.old }
-        ensures line { IfSome result (λ x. Line self.old.turns 0 self.old.state (Ok (request_view request.now)) (reply_view x) self.new.state) }
+        ensures answered { IfSome result (λ x. IsAnswered self.old (Ok (request_view request.now)) (reply_view x) self.new) }
         ensures later { IfSome result (λ x. IsLater self.old self.new) }
-        ensures same { IfNone result (self.new ≡ self.old) }
+        ensures same { IfNone result (IsUnchanged self.old self.new) }
     {
         match replacement_of(self.alloc, self.opened.decls(), request) {
             Ok(Some(replacement)) => self.put(replacement),
@@ -151,18 +177,24 @@ impl<L: Ledger> Session<L> {
         requires short { SourcesAreShort (slice_set self.old.state.decls replacement.at replacement.decl) }
         requires written { AreWrittenDecls 0 (slice_set self.old.state.decls replacement.at replacement.decl) }
         requires room { HasRoom self.old }
-        ensures line { IfSome result (λ x. (r : asked.Request) → IsEdited self.old.state.decls r (edited_to (slice_set self.old.state.decls replacement.at replacement.decl)) → Line self.old.turns 0 self.old.state (Ok r) (reply_view x) self.new.state) }
+        ensures answered { IfSome result (λ x. (r : asked.Request) → IsEdited self.old.state.decls r (edited_to (slice_set self.old.state.decls replacement.at replacement.decl)) → IsAnswered self.old (Ok r) (reply_view x) self.new) }
         ensures later { IfSome result (λ x. IsLater self.old self.new) }
-        ensures same { IfNone result (self.new ≡ self.old) }
+        ensures same { IfNone result (IsUnchanged self.old self.new) }
     {
         self.opened.has_module();
-        self.opened.revise(
+        match self.opened.revise(
             self.alloc,
             &mut self.board,
             replacement,
             self.turns,
             &mut self.steps,
-        )
+        ) {
+            Some(reply) => {
+                self.version += 1;
+                Some(reply)
+            }
+            None => None,
+        }
     }
 
     // Any open or edit.
@@ -170,7 +202,7 @@ impl<L: Ledger> Session<L> {
         requires change { IsChange (request_view request.now) }
         requires short { TextsAreShort (request_view request.now) }
         requires room { HasRoom self.old }
-        ensures line { Line self.old.turns 0 self.old.state (Ok (request_view request.now)) (reply_of result) self.new.state }
+        ensures answered { IsAnswered self.old (Ok (request_view request.now)) (reply_of result) self.new }
         ensures later { IsLater self.old self.new }
     {
         match edited(self.alloc, self.opened.decls(), request) {
@@ -184,7 +216,7 @@ impl<L: Ledger> Session<L> {
         requires room { HasRoom self.old }
         requires short { SourcesAreShort decls.items }
         requires written { AreWrittenDecls 0 decls.items }
-        ensures line { (r : asked.Request) → IsEdited self.old.state.decls r (edited_to decls.items) → Line self.old.turns 0 self.old.state (Ok r) (reply_of result) self.new.state }
+        ensures answered { (r : asked.Request) → IsEdited self.old.state.decls r (edited_to decls.items) → IsAnswered self.old (Ok r) (reply_of result) self.new }
         ensures later { IsLater self.old self.new }
     {
         self.opened.has_module();
@@ -198,7 +230,7 @@ impl<L: Ledger> Session<L> {
     // Opens the program, of which so many procedures are new.
     fn open_program(&mut self, program: OpenProgram, rebuilt: u64) -> Result<Reply, AllocError>
         requires { HasRoom self.old }
-        ensures line { (r : asked.Request) (m : typed_module) → IsModuleOf self.old.state.decls m → rebuilt ≡ rebuilt_of (built m) program.typed → Asks self.old.state.decls r (taken program) → Line self.old.turns 0 self.old.state (Ok r) (reply_of result) self.new.state }
+        ensures answered { (r : asked.Request) (m : typed_module) → IsModuleOf self.old.state.decls m → rebuilt ≡ rebuilt_of (built m) program.typed → Asks self.old.state.decls r (taken program) → IsAnswered self.old (Ok r) (reply_of result) self.new }
         ensures later { IsLater self.old self.new }
     {
         let reply = open_goals(
@@ -209,51 +241,65 @@ impl<L: Ledger> Session<L> {
             self.turns,
         )?;
         self.opened = program;
+        self.version += 1;
         Ok(reply)
     }
 
     // How many goals are answered.
-    fn status(&self) -> Reply
-        ensures { Line self.now.turns 0 self.now.state (Ok asked.status) (reply_view result) self.now.state }
+    fn status(&mut self) -> Reply
+        ensures answered { IsAnswered self.old (Ok asked.status) (reply_view result) self.new }
+        ensures later { IsLater self.old self.new }
     {
         let seen = self.board.look();
         Reply::Status {
             done: seen.done,
             pending: seen.pending,
-            version: seen.version,
+            version: self.version,
         }
     }
 
     // The report, once each goal is answered.
     fn report(&mut self) -> Result<Reply, AllocError>
         requires { HasRoom self.old }
-        ensures line { Line self.old.turns 0 self.old.state (Ok asked.report) (reply_of result) self.new.state }
+        ensures answered { IsAnswered self.old (Ok asked.report) (reply_of result) self.new }
         ensures later { IsLater self.old self.new }
     {
         self.opened.has_module();
-        report_goals(self.alloc, &mut self.board, &self.opened, self.turns)
+        report_goals(
+            self.alloc,
+            &mut self.board,
+            &self.opened,
+            self.turns,
+            self.version,
+        )
     }
 
     // The proofs, once each goal is answered.
     fn proofs(&mut self) -> Result<Reply, AllocError>
         requires { HasRoom self.old }
-        ensures line { Line self.old.turns 0 self.old.state (Ok asked.proofs) (reply_of result) self.new.state }
+        ensures answered { IsAnswered self.old (Ok asked.proofs) (reply_of result) self.new }
         ensures later { IsLater self.old self.new }
     {
         self.opened.has_module();
-        prove_goals(self.alloc, &mut self.board, &self.opened, self.turns)
+        prove_goals(
+            self.alloc,
+            &mut self.board,
+            &self.opened,
+            self.turns,
+            self.version,
+        )
     }
 
     // The checksums.
     fn sums(&self) -> Result<Reply, AllocError>
-        ensures { Line self.now.turns 0 self.now.state (Ok asked.sums) (reply_of result) self.now.state }
+        ensures { IsAnswered self.now (Ok asked.sums) (reply_of result) self.now }
     {
         let opened = &self.opened;
         opened.has_module();
         let lines = sum_lines(self.alloc, opened.typed(), opened.program(), opened.procs())?;
         Ok(Reply::Sums {
             lines,
-            version: self.board.look().version,
+            version: self.version,
         })
     }
 }

@@ -1,8 +1,12 @@
-use Rattle.std.proofs.Common.{◌∙◌, subst, ℕ}
-use Rattle.request_text.specs.ReplyView.{reply_view}
-use Rattle.edit_session.specs.Told.{IsOpened}
+use Rattle.std.proofs.Common.{◌∙◌}
+use Rattle.goal_board.proofs.ByItself.{on_any_err}
 use Rattle.edit_session.proofs.Programs.{procs_are}
+use Rattle.edit_session.proofs.Revised.{as_many_new}
+use Rattle.edit_session.proofs.Unchanged.{undone_none}
 use Rattle.edit_session.proofs.revising.reopen.Goals as goal
+
+pub returns-in_err-new-clause-board : goal.returns-in_err-new-clause-board
+returns-in_err-new-clause-board g c = on_any_err c.from_residual.result (undone_none _ _ _)
 
 pub returns-clause-opened : goal.returns-clause-opened
 returns-clause-opened g c =
@@ -11,5 +15,5 @@ returns-clause-opened g c =
     record {
       within = new.within;
       are_built = new.goals;
-      opened = subst (λ (n : ℕ). IsOpened c.args.turns m n c.args.board.now c.open_goals.new.board (reply_view c.in_ok-reply.reply)) (c.rebuilt.ensures ∙ new.rebuilt) (c.in_ok-reply.ensures.opened m (procs_are m c.procs.result.now (c.procs.ensures ∙ new.goals)));
+      opened = as_many_new _ _ _ _ _ c.args.turns m _ _ _ (c.rebuilt.ensures ∙ new.rebuilt) (c.in_ok-reply.ensures.opened m (procs_are m c.procs.result.now (c.procs.ensures ∙ new.goals)));
     }

@@ -1,22 +1,38 @@
-use Rattle.edit_session.proofs.OnePut.{put_goes, put_later, put_same, put_ready}
+use Rattle.std.proofs.Common.{sym, subst}
+use Rattle.std.specs.Prelude.{slice_set}
+use Rattle.edit_session.specs.Kept.{HasRoom}
+use Rattle.edit_session.proofs.OnePut.{put_goes, unput_same, unput_ready}
+use Rattle.edit_session.proofs.Sessions.{session, opened_later, opened_ready}
+use Rattle.edit_session.proofs.Unchanged.{board_room}
 use Rattle.edit_session.proofs.session.Session.put.Goals as goal
+
+pub revise-requires-clause-room : goal.revise-requires-clause-room
+revise-requires-clause-room g c =
+    let i = c.self.inside in
+    let room : HasRoom (session i.turns _ i.opened.decls i.version _ _) = subst HasRoom (sym c.self.view_is) c.requires.room in
+    board_room i.turns _ i.version i.opened.typed _ c.self.invariant room.version
 
 pub invariant_of-self : goal.invariant_of-self
 invariant_of-self g c =
     let i = c.self.inside in
-    put_ready i.turns i.opened c.revise.new.self i.board c.revise.new.board c.revise.result c.self.invariant c.revise.ensures.opened c.revise.ensures.same c.revise.ensures.board
+    opened_ready i.turns _ _ c.revise.new.self i.version _ _ _ _ _ c.self.invariant.version c.in-Some.ensures.opened c.self.invariant.unclosed
 
-pub returns-clause-line : goal.returns-clause-line
-returns-clause-line g c =
+pub invariant_of-self-in-None : goal.invariant_of-self-in-None
+invariant_of-self-in-None g c =
     let i = c.self.inside in
-    rw (← c.self.view_is) (put_goes i.turns i.opened c.revise.new.self i.board c.revise.new.board c.revise.result _ c.has_module.ensures c.revise.ensures.decls c.revise.ensures.is_module c.revise.ensures.opened)
+    unput_ready i.turns _ i.opened c.revise.new.self i.version _ _ _ _ c.self.invariant c.in-None.ensures.same c.in-None.ensures.board
 
-pub returns-clause-later : goal.returns-clause-later
-returns-clause-later g c =
+pub returns-in-Some-clause-answered : goal.returns-in-Some-clause-answered
+returns-in-Some-clause-answered g c =
     let i = c.self.inside in
-    rw (← c.self.view_is) (put_later i.turns i.opened c.revise.new.self i.board c.revise.new.board c.revise.result c.revise.ensures.opened)
+    rw (← c.self.view_is) (put_goes i.turns _ i.opened c.revise.new.self i.version _ _ _ _ _ (slice_set i.opened.decls c.args.replacement.at c.args.replacement.decl) c.self.invariant.version c.has_module.ensures c.in-Some.ensures.decls c.in-Some.ensures.is_module c.in-Some.ensures.opened)
 
-pub returns-clause-same : goal.returns-clause-same
-returns-clause-same g c =
+pub returns-in-Some-clause-later : goal.returns-in-Some-clause-later
+returns-in-Some-clause-later g c =
     let i = c.self.inside in
-    rw (← c.self.view_is) (put_same i.turns i.opened c.revise.new.self i.board c.revise.new.board c.revise.result c.revise.ensures.same c.revise.ensures.board)
+    rw (← c.self.view_is) (opened_later i.turns _ _ c.revise.new.self i.version _ _ _ _ _ c.self.invariant.version c.in-Some.ensures.opened i.opened.decls)
+
+pub returns-in-None-clause-same : goal.returns-in-None-clause-same
+returns-in-None-clause-same g c =
+    let i = c.self.inside in
+    rw (← c.self.view_is) (unput_same i.turns _ i.opened c.revise.new.self i.version _ _ _ _ c.in-None.ensures.same c.in-None.ensures.board)

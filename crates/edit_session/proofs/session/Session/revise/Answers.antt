@@ -5,6 +5,7 @@ use Rattle.request_text.specs.RequestView.{request_view}
 use Rattle.program_edits.specs.Edited.{IsEdited, edited}
 use Rattle.program_edits.specs.declared.replaced.Replacement.{Replacement}
 use Rattle.edit_session.specs.Kept.{Session}
+use Rattle.edit_session.proofs.Unchanged.{unchanged_none}
 use Rattle.edit_session.proofs.EditedWritten.{edited_written, numbers_stay}
 use Rattle.edit_session.proofs.session.Session.revise.Goals as goal
 
@@ -19,3 +20,6 @@ put-requires-clause-written g c =
     let is = subst (λ o. IfSome o (λ (x : Replacement). IsEdited old request (edited (slice_set old x.at x.decl)))) c.in-Ok-Some.field-0-is c.in-Ok-Some.ensures.edited in
     let written = edited_written old (slice_set old r.at r.decl) request is (subst (AreWrittenDecls 0) (sym c.decls.ensures.decls) c.decls.ensures.written) in
     subst (λ ds. AreWrittenDecls 0 (slice_set ds r.at r.decl)) (c.decls.ensures.decls ∙ ap (λ (s : Session). s.state.decls) c.self.view_is) written
+
+pub returns-in-Ok-None-clause-same : goal.returns-in-Ok-None-clause-same
+returns-in-Ok-None-clause-same g c = unchanged_none _
