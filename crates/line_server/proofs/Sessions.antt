@@ -36,7 +36,7 @@ goes_further limit buffer new rest later line r =
     let g = r.gives in
     omega (arith, first_shorter limit (buffer.ahead ++ g.bytes) new.ahead later line g.first r.there, g.counted, length-append buffer.ahead g.bytes)
 
-module _ {V : Type 0} (replies : V → List ℕ → V → List ℕ → Bool → Type 0) where
+module _ {V : Type 0} (replies : V → List ℕ → V → List ℕ → Bool → Type 0) (fails : V → List ℕ → V → Type 0) where
   -- one more line
   pub answers_more : (xs : List Exchange) (a b c : V) (x : Exchange) (is_last : Bool) → Answers replies a xs b false → replies b x.line c x.reply is_last → Answers replies a (xs ++ x ∷ []) c is_last
   answers_more [] a b c x true none r = last x r
@@ -218,8 +218,8 @@ module _ {V : Type 0} (replies : V → List ℕ → V → List ℕ → Bool → 
 
     -- what serving a line says
     pub record IsServedLine {U : Type 0} (longest : ℕ) (now new : V) (held₁ held₂ : Option (List ℕ)) (line : Line) (result : Result U Ending) : Type 0 where
-      pub exchanged : HasBytes line → (bytes : List ℕ) → IsLine longest bytes line → IsExchange replies now new bytes held₁ held₂ result
-      pub passed : ¬ HasBytes line → IsPassed replies now new [] held₁ held₂ result
+      pub exchanged : HasBytes line → (bytes : List ℕ) → IsLine longest bytes line → IsExchange replies fails now new bytes held₁ held₂ result
+      pub passed : ¬ HasBytes line → IsPassed replies fails now new [] held₁ held₂ result
       pub count : HasBytes line → OnOk result ((n : ℕ) → counts now n → counts new (n + 1))
 
     pub line_served : {U : Type 0} (limit : ℕ) (now new : V) (buffer : Buffer) (rest held₁ held₂ : Option (List ℕ)) (line : Line) (u : U) → IsInHand limit now buffer rest held₁ line → IsServedLine limit now new held₁ held₂ line (Ok u) → IsServing new buffer rest held₂
@@ -243,7 +243,7 @@ module _ {V : Type 0} (replies : V → List ℕ → V → List ℕ → Bool → 
     -- ---- endings
 
     done_last : (limit : ℕ) (now new : V) (buffer : Buffer) (rest held₁ held₂ : Option (List ℕ)) (line : Line) (i : IsInHand limit now buffer rest held₁ line) → HasBytes line
-        → (text : List ℕ) → replies now i.bytes new text true → Adds held₁ held₂ text → IsDone replies total old new left rest held held₂
+        → (text : List ℕ) → replies now i.bytes new text true → Adds held₁ held₂ text → IsDone replies fails total old new left rest held held₂
     done_last limit now new buffer rest held₁ held₂ line i some text r w =
         let x : Exchange = record { line = i.bytes; reply = text } in
         let a = i.at in
@@ -256,7 +256,7 @@ module _ {V : Type 0} (replies : V → List ℕ → V → List ℕ → Bool → 
         }
 
     broken_by : (limit : ℕ) (now new : V) (buffer : Buffer) (rest held₁ held₂ : Option (List ℕ)) (line : Line) (i : IsInHand limit now buffer rest held₁ line) → HasBytes line
-        → (text : List ℕ) (is_last : Bool) (n : ℕ) → replies now i.bytes new text is_last → n < length text → Adds held₁ held₂ (take n text) → IsBroken replies total old new left rest held held₂
+        → (text : List ℕ) (is_last : Bool) (n : ℕ) → replies now i.bytes new text is_last → n < length text → Adds held₁ held₂ (take n text) → IsBroken replies fails total old new left rest held held₂
     broken_by limit now new buffer rest held₁ held₂ line i some text is_last n r short w =
         let x : Exchange = record { line = i.bytes; reply = text } in
         let a = i.at in
@@ -271,33 +271,34 @@ module _ {V : Type 0} (replies : V → List ℕ → V → List ℕ → Bool → 
           written = Adds-more held held₁ held₂ (text_of a.exchanges) (take n text) a.written w;
         }
 
-    starved_by : (limit : ℕ) (now new : V) (buffer : Buffer) (rest held₁ held₂ : Option (List ℕ)) (line : Line) → IsInHand limit now buffer rest held₁ line → held₂ ≡ held₁ → IsStarved replies total old new left rest held held₂
-    starved_by limit now new buffer rest held₁ held₂ line i quiet =
+    starved_by : (limit : ℕ) (now new : V) (buffer : Buffer) (rest held₁ held₂ : Option (List ℕ)) (line : Line) (i : IsInHand limit now buffer rest held₁ line) → HasBytes line → (held₂ ≡ held₁) × fails now i.bytes new → IsStarved replies fails total old new left rest held held₂
+    starved_by limit now new buffer rest held₁ held₂ line i some quiet =
         let a = i.at in
         record {
           exchanges = a.exchanges;
           value = now;
+          ended_at = inr (i.bytes, quiet.1, are_first_with left rest a.taken a.given buffer.ahead i.bytes (lines_of a.exchanges) (has_bytes limit i.bytes line i.is some) a.takes a.split a.whole);
           answered = a.answered;
           first = a.first;
-          written = subst (λ (h : Option (List ℕ)). Adds held h (text_of a.exchanges)) (sym quiet) a.written;
+          written = subst (λ (h : Option (List ℕ)). Adds held h (text_of a.exchanges)) (sym quiet.0) a.written;
         }
 
     exchange_ends : (U : Type 0) (limit : ℕ) (now new : V) (buffer : Buffer) (rest held₁ held₂ : Option (List ℕ)) (line : Line) (ending : Ending) (i : IsInHand limit now buffer rest held₁ line) → HasBytes line
-        → IsExchange replies now new i.bytes held₁ held₂ {U = U} (Err ending) → Ends replies total old new left rest held held₂ ending
+        → IsExchange replies fails now new i.bytes held₁ held₂ {U = U} (Err ending) → Ends replies fails total old new left rest held held₂ ending
     exchange_ends U limit now new buffer rest held₁ held₂ line Done i some x =
         done_last limit now new buffer rest held₁ held₂ line i some x.text (subst (λ (b : Bool). replies now i.bytes new x.text b) (x.written).0 x.replied) (x.written).1
     exchange_ends U limit now new buffer rest held₁ held₂ line WriteFault i some x =
         broken_by limit now new buffer rest held₁ held₂ line i some x.text x.is_last (x.written).0 x.replied (x.written).1 (x.written).2
-    exchange_ends U limit now new buffer rest held₁ held₂ line Memory i some x = starved_by limit now new buffer rest held₁ held₂ line i x
+    exchange_ends U limit now new buffer rest held₁ held₂ line Memory i some x = starved_by limit now new buffer rest held₁ held₂ line i some x
     exchange_ends U limit now new buffer rest held₁ held₂ line ReadFault i some x = absurd x
     exchange_ends U limit now new buffer rest held₁ held₂ line Full i some x = absurd x
 
     -- a line that ends the session
     pub line_ends : {U : Type 0} (limit : ℕ) (now new : V) (buffer : Buffer) (rest held₁ held₂ : Option (List ℕ)) (line : Line) (ending : Ending) → IsInHand limit now buffer rest held₁ line → IsServedLine {U = U} limit now new held₁ held₂ line (Err ending)
-        → Ends replies total old new left rest held held₂ ending
+        → Ends replies fails total old new left rest held held₂ ending
     line_ends {U = U} limit now new buffer rest held₁ held₂ line ending i s = by (bytes_or_none limit i.bytes line i.is)
       where
-        by : HasBytes line ⊎ ((¬ HasBytes line) × (i.bytes ≡ [])) → Ends replies total old new left rest held held₂ ending
+        by : HasBytes line ⊎ ((¬ HasBytes line) × (i.bytes ≡ [])) → Ends replies fails total old new left rest held held₂ ending
         by (inl some) = exchange_ends U limit now new buffer rest held₁ held₂ line ending i some (s.exchanged some i.bytes i.is)
         by (inr empty) = absurd (s.passed empty.0).goes_on
 
@@ -307,11 +308,11 @@ module _ {V : Type 0} (replies : V → List ℕ → V → List ℕ → Bool → 
     never_read {U = U} limit now new buffer rest held₁ held₂ line ending i s is = by (bytes_or_none limit i.bytes line i.is)
       where
         by : HasBytes line ⊎ ((¬ HasBytes line) × (i.bytes ≡ [])) → ⊥
-        by (inl some) = subst (λ (e : Ending). IsExchange replies now new i.bytes held₁ held₂ {U = U} (Err e)) is (s.exchanged some i.bytes i.is)
+        by (inl some) = subst (λ (e : Ending). IsExchange replies fails now new i.bytes held₁ held₂ {U = U} (Err e)) is (s.exchanged some i.bytes i.is)
         by (inr empty) = (s.passed empty.0).goes_on
 
     -- nothing was read
-    pub done_all : (limit : ℕ) (now : V) (buffer new : Buffer) (rest later held' : Option (List ℕ)) → IsServing now buffer rest held' → Gives limit buffer new rest later End → IsDone replies total old now left later held held'
+    pub done_all : (limit : ℕ) (now : V) (buffer new : Buffer) (rest later held' : Option (List ℕ)) → IsServing now buffer rest held' → Gives limit buffer new rest later End → IsDone replies fails total old now left later held held'
     done_all limit now buffer new rest later held' s g = record {
       exchanges = s.exchanges;
       is_last = false;
@@ -320,7 +321,7 @@ module _ {V : Type 0} (replies : V → List ℕ → V → List ℕ → Bool → 
       written = s.written;
     }
 
-    stopped : (limit : ℕ) (now : V) (buffer new : Buffer) (rest later held' : Option (List ℕ)) → IsServing now buffer rest held' → buffer.total ≡ total → IsRefused limit buffer new rest later Failed → IsStopped replies total old now left later held held'
+    stopped : (limit : ℕ) (now : V) (buffer new : Buffer) (rest later held' : Option (List ℕ)) → IsServing now buffer rest held' → buffer.total ≡ total → IsRefused limit buffer new rest later Failed → IsStopped replies fails total old now left later held held'
     stopped limit now buffer new rest later held' s same r = record {
       exchanges = s.exchanges;
       answered = s.answered;
@@ -331,7 +332,7 @@ module _ {V : Type 0} (replies : V → List ℕ → V → List ℕ → Bool → 
       written = s.written;
     }
 
-    filled : (limit : ℕ) (now : V) (buffer new : Buffer) (rest later held' : Option (List ℕ)) → IsServing now buffer rest held' → buffer.total ≡ total → buffer.taken ≤ total → IsRefused limit buffer new rest later Exceeded → IsFull replies total old now left later held held'
+    filled : (limit : ℕ) (now : V) (buffer new : Buffer) (rest later held' : Option (List ℕ)) → IsServing now buffer rest held' → buffer.total ≡ total → buffer.taken ≤ total → IsRefused limit buffer new rest later Exceeded → IsFull replies fails total old now left later held held'
     filled limit now buffer new rest later held' s same within r =
         let exact : length (s.taken ++ r.bytes) ≡ total + 1 = omega (arith, r.upto, same, s.counted, length-append s.taken r.bytes) in
         record {
@@ -344,10 +345,11 @@ module _ {V : Type 0} (replies : V → List ℕ → V → List ℕ → Bool → 
           written = s.written;
         }
 
-    starved : (now : V) (buffer : Buffer) (rest later held' : Option (List ℕ)) → IsServing now buffer rest held' → IsStarved replies total old now left later held held'
+    starved : (now : V) (buffer : Buffer) (rest later held' : Option (List ℕ)) → IsServing now buffer rest held' → IsStarved replies fails total old now left later held held'
     starved now buffer rest later held' s = record {
       exchanges = s.exchanges;
       value = now;
+      ended_at = inl refl;
       answered = s.answered;
       first = are_first left rest s.taken s.given buffer.ahead (lines_of s.exchanges) s.takes s.split s.whole;
       written = s.written;
@@ -355,7 +357,7 @@ module _ {V : Type 0} (replies : V → List ℕ → V → List ℕ → Bool → 
 
     -- why the session ends without a line
     pub none_ends : (limit : ℕ) (now : V) (buffer new : Buffer) (rest later held' : Option (List ℕ)) (ending : Ending) → IsServing now buffer rest held' → buffer.total ≡ total → buffer.taken ≤ total → HasNone limit buffer new rest later ending
-        → Ends replies total old now left later held held' ending
+        → Ends replies fails total old now left later held held' ending
     none_ends limit now buffer new rest later held' Done s same within g = done_all limit now buffer new rest later held' s g
     none_ends limit now buffer new rest later held' ReadFault s same within r = stopped limit now buffer new rest later held' s same r
     none_ends limit now buffer new rest later held' Full s same within r = filled limit now buffer new rest later held' s same within r

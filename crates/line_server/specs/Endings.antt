@@ -27,7 +27,7 @@ AreWhole taken left' ls = (asked (ended_lines taken) ≡ ls) ⊎ (IsEnd left' ×
 abbrev pub TakesWithin : ℕ → Option (List ℕ) → Option (List ℕ) → Type 0
 TakesWithin total left left' = (taken : List ℕ) × (length taken ≤ total) × Takes left left' taken
 
-module _ {V : Type 0} (replies : V → List ℕ → V → List ℕ → Bool → Type 0) (total : ℕ) (old new : V) (left left' held held' : Option (List ℕ)) where
+module _ {V : Type 0} (replies : V → List ℕ → V → List ℕ → Bool → Type 0) (fails : V → List ℕ → V → Type 0) (total : ℕ) (old new : V) (left left' held held' : Option (List ℕ)) where
   -- every line is answered, up to the end or to a last reply
   pub record IsDone : Type 0 where
     pub exchanges : List Exchange
@@ -67,10 +67,11 @@ module _ {V : Type 0} (replies : V → List ℕ → V → List ℕ → Bool → 
     pub short : written_of < length broken.reply
     pub written : Adds held held' (text_of exchanges ++ take written_of broken.reply)
 
-  -- the first lines are answered
+  -- the first lines are answered; and then there was no memory for a line, or for the reply to the one behind them
   pub record IsStarved : Type 0 where
     pub exchanges : List Exchange
     pub value : V
+    pub ended_at : (new ≡ value) ⊎ ((line : List ℕ) × fails value line new × AreFirst left (lines_of exchanges ++ line ∷ []))
     pub answered : Answers replies old exchanges value false
     pub first : AreFirst left (lines_of exchanges)
     pub written : Adds held held' (text_of exchanges)
