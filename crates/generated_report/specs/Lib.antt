@@ -1,1 +1,3 @@
 pub mod Summary
+pub mod Questions
+pub mod Worth

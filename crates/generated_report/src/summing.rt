@@ -1,11 +1,14 @@
 // The summary line.
-ghost use Rattle.std.specs.Prelude.{◌≡◌, ◌++◌, map, length, decimal, IfOk, OnOk};
+ghost use Rattle.std.specs.Prelude.{◌≡◌, ◌≢◌, ◌++◌, map, length, decimal, IfOk, OnOk, OnErr};
 ghost use Rattle.std.specs.List.{list_all};
 ghost use Rattle.tableau.specs.RunView.{verdict_of};
 ghost use Rattle.tableau.specs.Search.{is_proved};
 ghost use Rattle.generated_report.specs.Summary.{drawn_part, verdicts_part, summary, verdicts_on};
+ghost use Rattle.generated_report.specs.Questions.{AreAnswered, AreStarved};
 
+use crate::answering::verdicts_by;
 use crate::counts::{number_of, verdicts_on};
+use goal_board::GoalBoard;
 use itoa::Buffer;
 use program_opening::ProcGoals;
 use report_text::all_proved;
@@ -67,6 +70,17 @@ fn line(alloc: Global, drawn: Drawn, verdicts: &[Verdict]) -> Result<Vec<u8>, Al
     Ok(out)
 }
 
+// The summary of these verdicts.
+fn sum_verdicts(alloc: Global, drawn: Drawn, verdicts: &[Verdict]) -> Result<Summary, AllocError>
+    ensures line { IfOk result (λ s. s.line.items ≡ summary drawn.seed drawn.size drawn.bytes (map verdict_of verdicts.now)) }
+    ensures all { IfOk result (λ s. s.all_proved ≡ list_all is_proved (map verdict_of verdicts.now)) }
+{
+    Ok(Summary {
+        line: line(alloc, drawn, verdicts)?,
+        all_proved: all_proved(verdicts),
+    })
+}
+
 /// The summary of what was generated, by the goals of its procedures: how many there are, and of how
 /// many the search says in so many turns that they are proved, open, out of turns or too wide.
 pub fn sum_up(
@@ -79,8 +93,29 @@ pub fn sum_up(
     ensures all { IfOk result (λ s. s.all_proved ≡ list_all is_proved (verdicts_on turns procs.now)) }
 {
     let verdicts = verdicts_on(alloc, procs, turns)?;
-    Ok(Summary {
-        line: line(alloc, drawn, &verdicts)?,
-        all_proved: all_proved(&verdicts),
-    })
+    sum_verdicts(alloc, drawn, &verdicts)
+}
+
+/// The same summary, made of the answers that a board shows which is shared with workers: the goals are
+/// opened on it, and then settled, by whomever.
+pub fn sum_up_on<B: GoalBoard>(
+    alloc: Global,
+    drawn: Drawn,
+    board: &mut B,
+    procs: &[ProcGoals],
+    turns: u64,
+) -> Result<Summary, AllocError>
+    requires shared { B.workers ≢ 0 }
+    ensures line { IfOk result (λ s. s.line.items ≡ summary drawn.seed drawn.size drawn.bytes (verdicts_on turns procs.now)) }
+    ensures all { IfOk result (λ s. s.all_proved ≡ list_all is_proved (verdicts_on turns procs.now)) }
+    ensures calls { OnOk result (AreAnswered turns procs.now (B.noted board.old) (B.noted board.new)) }
+    ensures memory { OnErr result (AreStarved turns procs.now (B.noted board.old) (B.noted board.new)) }
+{
+    match verdicts_by(alloc, board, procs, turns) {
+        Err(error) => Err(error),
+        Ok(verdicts) => match sum_verdicts(alloc, drawn, &verdicts) {
+            Err(error) => Err(error),
+            Ok(found) => Ok(found),
+        },
+    }
 }
