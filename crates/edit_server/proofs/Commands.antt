@@ -8,7 +8,7 @@ use Rattle.recheck_report.specs.Worth.{AcceptedIsSafe}
 use Rattle.program_opening.specs.Laws.{ModulesAreSound}
 use Rattle.smoke_report.specs.Sound.{UnreachableIsUnreached}
 use Rattle.edit_server.specs.declared.status.Status.{Status}
-use Rattle.edit_server.specs.Built.{answers_text}
+use Rattle.edit_server.specs.Modes.{answers_text}
 use Rattle.edit_server.specs.Answer.{IsAnswerOf, IsCheck, IsRecheck, IsSmoke}
 use Rattle.edit_server.specs.Worth.{IsWorth}
 use Rattle.edit_server.specs.Run.{IsAnswer}

@@ -4,7 +4,7 @@ use Rattle.std.specs.Prelude.{codes, decimal}
 use Rattle.std.proofs.lemmas.List.{length-append}
 use Rattle.std.proofs.lemmas.Fmt.{length-decimal-le}
 use Rattle.request_text.specs.Generated.{next_state, state_after, drawn, name_text, contract_text, loop_text, procedure_text, generate}
-use Rattle.command_words.specs.declared.options.TheConstants.{MOST_SIZE}
+use Rattle.command_words.specs.Limits.{most_size}
 
 both : (xs ys : List ℕ) (m n : ℕ) → length xs ≤ m → length ys ≤ n → length (xs ++ ys) ≤ m + n
 both xs ys m n a b = omega (arith, length-append xs ys, a, b)
@@ -47,12 +47,12 @@ procedure_short k a b h i j =
     let front = both (name_text k) (contract_text a (a + b)) 41 43 (name_short k h) (contract_short a (a + b) (omega (arith, i)) (omega (arith, i, j))) in
     both (name_text k ++ contract_text a (a + b)) (loop_text b) 84 216 front (loop_short b (omega (arith, j)))
 
-grows : (seed n : ℕ) → n ≤ MOST_SIZE → length (generate seed n) ≤ 300 * n
+grows : (seed n : ℕ) → n ≤ most_size → length (generate seed n) ≤ 300 * n
 grows seed zero h = omega arith
 grows seed (suc k) h =
     let a = drawn (next_state (state_after seed (2 * k))) in
     let b = drawn (next_state (next_state (state_after seed (2 * k)))) in
     omega (arith, grows seed k (omega (arith, h)), length-append (generate seed k) (procedure_text k a b), procedure_short k a b (omega (arith, h)) (small _) (small _))
 
-pub generated_is_short : (seed size : ℕ) → size ≤ MOST_SIZE → length (generate seed size) < 2 ^ 32 - 1
+pub generated_is_short : (seed size : ℕ) → size ≤ most_size → length (generate seed size) < 2 ^ 32 - 1
 generated_is_short seed size h = omega (arith, h, grows seed size h)

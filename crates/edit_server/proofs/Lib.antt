@@ -2,7 +2,7 @@ mod LineLengths
 mod GeneratedLengths
 mod Unread
 mod Ends
-mod BuiltCommands
+mod ReadCommands
 mod Worth
 mod Answering
 mod Commands
@@ -10,3 +10,11 @@ mod OneAnswer
 mod Generating
 mod TextModes
 mod SessionEnds
+mod GeneratedCalls
+mod FirstLines
+mod SessionWorth
+mod SummaryWorth
+mod Starving
+mod Runs
+mod Shared
+mod Summaries

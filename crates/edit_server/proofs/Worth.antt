@@ -1,19 +1,11 @@
 -- What an answer is worth, from what it is.
-use Rattle.std.specs.Prelude.{option_map}
-use Rattle.std.proofs.Common.{◌≡◌, ◌∙◌, ℕ, inl, inr, List, Option, Some, None, get_or, refl, sym, ap, subst, arith}
-use Rattle.bv_base.specs.declared.place.Place.{Place}
-use Rattle.bpl_ast.specs.Statement.{Decl}
+use Rattle.std.proofs.Common.{◌≡◌, ◌∙◌, ℕ, inl, inr, List, Option, Some, None, get_or, sym, ap, subst, arith}
 use Rattle.bpl_model.specs.Module.{Module}
-use Rattle.bpl_scopes.specs.declared.fault.Fault.{Fault}
-use Rattle.bpl_declaration_faults.specs.DeclFaults.{fault_of}
-use Rattle.bpl_sorts.specs.Erased.{erased, told_apart}
-use Rattle.module_laws.specs.Elaborated.{IsElaborated}
-use Rattle.module_laws.specs.Elaborate.{module_of}
 use Rattle.program_opening.specs.ProcGoals.{goals_by_proc}
 use Rattle.program_opening.specs.Opening.{Opening, program, refused, Opens}
 use Rattle.program_opening.specs.Laws.{ModulesAreSound}
-use Rattle.program_opening.proofs.Openings.{program_of}
 use Rattle.check_report.specs.Called.{CallsCorrectTheSafe}
+use Rattle.check_report.proofs.Programs.{opens_as}
 use Rattle.check_report.specs.Sound.{CorrectIsSafe}
 use Rattle.recheck_report.specs.Accepted.{accepted_line}
 use Rattle.recheck_report.specs.Recheck.{heads, Rechecks}
@@ -28,18 +20,10 @@ use Rattle.edit_server.specs.Answer.{IsCheck, IsReportOn, IsRecheck, IsReviewOn,
 use Rattle.edit_server.specs.Worth.{IsProgram, IsCorrectSafe, IsAcceptedSafe, IsNamedUnreached}
 use Rattle.edit_server.proofs.Ends.{same_line}
 
-no_fault : (o : Option (ℕ × Fault)) → option_map {U = ℕ × Place} (λ (p : ℕ × Fault). (p.0, p.1.at)) o ≡ None → o ≡ None
-no_fault None e = refl
-no_fault (Some p) e = absurd (cc)
-
-is_elaborated : (ds : List Decl) (m : Module) → m ≡ module_of ds → IsElaborated ds m
-is_elaborated ds m e = record { consts = λ i. (e i).consts; axioms = λ i. (e i).axioms; functions = λ i. (e i).functions; globals = λ i. (e i).globals; procs = λ i. (e i).procs }
-
 -- a text that is a program, and not a fault, spells it, and it has no fault by names and types
 pub is_program : (text : List ℕ) (m : Module) → Opens text (program m) → IsProgram text m
 is_program text m (inl s) =
-    let found = program_of s.decls m s.is in
-    record { decls = s.decls; spelled = s.spelled; faultless = found.0; told = no_fault (fault_of (told_apart s.decls)) found.2; is = is_elaborated (erased s.decls) m found.1 }
+    record { decls = s.decls; spelled = s.spelled; is_program = opens_as s.decls m s.is }
 is_program text m (inr f) = absurd (let never = f.is in cc)
 
 of_report : CorrectIsSafe → (turns : ℕ) (text written : List ℕ) (status : Status) (o : Opening) → Opens text o → IsReportOn turns o written status → IsCorrectSafe text written status

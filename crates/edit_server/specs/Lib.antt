@@ -1,9 +1,13 @@
 pub mod Limits
 pub mod Exit
-pub mod Built
+pub mod Modes
 pub mod Answer
 pub mod Generated
 pub mod Worth
 pub mod Run
+pub mod SessionWorth
+pub mod SummaryWorth
 pub mod Session
+pub mod Ran
+pub mod Shared
 pub mod Laws

@@ -1,11 +1,12 @@
--- What a run of the program does, by what its source has left and its sink holds before and after, where they tell it.
-use Rattle.std.specs.Prelude.{◌≡◌, ℕ, ◌+◌, ◌<◌, ◌≤◌, List, length, take, codes, Option, Some, None}
+-- What a run of the program writes, by what its source has left and its sink holds before and after, where they tell it.
+use Rattle.std.specs.Prelude.{◌≡◌, ◌≢◌, ℕ, ◌+◌, ◌<◌, ◌≤◌, List, length, take, codes, Option, Some, None}
 use Rattle.bv_base.specs.Known.{Takes, Adds, IsEnd}
 use Rattle.command_words.specs.declared.command.Command.{Command}
+use Rattle.goal_board.specs.Calls.{BoardCall}
 use Rattle.edit_server.specs.Answer.{IsAnswerOf}
-use Rattle.edit_server.specs.Generated.{IsGenerated}
+use Rattle.edit_server.specs.Generated.{IsGenerated, AnswerCalls}
 use Rattle.edit_server.specs.Worth.{IsWorth}
-use Rattle.edit_server.specs.declared.command.TheConstants.{TOTAL}
+use Rattle.edit_server.specs.Limits.{program_total}
 use Rattle.edit_server.specs.declared.status.Status.{Status}
 
 abbrev pub usage_line : List ℕ
@@ -22,22 +23,22 @@ pub record Answered (command : Command) (left left' held held' : Option (List �
   pub written : List ℕ
   pub taken : Takes left left' text
   pub to_the_end : IsEnd left'
-  pub short : length text ≤ TOTAL
+  pub short : length text ≤ program_total
   pub added : Adds held held' written
   pub is_answer : IsAnswer command text written status
 
 -- the total was taken, and a further byte was read
 abbrev pub IsFull : Option (List ℕ) → Option (List ℕ) → Type 0
-IsFull left left' = (taken : List ℕ) × (length taken ≡ TOTAL + 1) × Takes left left' taken
+IsFull left left' = (taken : List ℕ) × (length taken ≡ program_total + 1) × Takes left left' taken
 
 -- no more than the total was taken
 abbrev pub IsWithin : Option (List ℕ) → Option (List ℕ) → Type 0
-IsWithin left left' = (taken : List ℕ) × (length taken ≤ TOTAL) × Takes left left' taken
+IsWithin left left' = (taken : List ℕ) × (length taken ≤ program_total) × Takes left left' taken
 
 -- it is told what is left, and that is no more than the total
 abbrev pub IsShort : Option (List ℕ) → Type 0
 IsShort None = ⊥
-IsShort (Some bytes) = length bytes ≤ TOTAL
+IsShort (Some bytes) = length bytes ≤ program_total
 
 -- some front of what was to be written was written
 abbrev pub WroteFront : Option (List ℕ) → Option (List ℕ) → List ℕ → Type 0
@@ -50,19 +51,21 @@ pub record Broken (command : Command) (left left' held held' : Option (List ℕ)
   pub status : Status
   pub taken : Takes left left' text
   pub to_the_end : IsEnd left'
-  pub short : length text ≤ TOTAL
+  pub short : length text ≤ program_total
   pub front : WroteFront held held' written
   pub is_answer : IsAnswer command text written status
 
--- nothing was read, and the summary of the generated program was written
-pub record Generated (command : Command) (held held' : Option (List ℕ)) (status : Status) : Type 0 where
+-- the summary of the generated program was written; with workers, it was made by these calls
+pub record Generated (command : Command) (calls : List BoardCall) (held held' : Option (List ℕ)) (status : Status) : Type 0 where
   pub written : List ℕ
   pub added : Adds held held' written
   pub is_answer : IsGenerated command.turns command.seed command.size written status
+  pub made : command.workers ≢ 0 → AnswerCalls command.turns is_answer.opening calls
 
--- nothing was read, and a front of it was written
-pub record BrokenSummary (command : Command) (held held' : Option (List ℕ)) : Type 0 where
+-- a front of it was written
+pub record BrokenSummary (command : Command) (calls : List BoardCall) (held held' : Option (List ℕ)) : Type 0 where
   pub written : List ℕ
   pub status : Status
   pub front : WroteFront held held' written
   pub is_answer : IsGenerated command.turns command.seed command.size written status
+  pub made : command.workers ≢ 0 → AnswerCalls command.turns is_answer.opening calls

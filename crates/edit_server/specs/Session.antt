@@ -1,27 +1,28 @@
--- What a run of the mode that serves a session is, by its status: which lines of its input are answered, what is written, and what the reports are worth.
+-- What a run of the mode that serves a session is, by its status: which lines of its input are answered, what is written, by which calls on a board that is shared with workers, and what the reports are worth.
 use Rattle.std.specs.Prelude.{ℕ, ◌≤◌, List, length, Option, Some, None}
+use Rattle.goal_board.specs.Calls.{BoardCall}
 use Rattle.line_server.specs.declared.serving.Ending.{Ending}
 use Rattle.line_server.specs.declared.serving.Ending.TheVariants as ending
 use Rattle.session_lines.specs.Served.{AnswersAll, AnswersWhole, Exceeds, Breaks, Starves}
-use Rattle.session_lines.specs.declared.serving.TheConstants.{TOTAL}
+use Rattle.session_lines.specs.Limits.{session_total}
 use Rattle.edit_server.specs.declared.status.Status.{Status}
 use Rattle.edit_server.specs.declared.status.Status.TheVariants.{Done, NotAll, Usage, ReadFault, WriteFault, Memory, Refused, SessionFull}
 
 -- a session that ends is neither refused nor judged by its goals
-abbrev pub Served : ℕ → Option (List ℕ) → Option (List ℕ) → Option (List ℕ) → Option (List ℕ) → Status → Type 0
-Served turns left left' held held' Done = AnswersAll turns left left' held held'
-Served turns left left' held held' NotAll = ⊥
-Served turns left left' held held' Usage = ⊥
-Served turns left left' held held' ReadFault = AnswersWhole turns left left' held held'
-Served turns left left' held held' WriteFault = Breaks turns left left' held held'
-Served turns left left' held held' Memory = Starves turns left left' held held'
-Served turns left left' held held' Refused = ⊥
-Served turns left left' held held' SessionFull = Exceeds turns left left' held held'
+abbrev pub Served : ℕ → ℕ → List BoardCall → Option (List ℕ) → Option (List ℕ) → Option (List ℕ) → Option (List ℕ) → Status → Type 0
+Served turns workers calls left left' held held' Done = AnswersAll turns workers calls left left' held held'
+Served turns workers calls left left' held held' NotAll = ⊥
+Served turns workers calls left left' held held' Usage = ⊥
+Served turns workers calls left left' held held' ReadFault = AnswersWhole turns workers calls left left' held held'
+Served turns workers calls left left' held held' WriteFault = Breaks turns workers calls left left' held held'
+Served turns workers calls left left' held held' Memory = Starves turns workers calls left left' held held'
+Served turns workers calls left left' held held' Refused = ⊥
+Served turns workers calls left left' held held' SessionFull = Exceeds turns workers calls left left' held held'
 
 -- it is told what is left, and that is no more than a session takes
 abbrev pub IsSessionShort : Option (List ℕ) → Type 0
 IsSessionShort None = ⊥
-IsSessionShort (Some bytes) = length bytes ≤ TOTAL
+IsSessionShort (Some bytes) = length bytes ≤ session_total
 
 -- the status of each way in which a session ends
 abbrev pub status_of : Ending → Status

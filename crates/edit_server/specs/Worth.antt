@@ -1,28 +1,23 @@
 -- What an answer is worth, said by executions alone: procedures that it calls correct, or all of them where it says `accepted`, have no execution from an entry state that fails, and none comes to a point that it calls unreachable.
-use Rattle.std.specs.Prelude.{◌≡◌, ◌≢◌, ℕ, List, None, Contains, codes}
+use Rattle.std.specs.Prelude.{◌≡◌, ◌≢◌, ℕ, List, Contains, codes}
 use Rattle.bpl_ast.specs.Statement.{Decl}
 use Rattle.bpl_grammar.specs.Programs.{SpellsProgram}
-use Rattle.bpl_declaration_faults.specs.DeclFaults.{fault_of}
-use Rattle.bpl_sorts.specs.Erased.{erased, told_apart}
-use Rattle.module_laws.specs.Elaborated.{IsElaborated}
 use Rattle.bpl_model.specs.Module.{Proc, Module}
 use Rattle.bpl_model.specs.Safe.{Safe}
 use Rattle.command_words.specs.declared.command.Mode.{Mode}
 use Rattle.command_words.specs.declared.command.Mode.TheVariants.{Check, Serve, Recheck, Gen, Smoke}
 use Rattle.report_text.specs.Lines.{ended}
-use Rattle.check_report.specs.Called.{CallsCorrectTheSafe}
+use Rattle.check_report.specs.Called.{IsProgramOf, CallsCorrectTheSafe}
 use Rattle.proof_lines.specs.Program.{program_in}
 use Rattle.smoke_report.specs.Unreached.{NamesUnreached}
 use Rattle.edit_server.specs.declared.status.Status.{Status}
 use Rattle.edit_server.specs.declared.status.Status.TheVariants.{Refused}
 
--- the text spells a program without faults by names and types, and this is the module of its declarations without user types
+-- the text spells a program, and this is its module
 pub record IsProgram (text : List ℕ) (m : Module) : Type 0 where
   pub decls : List Decl
   pub spelled : SpellsProgram text decls
-  pub faultless : fault_of (erased decls) ≡ None
-  pub told : fault_of (told_apart decls) ≡ None
-  pub is : IsElaborated (erased decls) m
+  pub is_program : IsProgramOf decls m
 
 abbrev pub AllAreSafe : Module → Type 0
 AllAreSafe m = (p : Proc) → Contains m.procs p → Safe m p

@@ -2,7 +2,7 @@
 ghost use Rattle.std.specs.Prelude.{◌≡◌, ◌-◌, ◌^◌, ◌<◌, length, true, IfOk};
 ghost use Rattle.fault_text.specs.Written.{fault_line};
 ghost use Rattle.report_text.specs.Lines.{ended};
-ghost use Rattle.edit_server.specs.Built.{answers_text};
+ghost use Rattle.edit_server.specs.Modes.{answers_text};
 ghost use Rattle.bpl_goto.specs.Forward.{AllGoForward};
 ghost use Rattle.smoke_report.specs.Smoke.{points_large};
 ghost use Rattle.edit_server.specs.Answer.{done_if, IsCheck, IsRecheck, IsSmoke, IsSmokeWithin};
@@ -81,6 +81,7 @@ fn review(alloc: Global, text: &[u8]) -> Result<Answer, AllocError>
     requires { length text.now < 2 ^ 32 - 1 }
     ensures { IfOk result (λ a. IsRecheck text.now a.written.items a.status) }
 {
+    // A law, on which the clause rests; it does nothing.
     accepted_is_safe();
     let parts = cut(text);
     match open(alloc, parts.program)? {
@@ -114,6 +115,7 @@ fn smoke_test(alloc: Global, text: &[u8], turns: u64) -> Result<Answer, AllocErr
     requires { length text.now < 2 ^ 32 - 1 }
     ensures { IfOk result (λ a. IsSmoke turns text.now a.written.items a.status) }
 {
+    // A law, on which the clause rests; it does nothing.
     modules_are_sound();
     match open(alloc, text)? {
         Opened::Refused(fault) => refusal(alloc, &fault),
@@ -127,6 +129,7 @@ pub fn answer_to(alloc: Global, command: &Command, text: &[u8]) -> Result<Answer
     requires short { length text.now < 2 ^ 32 - 1 }
     ensures { IfOk result (λ a. IsAnswer command.now text.now a.written.items a.status) }
 {
+    // Laws, on which the clause rests; they do nothing.
     correct_is_safe();
     accepted_is_safe();
     unreachable_is_unreached();

@@ -1,25 +1,32 @@
 //! The call that the program makes.
-ghost use Rattle.std.specs.Prelude.{◌≡◌, ◌⊎◌, ◌≤◌, None, Some, true, false, map, string_bytes};
-ghost use Rattle.bv_base.specs.Known.{Adds, HasRisen};
-ghost use Rattle.command_words.specs.declared.options.TheConstants.{MOST_SIZE};
-ghost use Rattle.edit_server.specs.Exit.{IsAnswering, IsSilent};
+ghost use Rattle.std.specs.Prelude.{◌≡◌, ◌≢◌, ◌⊎◌, ◌≤◌, None, Some, true, false, [], ◌∷◌, map, string_bytes};
+ghost use Rattle.bv_base.specs.Known.{HasRisen};
+ghost use Rattle.command_words.specs.Limits.{most_size};
+ghost use Rattle.command_words.specs.Reading.{reading};
 ghost use Rattle.command_words.specs.declared.command.Command.{Command as command};
-ghost use Rattle.edit_server.specs.Built.{IsAnswered, answers_text, command_for, is_session, serves};
-ghost use Rattle.edit_server.specs.Session.{Served, IsSessionShort};
-ghost use Rattle.session_lines.specs.Served.{IsWithin as IsWithinSession};
-ghost use Rattle.edit_server.specs.Run.{Answered, Broken, BrokenSummary, Generated, IsFull, IsShort, IsWithin, WroteFront, usage_line};
+ghost use Rattle.edit_server.specs.Exit.{IsAnswering, IsSilent};
+ghost use Rattle.edit_server.specs.Modes.{IsCommand, answers_text, is_shared};
+ghost use Rattle.edit_server.specs.Run.{Answered, Broken, BrokenSummary, Generated, IsFull, IsShort, IsWithin};
+ghost use Rattle.edit_server.specs.Ran.{outside, Refuses};
+ghost use Rattle.edit_server.specs.Shared.{Runs};
 
 use crate::answer::answer_to;
-use crate::built::command_for;
 use crate::generated::generated;
+use crate::modes::is_shared;
+use crate::running::run_shared;
 use crate::session::serve_session;
 use crate::status::Status;
 use crate::writing::refuse_words;
 use bv_base::{LineFault, Sink, Source, read_all, write_all};
-use command_words::{Command, Mode, Usage};
-use edit_session::laws::reports_are_true;
-use session_lines::laws::lines_make_a_session;
+use command_words::{Command, Mode, Usage, read_words};
+use edit_session::laws::sessions_are_worth;
+use generated_report::laws::proved_are_safe;
+use goal_board::alone::Alone;
+use proof_workers::Gate;
+use session_lines::laws::nothing_is_served;
 use std::alloc::Global;
+use std::sync::Wait;
+use std::thread::Threads;
 
 /// The most bytes of input that are read.
 pub const TOTAL: u64 = 16_777_216;
@@ -61,15 +68,16 @@ fn answer_input<S: Source, K: Sink>(
 
 // Makes the program and writes its summary. Nothing is read.
 fn answer_generated<K: Sink>(alloc: Global, command: &Command, sink: &mut K) -> Status
-    requires { command.now.size ≤ MOST_SIZE }
-    ensures generated { IsAnswering result → Generated command.now (K.held sink.old) (K.held sink.new) result }
+    requires size { command.now.size ≤ most_size }
+    requires alone { command.now.workers ≡ 0 }
+    ensures generated { IsAnswering result → Generated command.now [] (K.held sink.old) (K.held sink.new) result }
     ensures never_usage { ¬ (result ≡ Status.Usage) }
     ensures never_read_fault { ¬ (result ≡ Status.ReadFault) }
     ensures never_full { ¬ (result ≡ Status.SessionFull) }
     ensures silent { IsSilent result → K.held sink.new ≡ K.held sink.old }
     ensures write_fault { result ≡ Status.WriteFault → HasRisen (K.faults sink.old) (K.faults sink.new) }
     ensures write_quiet { ¬ (result ≡ Status.WriteFault) → K.faults sink.new ≡ K.faults sink.old }
-    ensures front { result ≡ Status.WriteFault → BrokenSummary command.now (K.held sink.old) (K.held sink.new) }
+    ensures front { result ≡ Status.WriteFault → BrokenSummary command.now [] (K.held sink.old) (K.held sink.new) }
     ensures complete { ¬ HasRisen (K.faults sink.old) (K.faults sink.new) → IsAnswering result ⊎ (result ≡ Status.Memory) }
 {
     match generated(alloc, command) {
@@ -81,40 +89,62 @@ fn answer_generated<K: Sink>(alloc: Global, command: &Command, sink: &mut K) -> 
     }
 }
 
-/// Runs a command that some words are, alone: no other thread works beside it. What it does is said of
-/// `run`; `Usage` never comes.
+// Answers the lines of the input, one by one, over a board of its own.
+fn serve_alone<R: AllocGlobal, S: Source, K: Sink>(
+    rt: &R,
+    command: &Command,
+    source: &mut S,
+    sink: &mut K,
+) -> Status
+    requires serves { command.now.mode ≡ Mode.Serve }
+    requires alone { command.now.workers ≡ 0 }
+    ensures ran { Runs command.now (outside S.left S.faults K.held K.faults source.old sink.old) (outside S.left S.faults K.held K.faults source.new sink.new) result }
+{
+    // A law, on which the clause rests; it does nothing.
+    sessions_are_worth();
+    let board = Alone::new(rt.alloc());
+    let (status, _board) = serve_session(rt.alloc(), command.turns, board, source, sink);
+    status
+}
+
+/// Runs a command that some words are, alone: no other thread works beside it, and nothing waits. What
+/// it does is said of `run`; `Usage` never comes.
 pub fn run_alone<R: AllocGlobal, S: Source, K: Sink>(
     rt: &R,
     command: &Command,
     source: &mut S,
     sink: &mut K,
 ) -> Status
-    requires { IsAnswered command.now }
-    ensures answered { answers_text command.now.mode ≡ true → IsAnswering result → Answered command.now (S.left source.old) (S.left source.new) (K.held sink.old) (K.held sink.new) result }
-    ensures generated { command.now.mode ≡ Mode.Gen → IsAnswering result → Generated command.now (K.held sink.old) (K.held sink.new) result }
-    ensures served { command.now.mode ≡ Mode.Serve → Served command.now.turns (S.left source.old) (S.left source.new) (K.held sink.old) (K.held sink.new) result }
-    ensures never_usage { ¬ (result ≡ Status.Usage) }
-    ensures silent { serves command.now.mode ≡ false → IsSilent result → K.held sink.new ≡ K.held sink.old }
-    ensures read_fault { result ≡ Status.ReadFault → HasRisen (S.faults source.old) (S.faults source.new) }
-    ensures read_quiet { ¬ (result ≡ Status.ReadFault) → S.faults source.new ≡ S.faults source.old }
-    ensures write_fault { result ≡ Status.WriteFault → HasRisen (K.faults sink.old) (K.faults sink.new) }
-    ensures write_quiet { ¬ (result ≡ Status.WriteFault) → K.faults sink.new ≡ K.faults sink.old }
-    ensures front { answers_text command.now.mode ≡ true → result ≡ Status.WriteFault → Broken command.now (S.left source.old) (S.left source.new) (K.held sink.old) (K.held sink.new) }
-    ensures summary_front { command.now.mode ≡ Mode.Gen → result ≡ Status.WriteFault → BrokenSummary command.now (K.held sink.old) (K.held sink.new) }
-    ensures full { serves command.now.mode ≡ false → result ≡ Status.SessionFull → IsFull (S.left source.old) (S.left source.new) }
-    ensures within { serves command.now.mode ≡ false → ¬ (result ≡ Status.SessionFull) → IsWithin (S.left source.old) (S.left source.new) }
-    ensures complete { serves command.now.mode ≡ false → ¬ HasRisen (S.faults source.old) (S.faults source.new) → ¬ HasRisen (K.faults sink.old) (K.faults sink.new) → IsShort (S.left source.old) → IsAnswering result ⊎ (result ≡ Status.Memory) }
-    ensures session_within { command.now.mode ≡ Mode.Serve → ¬ (result ≡ Status.SessionFull) → IsWithinSession (S.left source.old) (S.left source.new) }
-    ensures session_complete { command.now.mode ≡ Mode.Serve → ¬ HasRisen (S.faults source.old) (S.faults source.new) → ¬ HasRisen (K.faults sink.old) (K.faults sink.new) → IsSessionShort (S.left source.old) → (result ≡ Status.Done) ⊎ (result ≡ Status.Memory) }
-    ensures gen_reads_nothing { command.now.mode ≡ Mode.Gen → source.new ≡ source.old }
-    ensures gen_never_reads { command.now.mode ≡ Mode.Gen → ¬ (result ≡ Status.ReadFault) }
-    ensures gen_never_full { command.now.mode ≡ Mode.Gen → ¬ (result ≡ Status.SessionFull) }
-    ensures gen_complete { command.now.mode ≡ Mode.Gen → ¬ HasRisen (K.faults sink.old) (K.faults sink.new) → IsAnswering result ⊎ (result ≡ Status.Memory) }
+    requires command { IsCommand command.now }
+    requires alone { is_shared command.now ≡ false }
+    ensures ran { Runs command.now (outside S.left S.faults K.held K.faults source.old sink.old) (outside S.left S.faults K.held K.faults source.new sink.new) result }
+    ensures unread { command.now.mode ≡ Mode.Gen → source.new ≡ source.old }
 {
+    // A law, on which the clause rests; it does nothing.
+    proved_are_safe();
     match command.mode {
         Mode::Gen => answer_generated(rt.alloc(), command, sink),
-        Mode::Serve => serve_session(rt.alloc(), command.turns, source, sink),
+        Mode::Serve => serve_alone(rt, command, source, sink),
         _ => answer_input(rt.alloc(), command, source, sink),
+    }
+}
+
+// Runs the command, beside workers or alone.
+fn run_command<R: AllocGlobal + Threads + Wait + Sync, S: Source, K: Sink, G: Gate + Sync>(
+    rt: &R,
+    command: &Command,
+    source: &mut S,
+    sink: &mut K,
+    gate: &G,
+) -> Status
+    requires command { IsCommand command.now }
+    ensures ran { Runs command.now (outside S.left S.faults K.held K.faults source.old sink.old) (outside S.left S.faults K.held K.faults source.new sink.new) result }
+    ensures unread { command.now.mode ≡ Mode.Gen → source.new ≡ source.old }
+{
+    if is_shared(command) {
+        run_shared(rt, command, source, sink, gate)
+    } else {
+        run_alone(rt, command, source, sink)
     }
 }
 
@@ -125,8 +155,15 @@ pub fn run_alone<R: AllocGlobal, S: Source, K: Sink>(
 /// nothing: it makes a program from a seed and a size, and writes how many of its goals are proved.
 /// `serve` answers request lines, one by one.
 ///
-/// `Usage` comes exactly where the words are no command, or one with workers; then nothing is read, and
-/// `WriteFault` or `Memory` alone may come in its place. `ReadFault` and `WriteFault` come only where the
+/// With `--workers` 1 to 64, `serve` and `gen` share the board of their goals with so many threads, each
+/// of which claims goals, searches them and deposits the answers; where a thread can't be started there
+/// is one fewer, and what is left the command's own thread proves. What is promised is the same for every
+/// number of workers, whatever they do and in whatever order: the bytes, the statuses and their causes,
+/// and what a reply or a line is worth; the two numbers of a reply to `status` alone tell how far they
+/// came. Of the calls on the board more is said by `serve_on`.
+///
+/// `Usage` comes exactly where the words are no command; then nothing is read, and `WriteFault` or
+/// `Memory` alone may come in its place. `ReadFault` and `WriteFault` come only where the
 /// source's or the sink's count of faults rose in this call, and with any other status the counts are
 /// those before. `SessionFull` comes exactly where 16,777,216 bytes were taken and a further one was read.
 /// `Memory` is the one free answer. `Done`, `NotAll` and `Refused` come only where the input was read to
@@ -146,43 +183,25 @@ pub fn run_alone<R: AllocGlobal, S: Source, K: Sink>(
 /// fails from an entry state; where `accepted` is written, none of any procedure; and none comes to a
 /// point that `smoke` names. In a reply to a report of a session the same holds of the program that is open
 /// then.
-pub fn run<R: AllocGlobal, S: Source, K: Sink>(
+pub fn run<R: AllocGlobal + Threads + Wait + Sync, S: Source, K: Sink, G: Gate + Sync>(
     rt: &R,
     words: &[String],
     source: &mut S,
     sink: &mut K,
+    gate: &G,
 ) -> Status
-    ensures usage_only { result ≡ Status.Usage → command_for (map string_bytes words.now) ≡ None }
-    ensures usage { command_for (map string_bytes words.now) ≡ None → (result ≡ Status.Usage) ⊎ (result ≡ Status.WriteFault) ⊎ (result ≡ Status.Memory) }
-    ensures usage_reads_nothing { command_for (map string_bytes words.now) ≡ None → source.new ≡ source.old }
-    ensures usage_line { result ≡ Status.Usage → Adds (K.held sink.old) (K.held sink.new) usage_line }
-    ensures answered { (c : command) → command_for (map string_bytes words.now) ≡ Some c → answers_text c.mode ≡ true → IsAnswering result → Answered c (S.left source.old) (S.left source.new) (K.held sink.old) (K.held sink.new) result }
-    ensures generated { (c : command) → command_for (map string_bytes words.now) ≡ Some c → c.mode ≡ Mode.Gen → IsAnswering result → Generated c (K.held sink.old) (K.held sink.new) result }
-    ensures served { (c : command) → command_for (map string_bytes words.now) ≡ Some c → c.mode ≡ Mode.Serve → Served c.turns (S.left source.old) (S.left source.new) (K.held sink.old) (K.held sink.new) result }
-    ensures silent { is_session (command_for (map string_bytes words.now)) ≡ false → IsSilent result → K.held sink.new ≡ K.held sink.old }
-    ensures read_fault { result ≡ Status.ReadFault → HasRisen (S.faults source.old) (S.faults source.new) }
-    ensures read_quiet { ¬ (result ≡ Status.ReadFault) → S.faults source.new ≡ S.faults source.old }
-    ensures write_fault { result ≡ Status.WriteFault → HasRisen (K.faults sink.old) (K.faults sink.new) }
-    ensures write_quiet { ¬ (result ≡ Status.WriteFault) → K.faults sink.new ≡ K.faults sink.old }
-    ensures usage_front { result ≡ Status.WriteFault → command_for (map string_bytes words.now) ≡ None → WroteFront (K.held sink.old) (K.held sink.new) usage_line }
-    ensures answer_front { (c : command) → command_for (map string_bytes words.now) ≡ Some c → answers_text c.mode ≡ true → result ≡ Status.WriteFault → Broken c (S.left source.old) (S.left source.new) (K.held sink.old) (K.held sink.new) }
-    ensures full { is_session (command_for (map string_bytes words.now)) ≡ false → result ≡ Status.SessionFull → IsFull (S.left source.old) (S.left source.new) }
-    ensures within { (c : command) → command_for (map string_bytes words.now) ≡ Some c → serves c.mode ≡ false → ¬ (result ≡ Status.SessionFull) → IsWithin (S.left source.old) (S.left source.new) }
-    ensures summary_front { (c : command) → command_for (map string_bytes words.now) ≡ Some c → c.mode ≡ Mode.Gen → result ≡ Status.WriteFault → BrokenSummary c (K.held sink.old) (K.held sink.new) }
-    ensures session_within { (c : command) → command_for (map string_bytes words.now) ≡ Some c → c.mode ≡ Mode.Serve → ¬ (result ≡ Status.SessionFull) → IsWithinSession (S.left source.old) (S.left source.new) }
-    ensures session_complete { (c : command) → command_for (map string_bytes words.now) ≡ Some c → c.mode ≡ Mode.Serve → ¬ HasRisen (S.faults source.old) (S.faults source.new) → ¬ HasRisen (K.faults sink.old) (K.faults sink.new) → IsSessionShort (S.left source.old) → (result ≡ Status.Done) ⊎ (result ≡ Status.Memory) }
-    ensures gen_reads_nothing { (c : command) → command_for (map string_bytes words.now) ≡ Some c → c.mode ≡ Mode.Gen → source.new ≡ source.old }
-    ensures gen_never_reads { (c : command) → command_for (map string_bytes words.now) ≡ Some c → c.mode ≡ Mode.Gen → ¬ (result ≡ Status.ReadFault) }
-    ensures gen_never_full { (c : command) → command_for (map string_bytes words.now) ≡ Some c → c.mode ≡ Mode.Gen → ¬ (result ≡ Status.SessionFull) }
-    ensures gen_complete { (c : command) → command_for (map string_bytes words.now) ≡ Some c → c.mode ≡ Mode.Gen → ¬ HasRisen (K.faults sink.old) (K.faults sink.new) → IsAnswering result ⊎ (result ≡ Status.Memory) }
-    ensures complete { (c : command) → command_for (map string_bytes words.now) ≡ Some c → serves c.mode ≡ false → ¬ HasRisen (S.faults source.old) (S.faults source.new) → ¬ HasRisen (K.faults sink.old) (K.faults sink.new) → IsShort (S.left source.old) → IsAnswering result ⊎ (result ≡ Status.Memory) }
+    ensures usage_only { result ≡ Status.Usage → reading (map string_bytes words.now) ≡ None }
+    ensures refused { reading (map string_bytes words.now) ≡ None → Refuses (outside S.left S.faults K.held K.faults source.old sink.old) (outside S.left S.faults K.held K.faults source.new sink.new) result }
+    ensures refused_unread { reading (map string_bytes words.now) ≡ None → source.new ≡ source.old }
+    ensures ran { (c : command) → reading (map string_bytes words.now) ≡ Some c → Runs c (outside S.left S.faults K.held K.faults source.old sink.old) (outside S.left S.faults K.held K.faults source.new sink.new) result }
+    ensures unread { (c : command) → reading (map string_bytes words.now) ≡ Some c → c.mode ≡ Mode.Gen → source.new ≡ source.old }
 {
-    match command_for(rt.alloc(), words) {
-        Ok(command) => run_alone(rt, &command, source, sink),
+    match read_words(rt.alloc(), words) {
+        Ok(command) => run_command(rt, &command, source, sink, gate),
         Err(Usage::NoReading) => refuse_words(sink),
         Err(Usage::Memory) => {
-            lines_make_a_session();
-            reports_are_true();
+            // A law, on which the clauses rest; it does nothing.
+            nothing_is_served();
             Status::Memory
         }
     }

@@ -1,11 +1,14 @@
 // Searches of the goals of small procedures, with so many turns, worked out by hand from the rules.
 use crate::{Status, run};
 use bv_base::{MemSink, MemSource};
+use proof_workers::OpenGate;
 use std::alloc::AllocError;
+use std::sync::Wait;
 use std::test::Fail;
+use std::thread::Threads;
 
 /// Whether `check` with so many turns writes, of a procedure with this body, what ends so.
-fn ends<R: AllocGlobal>(
+fn ends<R: AllocGlobal + Threads + Wait + Sync>(
     rt: &R,
     body: &str,
     turns: &str,
@@ -21,7 +24,7 @@ fn ends<R: AllocGlobal>(
     let mut source = MemSource::new(bytes, 64, Vec::new(rt.alloc()));
     let mut sink = MemSink::new(rt.alloc(), 64, Vec::new(rt.alloc()));
     sink.reserve(4096)?;
-    let ended = run(rt, words.as_slice(), &mut source, &mut sink);
+    let ended = run(rt, words.as_slice(), &mut source, &mut sink, &OpenGate);
     Ok(ended == status && sink.bytes().ends_with(end.as_bytes()))
 }
 

@@ -1,8 +1,11 @@
 // Whole sessions over input and output in memory; what is expected is written by hand from the rules.
 use crate::{Status, run};
 use bv_base::{MemSink, MemSource};
+use proof_workers::OpenGate;
 use std::alloc::{AllocError, Global};
+use std::sync::Wait;
 use std::test::Fail;
+use std::thread::Threads;
 
 /// An open, a report and a quit: lines of 54, 16 and 14 bytes.
 const REQUESTS: &[u8; 84] =
@@ -12,19 +15,23 @@ const REQUESTS: &[u8; 84] =
 const REPLIES: &[u8; 108] =
     b"{\"goals\":1,\"rebuilt\":1,\"version\":1}\n{\"report\":[\"P 1:17 assert proved\",\"P correct\"],\"version\":1}\n{\"ok\":true}\n";
 
-/// How a session over these bytes ends where these reads or writes of a byte fail, and what was written.
-fn serve<R: AllocGlobal>(
+/// How a session over these bytes, beside so many workers, ends where these reads or writes of a byte
+/// fail, and what was written.
+fn serve<R: AllocGlobal + Threads + Wait + Sync>(
     rt: &R,
+    workers: &str,
     input: &[u8],
     reads: Vec<u64>,
     writes: Vec<u64>,
 ) -> Result<(Status, Vec<u8>), AllocError> {
     let mut words = Vec::new(rt.alloc());
     words.push(String::from_str(rt.alloc(), "serve")?)?;
+    words.push(String::from_str(rt.alloc(), "--workers")?)?;
+    words.push(String::from_str(rt.alloc(), workers)?)?;
     let mut source = MemSource::new(Vec::from_slice(rt.alloc(), input)?, 1, reads);
     let mut sink = MemSink::new(rt.alloc(), 1, writes);
     sink.reserve(1000)?;
-    let ended = run(rt, words.as_slice(), &mut source, &mut sink);
+    let ended = run(rt, words.as_slice(), &mut source, &mut sink, &OpenGate);
     Ok((ended, Vec::from_slice(rt.alloc(), sink.bytes())?))
 }
 
@@ -36,8 +43,9 @@ fn failing(alloc: Global, number: u64) -> Result<Vec<u64>, AllocError> {
 }
 
 /// Whether each read of these, where it fails, leaves these bytes written.
-fn reads_leave<R: AllocGlobal>(
+fn reads_leave<R: AllocGlobal + Threads + Wait + Sync>(
     rt: &R,
+    workers: &str,
     first: u64,
     behind: u64,
     left: &[u8],
@@ -45,6 +53,7 @@ fn reads_leave<R: AllocGlobal>(
     for k in first..behind {
         let (ended, written) = serve(
             rt,
+            workers,
             REQUESTS.as_slice(),
             failing(rt.alloc(), k)?,
             Vec::new(rt.alloc()),
@@ -56,59 +65,84 @@ fn reads_leave<R: AllocGlobal>(
     Ok(true)
 }
 
-#[test]
-fn a_read_that_fails_leaves_the_replies_before(rt: HostRuntime) -> Result<(), Fail> {
-    assert!(rt; reads_leave(&rt, 0, 54, b"".as_slice())?);
-    assert!(rt; reads_leave(&rt, 54, 70, &REPLIES[..36])?);
-    assert!(rt; reads_leave(&rt, 70, 84, &REPLIES[..96])?);
-    // behind the quit nothing is read
+/// Whether the read behind the quit is never made, and the one that finds the end of an input without a
+/// quit is.
+fn ends_are_found<R: AllocGlobal + Threads + Wait + Sync>(
+    rt: &R,
+    workers: &str,
+) -> Result<bool, AllocError> {
     let (ended, written) = serve(
-        &rt,
+        rt,
+        workers,
         REQUESTS.as_slice(),
         failing(rt.alloc(), 84)?,
         Vec::new(rt.alloc()),
     )?;
-    assert!(rt; ended == Status::Done && written.as_slice() == REPLIES.as_slice());
-    // an input of one line, whose end isn't found
-    let (ended, written) = serve(
-        &rt,
+    let (unended, first) = serve(
+        rt,
+        workers,
         &REQUESTS[..54],
         failing(rt.alloc(), 54)?,
         Vec::new(rt.alloc()),
     )?;
-    assert!(rt; ended == Status::ReadFault && written.as_slice() == &REPLIES[..36]);
+    Ok(
+        ended == Status::Done
+            && written.as_slice() == REPLIES.as_slice()
+            && unended == Status::ReadFault
+            && first.as_slice() == &REPLIES[..36],
+    )
+}
+
+/// Alone, and beside two workers.
+const WORKERS: [&str; 2] = ["0", "2"];
+
+#[test]
+fn a_read_that_fails_leaves_the_replies_before(rt: HostRuntime) -> Result<(), Fail> {
+    for workers in WORKERS {
+        assert!(rt; reads_leave(&rt, workers, 0, 54, b"".as_slice())?);
+        assert!(rt; reads_leave(&rt, workers, 54, 70, &REPLIES[..36])?);
+        assert!(rt; reads_leave(&rt, workers, 70, 84, &REPLIES[..96])?);
+        assert!(rt; ends_are_found(&rt, workers)?);
+    }
     Ok(())
+}
+
+/// How a session ends of which one write of a byte fails, and what was written.
+fn broken<R: AllocGlobal + Threads + Wait + Sync>(
+    rt: &R,
+    workers: &str,
+    write: u64,
+) -> Result<(Status, Vec<u8>), AllocError> {
+    serve(
+        rt,
+        workers,
+        REQUESTS.as_slice(),
+        Vec::new(rt.alloc()),
+        failing(rt.alloc(), write)?,
+    )
 }
 
 #[test]
 fn a_write_that_fails_leaves_the_bytes_of_the_replies_before(rt: HostRuntime) -> Result<(), Fail> {
-    for k in 0..108usize {
-        let (ended, written) = serve(
-            &rt,
-            REQUESTS.as_slice(),
-            Vec::new(rt.alloc()),
-            failing(rt.alloc(), k as u64)?,
-        )?;
-        assert!(rt; ended == Status::WriteFault && written.as_slice() == &REPLIES[..k]);
+    for workers in WORKERS {
+        for k in 0..108usize {
+            let (ended, written) = broken(&rt, workers, k as u64)?;
+            assert!(rt; ended == Status::WriteFault && written.as_slice() == &REPLIES[..k]);
+        }
+        let (ended, written) = broken(&rt, workers, 108)?;
+        assert!(rt; ended == Status::Done && written.as_slice() == REPLIES.as_slice());
     }
-    let (ended, written) = serve(
-        &rt,
-        REQUESTS.as_slice(),
-        Vec::new(rt.alloc()),
-        failing(rt.alloc(), 108)?,
-    )?;
-    assert!(rt; ended == Status::Done && written.as_slice() == REPLIES.as_slice());
     Ok(())
 }
 
 /// Whether a session over one line of so many letters writes this.
-fn line_is_answered<R: AllocGlobal>(
+fn line_is_answered<R: AllocGlobal + Threads + Wait + Sync>(
     rt: &R,
     count: usize,
     reply: &[u8],
 ) -> Result<bool, AllocError> {
     let line = vec![in rt.alloc(); b'a'; count]?;
-    let (ended, written) = serve(rt, &line, Vec::new(rt.alloc()), Vec::new(rt.alloc()))?;
+    let (ended, written) = serve(rt, "0", &line, Vec::new(rt.alloc()), Vec::new(rt.alloc()))?;
     Ok(ended == Status::Done && written.as_slice() == reply)
 }
 

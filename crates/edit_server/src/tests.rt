@@ -3,8 +3,11 @@ ghost use Rattle.std.specs.Prelude.{◌<◌, ◌≤◌};
 
 use crate::{Status, run};
 use bv_base::{MemSink, MemSource, SureSource};
+use proof_workers::OpenGate;
 use std::alloc::{AllocError, Global};
+use std::sync::Wait;
 use std::test::Fail;
+use std::thread::Threads;
 
 /// These words, as a list.
 fn words_of(alloc: Global, texts: &[&str]) -> Result<Vec<String>, AllocError> {
@@ -16,7 +19,7 @@ fn words_of(alloc: Global, texts: &[&str]) -> Result<Vec<String>, AllocError> {
 }
 
 /// Whether a run of these words over this input ends so and writes this.
-fn runs<R: AllocGlobal>(
+fn runs<R: AllocGlobal + Threads + Wait + Sync>(
     rt: &R,
     words: &[&str],
     input: &str,
@@ -28,7 +31,7 @@ fn runs<R: AllocGlobal>(
     let mut source = MemSource::new(bytes, 7, Vec::new(rt.alloc()));
     let mut sink = MemSink::new(rt.alloc(), 5, Vec::new(rt.alloc()));
     sink.reserve(4096)?;
-    let ended = run(rt, words.as_slice(), &mut source, &mut sink);
+    let ended = run(rt, words.as_slice(), &mut source, &mut sink, &OpenGate);
     Ok(ended == status && sink.bytes() == output.as_bytes())
 }
 
@@ -177,28 +180,22 @@ fn words_that_are_no_command_are_refused(rt: HostRuntime) -> Result<(), Fail> {
     assert!(rt; runs(&rt, &["recheck", "--turns", "5"], "", line, Status::Usage)?);
     assert!(rt; runs(&rt, &["check", "--workers", "1"], "", line, Status::Usage)?);
     assert!(rt; runs(&rt, &["smoke", "--workers", "0"], "", line, Status::Usage)?);
-    assert!(rt;
-        runs(
-            &rt,
-            &["gen", "--seed", "1", "--size", "1", "--workers", "1"],
-            "",
-            line,
-            Status::Usage
-        )?
-    );
-    assert!(rt; runs(&rt, &["serve", "--workers", "1"], "", line, Status::Usage)?);
+    assert!(rt; runs(&rt, &["serve", "--workers", "65"], "", line, Status::Usage)?);
     assert!(rt; runs(&rt, &["fly"], "", line, Status::Usage)?);
     assert!(rt; runs(&rt, &[], "", line, Status::Usage)?);
     Ok(())
 }
 
 /// How `check` of so many spaces ends, over a sink that holds at most a line.
-fn check_spaces<R: AllocGlobal>(rt: &R, count: usize) -> Result<(Status, bool), AllocError> {
+fn check_spaces<R: AllocGlobal + Threads + Wait + Sync>(
+    rt: &R,
+    count: usize,
+) -> Result<(Status, bool), AllocError> {
     let words = words_of(rt.alloc(), &["check"])?;
     let mut source = SureSource::new(vec![in rt.alloc(); b' '; count]?);
     let mut sink = MemSink::new(rt.alloc(), 5, Vec::new(rt.alloc()));
     sink.reserve(64)?;
-    let ended = run(rt, words.as_slice(), &mut source, &mut sink);
+    let ended = run(rt, words.as_slice(), &mut source, &mut sink, &OpenGate);
     Ok((ended, sink.bytes().is_empty()))
 }
 
@@ -218,7 +215,7 @@ fn failing(alloc: Global, number: u64) -> Result<Vec<u64>, AllocError> {
 
 /// How `check` of a small program ends where one read or one write of a byte fails, and what then
 /// was written.
-fn check_with_fault<R: AllocGlobal>(
+fn check_with_fault<R: AllocGlobal + Threads + Wait + Sync>(
     rt: &R,
     read: Vec<u64>,
     write: Vec<u64>,
@@ -228,7 +225,7 @@ fn check_with_fault<R: AllocGlobal>(
     let mut source = MemSource::new(bytes, 1, read);
     let mut sink = MemSink::new(rt.alloc(), 1, write);
     sink.reserve(64)?;
-    let ended = run(rt, words.as_slice(), &mut source, &mut sink);
+    let ended = run(rt, words.as_slice(), &mut source, &mut sink, &OpenGate);
     Ok((ended, Vec::from_slice(rt.alloc(), sink.bytes())?))
 }
 
@@ -263,7 +260,10 @@ fn a_write_that_fails_leaves_the_bytes_before(rt: HostRuntime) -> Result<(), Fai
     Ok(())
 }
 /// Whether `check` of a procedure with this body ends with NotAll.
-fn is_not_proved<R: AllocGlobal>(rt: &R, body: &str) -> Result<bool, AllocError> {
+fn is_not_proved<R: AllocGlobal + Threads + Wait + Sync>(
+    rt: &R,
+    body: &str,
+) -> Result<bool, AllocError> {
     let mut text = String::from_str(
         rt.alloc(),
         "procedure P() { var x, y: int; var m: [int]int; var b: bool; ",
@@ -275,7 +275,7 @@ fn is_not_proved<R: AllocGlobal>(rt: &R, body: &str) -> Result<bool, AllocError>
     let mut source = MemSource::new(bytes, 64, Vec::new(rt.alloc()));
     let mut sink = MemSink::new(rt.alloc(), 64, Vec::new(rt.alloc()));
     sink.reserve(4096)?;
-    let ended = run(rt, words.as_slice(), &mut source, &mut sink);
+    let ended = run(rt, words.as_slice(), &mut source, &mut sink, &OpenGate);
     Ok(ended == Status::NotAll && !sink.bytes().ends_with(b"P correct\n"))
 }
 

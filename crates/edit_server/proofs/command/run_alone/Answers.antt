@@ -1,76 +1,58 @@
-use Rattle.edit_server.proofs.BuiltCommands.{built_size}
-use Rattle.edit_server.proofs.TextModes.{answers_unless, gen_answers_none, session_answers_none, session_serves, session_is_not_gen, gen_is_no_session}
-use Rattle.edit_server.proofs.Unread.{none_within}
+use Rattle.std.proofs.Common.{[], refl}
+use Rattle.edit_server.proofs.ReadCommands.{read_size}
+use Rattle.edit_server.proofs.TextModes.{answers_unless, alone_has_none, answers_none_gen, answers_none_serve, serve_is_not_gen}
+use Rattle.edit_server.proofs.SummaryWorth.{summary_is_worth, done_answers}
+use Rattle.edit_server.proofs.Runs.{ran_text, ran_gen}
 use Rattle.edit_server.proofs.command.run_alone.Goals as goal
 
 -- a program is generated
-pub answer_generated-requires : goal.answer_generated-requires
-answer_generated-requires g c = built_size c.requires.0 c.args.command.now c.requires.1
+pub answer_generated-requires-clause-size : goal.answer_generated-requires-clause-size
+answer_generated-requires-clause-size g c = read_size c.requires.command.0 c.args.command.now c.requires.command.1
 
-pub returns-in-Gen-clause-answered : goal.returns-in-Gen-clause-answered
-returns-in-Gen-clause-answered g c reads = absurd (gen_answers_none _ c.in-Gen.is reads)
+pub answer_generated-requires-clause-alone : goal.answer_generated-requires-clause-alone
+answer_generated-requires-clause-alone g c = alone_has_none c.args.command.now c.requires.alone (answers_none_gen _ c.in-Gen.is)
 
-pub returns-in-Gen-clause-front : goal.returns-in-Gen-clause-front
-returns-in-Gen-clause-front g c reads = absurd (gen_answers_none _ c.in-Gen.is reads)
-
-pub returns-in-Gen-clause-served : goal.returns-in-Gen-clause-served
-returns-in-Gen-clause-served g c serves = absurd (gen_is_no_session _ c.in-Gen.is serves)
-
-pub returns-in-Gen-clause-within : goal.returns-in-Gen-clause-within
-returns-in-Gen-clause-within g c not other = none_within _
-
-pub returns-in-Gen-clause-session_within : goal.returns-in-Gen-clause-session_within
-returns-in-Gen-clause-session_within g c serves = absurd (gen_is_no_session _ c.in-Gen.is serves)
-
-pub returns-in-Gen-clause-session_complete : goal.returns-in-Gen-clause-session_complete
-returns-in-Gen-clause-session_complete g c serves = absurd (gen_is_no_session _ c.in-Gen.is serves)
+pub returns-in-Gen-clause-ran : goal.returns-in-Gen-clause-ran
+returns-in-Gen-clause-ran g c =
+    let e = c.answer_generated.ensures in (
+      [],
+      ran_gen c.args.command.now [] _ _ c.answer_generated.result c.in-Gen.is (record {
+        generated = e.generated;
+        silent = e.silent;
+        front = e.front;
+        starved = λ memory some. absurd (some (alone_has_none c.args.command.now c.requires.alone (answers_none_gen _ c.in-Gen.is)));
+        worth = λ done. summary_is_worth c.proved_are_safe.ensures c.args.command.now.turns c.args.command.now.seed c.args.command.now.size _ _ (e.generated (done_answers _ done)).is_answer done;
+        unread = refl;
+        never_reads = e.never_read_fault;
+        never_full = e.never_full;
+        complete = e.complete;
+      }) e.never_usage (record { read_fault = λ is. absurd (e.never_read_fault is); read_quiet = λ _. refl; write_fault = e.write_fault; write_quiet = e.write_quiet }),
+    )
 
 -- lines are answered
-pub returns-in-Serve-clause-answered : goal.returns-in-Serve-clause-answered
-returns-in-Serve-clause-answered g c reads = absurd (session_answers_none _ c.in-Serve.is reads)
+pub serve_alone-requires-clause-alone : goal.serve_alone-requires-clause-alone
+serve_alone-requires-clause-alone g c = alone_has_none c.args.command.now c.requires.alone (answers_none_serve _ c.in-Serve.is)
 
-pub returns-in-Serve-clause-front : goal.returns-in-Serve-clause-front
-returns-in-Serve-clause-front g c reads = absurd (session_answers_none _ c.in-Serve.is reads)
-
-pub returns-in-Serve-clause-generated : goal.returns-in-Serve-clause-generated
-returns-in-Serve-clause-generated g c gen = absurd (session_is_not_gen _ c.in-Serve.is gen)
-
-pub returns-in-Serve-clause-summary_front : goal.returns-in-Serve-clause-summary_front
-returns-in-Serve-clause-summary_front g c gen = absurd (session_is_not_gen _ c.in-Serve.is gen)
-
-pub returns-in-Serve-clause-silent : goal.returns-in-Serve-clause-silent
-returns-in-Serve-clause-silent g c not = absurd (session_serves _ c.in-Serve.is not)
-
-pub returns-in-Serve-clause-full : goal.returns-in-Serve-clause-full
-returns-in-Serve-clause-full g c not = absurd (session_serves _ c.in-Serve.is not)
-
-pub returns-in-Serve-clause-within : goal.returns-in-Serve-clause-within
-returns-in-Serve-clause-within g c not = absurd (session_serves _ c.in-Serve.is not)
-
-pub returns-in-Serve-clause-complete : goal.returns-in-Serve-clause-complete
-returns-in-Serve-clause-complete g c not = absurd (session_serves _ c.in-Serve.is not)
-
-pub returns-in-Serve-clause-gen_reads_nothing : goal.returns-in-Serve-clause-gen_reads_nothing
-returns-in-Serve-clause-gen_reads_nothing g c gen = absurd (session_is_not_gen _ c.in-Serve.is gen)
-
-pub returns-in-Serve-clause-gen_never_reads : goal.returns-in-Serve-clause-gen_never_reads
-returns-in-Serve-clause-gen_never_reads g c gen = absurd (session_is_not_gen _ c.in-Serve.is gen)
-
-pub returns-in-Serve-clause-gen_never_full : goal.returns-in-Serve-clause-gen_never_full
-returns-in-Serve-clause-gen_never_full g c gen = absurd (session_is_not_gen _ c.in-Serve.is gen)
-
-pub returns-in-Serve-clause-gen_complete : goal.returns-in-Serve-clause-gen_complete
-returns-in-Serve-clause-gen_complete g c gen = absurd (session_is_not_gen _ c.in-Serve.is gen)
+pub returns-in-Serve-clause-unread : goal.returns-in-Serve-clause-unread
+returns-in-Serve-clause-unread g c gen = absurd (serve_is_not_gen _ c.in-Serve.is gen)
 
 -- a text is answered
 pub answer_input-requires : goal.answer_input-requires
 answer_input-requires g c = answers_unless _ c.in_default.not-Gen c.in_default.not-Serve
 
-pub returns-in_default-clause-served : goal.returns-in_default-clause-served
-returns-in_default-clause-served g c serves = absurd (c.in_default.not-Serve serves)
+pub returns-in_default-clause-ran : goal.returns-in_default-clause-ran
+returns-in_default-clause-ran g c =
+    let e = c.answer_input.ensures in (
+      [],
+      ran_text c.args.command.now [] _ _ c.answer_input.result (answers_unless _ c.in_default.not-Gen c.in_default.not-Serve) (record {
+        answered = e.answered;
+        silent = e.silent;
+        front = e.front;
+        full = e.full;
+        within = e.within;
+        complete = e.complete;
+      }) e.never_usage (record { read_fault = e.read_fault; read_quiet = e.read_quiet; write_fault = e.write_fault; write_quiet = e.write_quiet }),
+    )
 
-pub returns-in_default-clause-session_within : goal.returns-in_default-clause-session_within
-returns-in_default-clause-session_within g c serves = absurd (c.in_default.not-Serve serves)
-
-pub returns-in_default-clause-session_complete : goal.returns-in_default-clause-session_complete
-returns-in_default-clause-session_complete g c serves = absurd (c.in_default.not-Serve serves)
+pub returns-in_default-clause-unread : goal.returns-in_default-clause-unread
+returns-in_default-clause-unread g c gen = absurd (c.in_default.not-Gen gen)

@@ -1,4 +1,4 @@
--- A command that words are is one that is answered, and its size is within bounds.
+-- The size of a command that words are is within bounds.
 use Rattle.std.proofs.Common.{◌≡◌, ◌∙◌, ℕ, ◌≤◌, Bool, true, false, cond, List, [], ◌∷◌, Option, Some, None, refl, sym, ap, subst, arith}
 use Rattle.std.specs.Prelude.{option_and_then, nat_le, ◌&&◌, if◌then◌else◌, codes}
 use Rattle.std.proofs.lemmas.Bool.{and_parts, leb-true}
@@ -12,23 +12,7 @@ use Rattle.command_words.specs.declared.options.Use.{Use}
 use Rattle.command_words.specs.declared.options.Use.TheVariants.{NotTaken, Taken, Needed}
 use Rattle.command_words.specs.Reading.{turns_of, workers_of, seed_of, size_of, command_of, of_rows, unless_refused, reading}
 use Rattle.command_words.specs.declared.command.Command.{Command}
-use Rattle.edit_server.specs.Built.{is_built, if_built, command_for}
-use Rattle.command_words.specs.declared.options.TheConstants.{MOST_SIZE}
-
-chosen : (b : Bool) (d c : Command) → is_built d ≡ b → cond b (Some d) None ≡ Some c → is_built c ≡ true
-chosen true d c built is =
-    let same : d ≡ c = cc in
-    ap is_built (sym same) ∙ built
-chosen false d c built is = absurd (cc)
-
-read : (r : Option Command) (c : Command) → option_and_then if_built r ≡ Some c → is_built c ≡ true
-read None c is = absurd (cc)
-read (Some d) c is = chosen (is_built d) d c refl is
-
-pub built_command : (words : List (List ℕ)) (c : Command) → command_for words ≡ Some c → is_built c ≡ true
-built_command words c is = read (reading words) c is
-
--- ---- the size
+use Rattle.command_words.specs.Limits.{most_size}
 
 bounded : (b : Bool) (least most k n : ℕ) → (nat_le least k && nat_le k most) ≡ b → (if b then Some k else None) ≡ Some n → n ≤ most
 bounded true least most k n e is =
@@ -40,19 +24,19 @@ between : (least most : ℕ) (o : Option ℕ) (n : ℕ) → option_and_then (λ 
 between least most None n is = absurd (cc)
 between least most (Some k) n is = bounded (nat_le least k && nat_le k most) least most k n refl is
 
-given_size : (u : Use) (given : Option (List ℕ)) (n : ℕ) → given_number u 0 0 MOST_SIZE given ≡ Some n → n ≤ MOST_SIZE
+given_size : (u : Use) (given : Option (List ℕ)) (n : ℕ) → given_number u 0 0 most_size given ≡ Some n → n ≤ most_size
 given_size NotTaken None n is = let zero_is : 0 ≡ n = cc in omega (arith, zero_is)
 given_size NotTaken (Some t) n is = absurd (cc)
 given_size Taken None n is = let zero_is : 0 ≡ n = cc in omega (arith, zero_is)
-given_size Taken (Some t) n is = between 0 MOST_SIZE (number_of t) n is
+given_size Taken (Some t) n is = between 0 most_size (number_of t) n is
 given_size Needed None n is = absurd (cc)
-given_size Needed (Some t) n is = between 0 MOST_SIZE (number_of t) n is
+given_size Needed (Some t) n is = between 0 most_size (number_of t) n is
 
-through : {A : Type 0} (f : A → Option Command) (o : Option A) (c : Command) → ((a : A) → o ≡ Some a → f a ≡ Some c → c.size ≤ MOST_SIZE) → option_and_then f o ≡ Some c → c.size ≤ MOST_SIZE
+through : {A : Type 0} (f : A → Option Command) (o : Option A) (c : Command) → ((a : A) → o ≡ Some a → f a ≡ Some c → c.size ≤ most_size) → option_and_then f o ≡ Some c → c.size ≤ most_size
 through f None c further is = absurd (cc)
 through f (Some a) c further is = further a refl is
 
-command_size : (name : List ℕ) (turns workers seed size : Option (List ℕ)) (c : Command) → command_of name turns workers seed size ≡ Some c → c.size ≤ MOST_SIZE
+command_size : (name : List ℕ) (turns workers seed size : Option (List ℕ)) (c : Command) → command_of name turns workers seed size ≡ Some c → c.size ≤ most_size
 command_size name turns workers seed size c is =
     through _ (mode_named name) c (λ m em a.
     through _ (turns_of m turns) c (λ t et b.
@@ -60,22 +44,15 @@ command_size name turns workers seed size c is =
     through _ (seed_of m seed) c (λ s es e.
     through _ (size_of m size) c (λ n en f.
     let same : n ≡ c.size = cc in
-    subst (λ x. x ≤ MOST_SIZE) same (given_size _ size n en)) e) d) b) a) is
+    subst (λ x. x ≤ most_size) same (given_size _ size n en)) e) d) b) a) is
 
-rows_size : (rows : List Row) (c : Command) → of_rows rows ≡ Some c → c.size ≤ MOST_SIZE
+rows_size : (rows : List Row) (c : Command) → of_rows rows ≡ Some c → c.size ≤ most_size
 rows_size rows c is = through _ (first_of (codes "mode") rows) c (λ name e a.
     command_size name (first_of (codes "turns") rows) (first_of (codes "workers") rows) (first_of (codes "seed") rows) (first_of (codes "size") rows) c a) is
 
-unless_size : (ks : Kinds) (rows : List Row) (c : Command) → unless_refused ks rows ≡ Some c → c.size ≤ MOST_SIZE
+unless_size : (ks : Kinds) (rows : List Row) (c : Command) → unless_refused ks rows ≡ Some c → c.size ≤ most_size
 unless_size [] rows c is = rows_size rows c is
 unless_size (k ∷ ks) rows c is = absurd (cc)
 
-chosen_size : (b : Bool) (d c : Command) → d.size ≤ MOST_SIZE → cond b (Some d) None ≡ Some c → c.size ≤ MOST_SIZE
-chosen_size true d c h is =
-    let same : d ≡ c = cc in
-    subst (λ x. x.size ≤ MOST_SIZE) same h
-chosen_size false d c h is = absurd (cc)
-
-pub built_size : (words : List (List ℕ)) (c : Command) → command_for words ≡ Some c → c.size ≤ MOST_SIZE
-built_size words c is = through if_built (reading words) c (λ d e a.
-    chosen_size (is_built d) d c (unless_size (fault_of the_command words) (matches_of the_command words) d e) a) is
+pub read_size : (words : List (List ℕ)) (c : Command) → reading words ≡ Some c → c.size ≤ most_size
+read_size words c is = unless_size (fault_of the_command words) (matches_of the_command words) c is
