@@ -4,6 +4,7 @@
 
 use bv_base::{StdSink, StdSource};
 use edit_server::{Status, run};
+use proof_workers::OpenGate;
 use std::alloc::Global;
 use std::env;
 use std::io::{self, ErrorKind};
@@ -23,10 +24,10 @@ fn main(rt: HostRuntime) -> ExitCode {
     let mut source = StdSource::new(rt.reader());
     let mut sink = StdSink::new(io::writer(&rt));
     let status = match words_of(&rt) {
-        Ok(words) => run(&rt, words.as_slice(), &mut source, &mut sink),
+        Ok(words) => run(&rt, words.as_slice(), &mut source, &mut sink, &OpenGate),
         Err(error) if error.kind() == ErrorKind::OutOfMemory => Status::Memory,
         // A word that isn't UTF-8 is no command.
-        Err(_) => run(&rt, &[], &mut source, &mut sink),
+        Err(_) => run(&rt, &[], &mut source, &mut sink, &OpenGate),
     };
     ExitCode::from(status.code())
 }
