@@ -17,6 +17,8 @@ impl Answerer for Echo {
 
     ghost replies = { λ _ _ _ _ _. ⊤ };
 
+    ghost fails = { λ _ _ _. ⊤ };
+
     ghost answered = { λ _ _. ⊤ };
 
     const LONGEST: usize = 3;
