@@ -1,0 +1,199 @@
+"""Proves and builds bplserve with the Rattle kit's command `rt`, which must be on the PATH.
+
+Crates are proved beside each other, each by an `rt ci CRATE` of its own, over a copy of the sources without what that
+would prove besides, wrong bodies and tests. The kit keeps what is proved, so a build that was stopped goes on.
+"""
+import glob
+import os
+import re
+import shutil
+import signal
+import subprocess
+import sys
+import tempfile
+import time
+from concurrent.futures import FIRST_COMPLETED, ThreadPoolExecutor, wait
+from pathlib import Path
+
+TOP = os.path.dirname(os.path.realpath(__file__))
+NAME = "bplserve"
+PROGRAM = os.path.join(TOP, "crates", NAME, "out", NAME)
+BUILD_FAILED = 70
+USUAL_COST = "0.6", "1500"  # processor minutes and megabytes of a crate that bench/costs.txt doesn't have
+MEMORY, MEMORY_EACH = 8000, 2000  # megabytes for all proofs, or for each processor where that is more
+LONG = 3  # a proof of so many minutes gets several processors where all else would wait for it
+DISK = 12000  # megabytes of free disk, below which the kit may not keep all
+TESTS = re.compile(r"#\[cfg\(test\)\]\nmod (\w+);\n")
+
+
+def tell(line):
+    sys.stderr.write(f"bplserve: {line}\n")
+
+
+def fail(name, said):
+    """Ends with the first lines that were said of the crate, or else the last of all."""
+    begin = said.index(f"== {name}\n") + 1 if f"== {name}\n" in said else -40
+    sys.stderr.write("".join(said[begin:][:40]))
+    tell(f"the build failed at {name}")
+    sys.exit(BUILD_FAILED)
+
+
+def rows(*path):
+    """The lines of a table that aren't comments."""
+    return [line for line in (row.partition("#")[0].strip() for row in Path(TOP, *path).open()) if line]
+
+
+def below(name, stands_on, order):
+    """Adds the crates that this one stands on, and itself, lowest first."""
+    for dependency in stands_on[name]:
+        if dependency not in order:
+            below(dependency, stands_on, order)
+    order.append(name)
+    return order
+
+
+def copy_crate(name, to):
+    """Copies a crate without its wrong bodies, its tests and what was built of it."""
+    shutil.copytree(os.path.join(TOP, "crates", name), to, ignore=shutil.ignore_patterns("out", "must-fail"))
+    for root in Path(to, "src").glob("lib.rt"):
+        text = root.read_text(encoding="utf-8")
+        root.write_text(TESTS.sub("", text).replace("\n\n\n", "\n\n").rstrip() + "\n", encoding="utf-8")
+        for tests in TESTS.findall(text):
+            root.with_name(tests + ".rt").unlink()
+
+
+class Build:
+    """The crates below the program: what they cost, what is proved of them, and what is being proved."""
+
+    def __init__(self, folder, is_kept):
+        self.folder, self.begun = folder, time.time()
+        self.lines = {row.split(":")[0].split()[0]: row for row in rows("crates.txt")}
+        self.stands_on = {c: [d for d in row.split(":")[1].split() if d in self.lines] for c, row in self.lines.items()}
+        self.crates = below(NAME, self.stands_on, [])
+        costs = {name: cost for name, *cost in map(str.split, rows("bench", "costs.txt"))}
+        self.minutes = {name: float(costs.get(name, USUAL_COST)[0]) for name in self.crates}
+        self.megabytes = {name: int(costs.get(name, USUAL_COST)[1]) for name in self.crates}
+        self.chain = {}  # the minutes of the longest chain of crates that begins with each
+        for name in reversed(self.crates):
+            above = [self.chain[c] for c in self.crates if name in self.stands_on[c]]
+            self.chain[name] = self.minutes[name] + max(above, default=0)
+        self.processors = len(os.sched_getaffinity(0))
+        free = int(re.search(r"MemAvailable:\s+(\d+)", Path("/proc/meminfo").read_text())[1]) >> 10
+        self.memory = min(0.85 * free, max(MEMORY, MEMORY_EACH * self.processors))
+        self.is_kept = is_kept  # where the kit keeps nothing, one run proves all
+        self.waiting = sorted(self.crates, key=lambda c: -self.chain[c]) if is_kept else [NAME]
+        self.proved, self.running, self.jobs = set(), {}, []
+
+    def left(self):
+        """The minutes that are left, as the crates usually cost."""
+        lacking = [c for c in self.crates if c not in self.proved]
+        done = {c: width * (time.monotonic() - begun) / 60 for c, width, begun in list(self.running.values())}
+        costs = sum(max(0, self.minutes[c] - done.get(c, 0)) for c in lacking)
+        return max([1, costs / self.processors] + [self.chain[c] - done.get(c, 0) for c in lacking])
+
+    def next_crate(self):
+        """The crate to begin now, with the longest chain of others above, and its processors, if any."""
+        self.waiting = [c for c in self.waiting if c not in self.proved]
+        needs = lambda c, width: self.megabytes[c] * (1 + 0.6 * (width - 1))
+        idle = self.processors - sum(width for _, width, _ in self.running.values())
+        room = self.memory - sum(needs(c, width) for c, width, _ in self.running.values())
+        if not self.is_kept:
+            return (NAME, max(1, min(idle, int(room // MEMORY_EACH)))) if self.waiting else None
+        fits = [c for c in self.waiting if not self.running or needs(c, 1) <= room]
+        name = next((c for c in fits if self.proved.issuperset(self.stands_on[c])), None)
+        if name is None or idle <= 0:
+            return None
+        half = min(4, self.processors // 2)  # what rt takes where it may choose
+        is_last = self.minutes[name] >= LONG and self.chain[name] > 0.9 * self.left()
+        return name, half if is_last and 1 < half <= idle and needs(name, half) <= room else 1
+
+    def prove(self, name, width):
+        """Proves a crate; where that fails, the crate that isn't proved and what was said."""
+        temporary = os.path.join(self.folder, "tmp")
+        environment = {**os.environ, "TMPDIR": temporary, "RT_JOBS": str(width), "CI": ""}
+        if width > 1 and self.is_kept:
+            del environment["RT_JOBS"]
+        said, told = [], None
+        with subprocess.Popen(["rt", "ci", name], cwd=self.folder, env=environment, stdin=subprocess.DEVNULL,
+                              stdout=subprocess.PIPE, stderr=subprocess.STDOUT, text=True, errors="replace") as job:
+            self.jobs.append(job)
+            try:
+                for line in job.stdout:
+                    said.append(line)
+                    told = re.match(r"rt: (\w+) (proved|is kept|NOT PROVED)\b", line)
+                    if told and told[2] != "NOT PROVED":
+                        if told[1] == NAME:
+                            job.send_signal(signal.SIGSTOP)  # so that it doesn't remove what it built
+                            self.take(glob.glob(f"{temporary}/rt-copy-{job.pid}-*/repo/crates/{NAME}/out/{NAME}")[0])
+                        self.note(told[1])
+                    if told and (told[1] == name or told[2] == "NOT PROVED"):
+                        break
+            finally:
+                job.kill()
+        for left in glob.glob(f"{temporary}/rt-*-{job.pid}-*"):
+            shutil.rmtree(left, ignore_errors=True)
+        return None if name in self.proved else (told[1] if told else name, said)
+
+    def take(self, made):
+        """Puts the program in its place, with the time at which the sources were copied."""
+        shutil.copy(made, PROGRAM + ".new")
+        os.utime(PROGRAM + ".new", (self.begun, self.begun))
+        os.replace(PROGRAM + ".new", PROGRAM)
+
+    def note(self, name):
+        """Notes that a crate is proved, now or by an earlier run."""
+        if name not in self.proved:
+            self.proved.add(name)
+            tell(f"proved {name} ({len(self.proved)} of {len(self.crates)}), about {self.left():.0f} minutes left")
+
+    def go_on(self, pool):
+        """Begins what can begin, and waits until a proof ends, or for a minute."""
+        for name, width in iter(self.next_crate, None):
+            self.waiting.remove(name)
+            self.running[pool.submit(self.prove, name, width)] = name, width, time.monotonic()
+        done = wait(self.running, timeout=60, return_when=FIRST_COMPLETED).done
+        if not done:
+            tell(f"proving {', '.join(c for c, _, _ in self.running.values())}, about {self.left():.0f} minutes left")
+        for job in done:
+            del self.running[job]
+            if job.result():
+                fail(*job.result())
+
+    def run(self):
+        on = f"about {self.left():.0f} minutes on {self.processors} processors"
+        tell(f"proving and building it, once: {len(self.crates)} crates, {on}")
+        for name in self.crates:
+            copy_crate(name, os.path.join(self.folder, "crates", name))
+        Path(self.folder, "crates.txt").write_text("".join(self.lines[name] + "\n" for name in self.crates))
+        shutil.copy(os.path.join(TOP, "HANDLES"), self.folder)
+        os.mkdir(os.path.join(self.folder, "tmp"))
+        with ThreadPoolExecutor(self.processors) as pool:
+            try:
+                while NAME not in self.proved:
+                    self.go_on(pool)
+            finally:
+                for job in self.jobs:
+                    job.kill()
+        tell(f"built in {(time.time() - self.begun) / 60:.0f} minutes")
+
+
+def build():
+    """Builds in a folder that goes again, also where the build is stopped; a killed one leaves it to the next."""
+    rt = shutil.which("rt") or fail(NAME, ["there is no `rt` on the PATH, the command of the Rattle kit\n"])
+    for number in (signal.SIGTERM, signal.SIGHUP, signal.SIGINT):
+        signal.signal(number, lambda number, frame: sys.exit(128 + number))
+    # the kit keeps proofs beside its own folder; the build's is on that disk, where they are linked and not copied
+    beside = Path(rt).resolve().parent.parent.parent
+    kept = beside / "rattle-kept" if (beside / "rattle-kept").is_dir() else beside
+    is_kept = os.access(kept, os.W_OK) and shutil.disk_usage(kept).free >> 20 >= DISK
+    os.makedirs(os.path.dirname(PROGRAM), exist_ok=True)
+    places = [tempfile.gettempdir(), os.path.dirname(PROGRAM)]
+    for old in [old for place in places for old in glob.glob(os.path.join(place, "bplserve-build-*-*"))]:
+        if not os.path.exists("/proc/" + old.rsplit("-", 2)[1]):
+            shutil.rmtree(old, ignore_errors=True)
+    place = next((it for it in places if os.stat(it).st_dev == os.stat(kept).st_dev), places[0])
+    folder = tempfile.mkdtemp(prefix=f"bplserve-build-{os.getpid()}-", dir=place)
+    try:
+        Build(folder, is_kept).run()
+    finally:
+        shutil.rmtree(folder, ignore_errors=True)
