@@ -15,7 +15,7 @@ import time
 from concurrent.futures import FIRST_COMPLETED, ThreadPoolExecutor, wait
 from pathlib import Path
 
-TOP = os.path.dirname(os.path.realpath(__file__))
+TOP = os.path.dirname(os.path.dirname(os.path.realpath(__file__)))
 NAME = "bplserve"
 PROGRAM = os.path.join(TOP, "crates", NAME, "out", NAME)
 BUILD_FAILED = 70
