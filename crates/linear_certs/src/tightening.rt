@@ -67,7 +67,7 @@ fn tight_equal(alloc: Global, d: &Term) -> Result<Term, AllocError>
 fn tight_not(alloc: Global, t: Term) -> Result<Term, AllocError>
     ensures { IfOk result (λ u. u ≡ tight_not t) }
 {
-    match t.node {
+    match t.into_node() {
         Node::Truth(b) => Ok(Term::new(Node::Truth(!b))),
         node => Ok(Term::new(Node::Not(Box::new(alloc, Term::new(node))?))),
     }

@@ -96,11 +96,11 @@ fn into_parts(connective: Connective, term: Term) -> Result<Vec<Term>, Term>
     ensures other { IfErr result (λ t. (t ≡ term) × (as_joined connective term ≡ None)) }
 {
     match connective {
-        Connective::And => match term.node {
+        Connective::And => match term.into_node() {
             Node::And(parts) => Ok(parts),
             node => Err(Term::new(node)),
         },
-        Connective::Or => match term.node {
+        Connective::Or => match term.into_node() {
             Node::Or(parts) => Ok(parts),
             node => Err(Term::new(node)),
         },

@@ -35,7 +35,7 @@ use std::alloc::{AllocError, Global};
 fn choice(alloc: Global, c: Term, a: Term, b: Term) -> Result<Term, AllocError>
     ensures { IfOk result (λ t. t ≡ choice c a b) }
 {
-    match c.node {
+    match c.into_node() {
         Node::Truth(true) => Ok(a),
         Node::Truth(false) => Ok(b),
         node => {
@@ -78,7 +78,7 @@ impl Term {
 fn equals_zero(alloc: Global, d: Term) -> Result<Term, NormalFault>
     ensures { Gives result (equals_zero d) }
 {
-    match d.node {
+    match d.into_node() {
         Node::Num(n) => Ok(Term::new(Node::Truth(n == 0))),
         node => {
             let d = Term::new(node);
@@ -96,7 +96,7 @@ fn equals_zero(alloc: Global, d: Term) -> Result<Term, NormalFault>
 pub fn zero_at_most(alloc: Global, d: Term) -> Result<Term, AllocError>
     ensures { IfOk result (λ t. t ≡ zero_at_most d) }
 {
-    match d.node {
+    match d.into_node() {
         Node::Num(n) => Ok(Term::new(Node::Truth(0 <= n))),
         node => {
             let zero = Box::new(alloc, Term::new(Node::Num(0)))?;
@@ -109,7 +109,7 @@ pub fn zero_at_most(alloc: Global, d: Term) -> Result<Term, AllocError>
 fn equivalence_with(alloc: Global, a: Term, b: Term) -> Result<Term, NormalFault>
     ensures { Gives result (equivalence_with a b) }
 {
-    match b.node {
+    match b.into_node() {
         Node::Truth(true) => Ok(a),
         Node::Truth(false) => negated(alloc, &a),
         node => {
@@ -123,7 +123,7 @@ fn equivalence_with(alloc: Global, a: Term, b: Term) -> Result<Term, NormalFault
 fn equivalence(alloc: Global, a: Term, b: Term) -> Result<Term, NormalFault>
     ensures { Gives result (equivalence a b) }
 {
-    match a.node {
+    match a.into_node() {
         Node::Truth(true) => Ok(b),
         Node::Truth(false) => negated(alloc, &b),
         node => equivalence_with(alloc, Term::new(node), b),
@@ -135,24 +135,14 @@ fn equation_of(alloc: Global, sort: Option<Sort>, a: Term, b: Term) -> Result<Te
     ensures { Gives result (equation_of sort a b) }
 {
     match sort {
-        Some(
-            Sort {
-                kind: SortKind::Int,
-            },
-        ) => equals_zero(alloc, difference(alloc, a, b)?),
-        Some(
-            Sort {
-                kind: SortKind::Bool,
-            },
-        ) => equivalence(alloc, a, b),
-        Some(
-            Sort {
-                kind: SortKind::Map(_),
-            },
-        ) => {
-            let (first, second) = in_order(a, b);
-            Ok(equal(alloc, first, second)?)
-        }
+        Some(sort) => match &sort.kind {
+            SortKind::Int => equals_zero(alloc, difference(alloc, a, b)?),
+            SortKind::Bool => equivalence(alloc, a, b),
+            SortKind::Map(_) => {
+                let (first, second) = in_order(a, b);
+                Ok(equal(alloc, first, second)?)
+            }
+        },
         None => Ok(equal(alloc, a, b)?),
     }
 }
@@ -183,7 +173,7 @@ fn for_all(
 ) -> Result<Term, AllocError>
     ensures { IfOk result (λ t. t ≡ quantified (λ v. for_all sorts.items (patterns_of (each_items patterns.items)) v) body) }
 {
-    match body.node {
+    match body.into_node() {
         Node::Truth(b) => Ok(Term::new(Node::Truth(b))),
         node => Ok(Term::new(Node::ForAll(sorts, patterns, Box::new(alloc, Term::new(node))?))),
     }
@@ -198,7 +188,7 @@ fn exists(
 ) -> Result<Term, AllocError>
     ensures { IfOk result (λ t. t ≡ quantified (λ v. exists sorts.items (patterns_of (each_items patterns.items)) v) body) }
 {
-    match body.node {
+    match body.into_node() {
         Node::Truth(b) => Ok(Term::new(Node::Truth(b))),
         node => Ok(Term::new(Node::Exists(sorts, patterns, Box::new(alloc, Term::new(node))?))),
     }

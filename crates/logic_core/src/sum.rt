@@ -167,7 +167,7 @@ impl Linear {
     pub fn add_term(self, k: i128, t: Term) -> Result<Linear, NormalFault>
         ensures { Gives result (add_term k t self) }
     {
-        match t.node {
+        match t.into_node() {
             Node::Num(n) => self.add_number(k, n),
             Node::Sum(parts, c) => self.add_sum(k, parts, c),
             node => self.add_atom(k, Term::new(node)),
@@ -223,7 +223,7 @@ pub fn in_order(a: Term, b: Term) -> (Term, Term)
 fn product_with(alloc: Global, a: Term, b: Term) -> Result<Term, NormalFault>
     ensures { Gives result (product_with a b) }
 {
-    match b.node {
+    match b.into_node() {
         Node::Num(n) => affine(alloc, n, a, 0),
         node => {
             let (first, second) = in_order(a, Term::new(node));
@@ -237,7 +237,7 @@ fn product_with(alloc: Global, a: Term, b: Term) -> Result<Term, NormalFault>
 pub fn product(alloc: Global, a: Term, b: Term) -> Result<Term, NormalFault>
     ensures { Gives result (product a b) }
 {
-    match a.node {
+    match a.into_node() {
         Node::Num(n) => affine(alloc, n, b, 0),
         node => product_with(alloc, Term::new(node), b),
     }

@@ -49,7 +49,7 @@ fn read_at_distance(
 ) -> Result<Term, Refusal>
     ensures { Finds result (read_at_distance defs.now context.now (record { table = map.now; at = at.now; value = value.now; index = index.now })) }
 {
-    match distance(alloc, defs, context, at, index)?.node {
+    match &distance(alloc, defs, context, at, index)?.node {
         Node::Num(0) => Ok(value.copy(alloc)?),
         Node::Num(_) => Ok(read(alloc, map, index)?),
         _ => Err(Refusal::Unmet),

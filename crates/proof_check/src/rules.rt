@@ -217,7 +217,7 @@ fn different(alloc: Global, defs: &[Def], context: &Context, t: &Term) -> Result
     ensures { FindsAs (λ a. extended context.now a) result (different defs.now context.now t.now) }
 {
     match &t.node {
-        Node::Eq(a, b) => match context.named(alloc, defs, a)? {
+        Node::Eq(a, b) => match &context.named(alloc, defs, a)? {
             Some(
                 Sort {
                     kind: SortKind::Map(_),

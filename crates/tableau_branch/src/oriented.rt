@@ -251,7 +251,7 @@ fn greater_side<'a>(sort: Option<Sort>, a: &'a Term, b: &'a Term) -> Option<&'a 
     ensures { option_copied result ≡ greater_side sort a.now b.now }
 {
     match sort {
-        Some(sort) => match sort.kind {
+        Some(sort) => match &sort.kind {
             SortKind::Int => None,
             SortKind::Bool => {
                 if is_application(b) && !has_quantifier(a) {

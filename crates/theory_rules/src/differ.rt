@@ -33,7 +33,7 @@ fn sides_of_maps<'a>(
     ensures { IfOk result (λ o. option_map (λ p. (p.0.now, p.1.now)) o ≡ sides_of_maps defs.now branch.now t.now) }
 {
     match &t.node {
-        Node::Eq(a, b) => match a.sort_over(alloc, &branch.vars, defs, &[])? {
+        Node::Eq(a, b) => match &a.sort_over(alloc, &branch.vars, defs, &[])? {
             Some(
                 Sort {
                     kind: SortKind::Map(_),

@@ -9,5 +9,5 @@ use Rattle.logic_core.proofs.sum.Linear.add_term.Goals as goal
 pub returns-in-Sum : goal.returns-in-Sum
 returns-in-Sum c =
     let fits : FitsSigned w128 c.in-Sum.c = search rules in
-    let shape : c.args.t ≡ linear (parts_of c.in-Sum.parts.items) c.in-Sum.c = sym c.t.view_is ∙ ap tree_of c.in-Sum.is in
-    rw shape (rw (to_z-of_z w128 c.args.k c.ranges.k, c.in-Sum.parts-is, c.in-Sum.c-is, to_z-of_z w128 c.in-Sum.c fits) at c.add_sum.ensures)
+    let shape : c.args.t ≡ linear (parts_of c.in-Sum.parts.items) c.in-Sum.c = sym c.into_node.ensures ∙ ap tree_of c.in-Sum.is in
+    rw shape (rw (to_z-of_z w128 c.args.k c.ranges.k, to_z-of_z w128 c.in-Sum.c fits) at c.add_sum.ensures)
