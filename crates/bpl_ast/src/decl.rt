@@ -1,4 +1,6 @@
 // Declarations, and programs.
+ghost use Rattle.std.specs.Prelude.{◌≡◌};
+
 use crate::expr::{Expr, Group};
 use crate::name::{Name, TypeParams};
 use crate::stmt::Stmt;
@@ -7,10 +9,17 @@ use bv_base::place::{Place, Span};
 use std::marker::Model;
 
 /// A clause of a procedure's contract, and the place of its word, `free` not counted.
-#[derive(Drop)]
 pub struct Spec {
     pub at: Place,
     pub form: SpecForm,
+}
+
+// Written out: a derived drop is proved again wherever a value is dropped.
+impl Drop for Spec {
+    fn drop(self) {
+        let Spec { at: _, form } = self;
+        drop(form);
+    }
 }
 
 /// The forms of clauses.
@@ -25,24 +34,59 @@ pub enum SpecForm {
 }
 
 /// The body of a procedure: each `var` of its locals, and its statements.
-#[derive(Drop)]
 pub struct Body {
     pub locals: Vec<Vec<Group>>,
     pub stmts: Vec<Stmt>,
 }
 
+// Written out: a derived drop is proved again wherever a value is dropped.
+impl Drop for Body {
+    fn drop(self) {
+        let Body { locals, stmts } = self;
+        drop(locals);
+        drop(stmts);
+    }
+}
+
 /// The parameters of a procedure, and its results.
-#[derive(Drop)]
 pub struct Signature {
     pub ins: Vec<Group>,
     pub outs: Vec<Group>,
 }
 
+// Written out: a derived drop is proved again wherever a value is dropped.
+impl Drop for Signature {
+    fn drop(self) {
+        let Signature { ins, outs } = self;
+        drop(ins);
+        drop(outs);
+    }
+}
+
 /// A parameter of a function, perhaps without a name.
-#[derive(Drop)]
 pub struct Argument {
     pub name: Option<Name>,
     pub of: Type,
+}
+
+// Written out: a derived drop is proved again wherever a value is dropped.
+impl Drop for Argument {
+    fn drop(self) {
+        let Argument { name, of } = self;
+        drop(name);
+        drop(of);
+    }
+}
+
+impl Argument {
+    /// Its type.
+    pub fn into_type(self) -> Type
+        ensures { result ≡ self.type }
+    {
+        let Argument { name, of } = self;
+        drop(name);
+        of
+    }
 }
 
 /// The forms of declarations.
@@ -90,12 +134,26 @@ pub enum DeclBody {
 
 /// A declaration. Its name is that of the first thing that it declares, `@k` for the k-th axiom,
 /// or `implementation P`. Its span is in the program's text, and its source the bytes there.
-#[derive(Drop)]
 pub struct Decl {
     pub name: String,
     pub span: Span,
     pub source: Vec<u8>,
     pub body: DeclBody,
+}
+
+// Written out: a derived drop is proved again wherever a value is dropped.
+impl Drop for Decl {
+    fn drop(self) {
+        let Decl {
+            name,
+            span: _,
+            source,
+            body,
+        } = self;
+        drop(name);
+        drop(source);
+        drop(body);
+    }
 }
 
 /// A program: its declarations, in the order of its text.

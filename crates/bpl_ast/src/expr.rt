@@ -11,10 +11,18 @@ use std::marker::Model;
 
 /// An expression, and the place of its first token, an opening parenthesis around it counted.
 #[cycle(expr)]
-#[derive(Drop)]
 pub struct Expr {
     pub at: Place,
     pub form: ExprForm,
+}
+
+// Written out: a derived drop is proved again wherever a value is dropped.
+impl Drop for Expr {
+    #[cycle(expr)]
+    fn drop(self) {
+        let Expr { at: _, form } = self;
+        drop(form);
+    }
 }
 
 /// The forms of expressions. A run of `<==>`, `==>`, `&&`, `||`, a sum, a product and a run of
@@ -121,27 +129,57 @@ pub enum Index {
 
 /// The patterns of a trigger, and the place of its brace.
 #[cycle(expr)]
-#[derive(Drop)]
 pub struct Trigger {
     pub at: Place,
     pub patterns: Vec<Expr>,
 }
 
+// Written out: a derived drop is proved again wherever a value is dropped.
+impl Drop for Trigger {
+    #[cycle(expr)]
+    fn drop(self) {
+        let Trigger { at: _, patterns } = self;
+        drop(patterns);
+    }
+}
+
 /// Names that are declared together, their type, and the condition on their values.
 #[cycle(expr)]
-#[derive(Drop)]
 pub struct Group {
     pub names: Vec<Name>,
     pub of: Type,
     pub condition: Option<Where>,
 }
 
+// Written out: a derived drop is proved again wherever a value is dropped.
+impl Drop for Group {
+    #[cycle(expr)]
+    fn drop(self) {
+        let Group {
+            names,
+            of,
+            condition,
+        } = self;
+        drop(names);
+        drop(of);
+        drop(condition);
+    }
+}
+
 /// A condition on the values of variables, and the place of the word `where`.
 #[cycle(expr)]
-#[derive(Drop)]
 pub struct Where {
     pub at: Place,
     pub condition: Expr,
+}
+
+// Written out: a derived drop is proved again wherever a value is dropped.
+impl Drop for Where {
+    #[cycle(expr)]
+    fn drop(self) {
+        let Where { at: _, condition } = self;
+        drop(condition);
+    }
 }
 
 impl Model for Expr {
@@ -176,9 +214,7 @@ impl Expr {
     pub fn in_parentheses(self, at: Place) -> Expr
         ensures { result ≡ expr_from at self }
     {
-        Expr {
-            at,
-            form: self.form,
-        }
+        let Expr { at: _, form } = self;
+        Expr { at, form }
     }
 }

@@ -5,10 +5,17 @@ use bv_base::place::Place;
 use std::marker::Model;
 
 /// A name, and the place of its first byte.
-#[derive(Drop)]
 pub struct Name {
     pub text: String,
     pub at: Place,
+}
+
+// Written out: a derived drop is proved again wherever a value is dropped.
+impl Drop for Name {
+    fn drop(self) {
+        let Name { text, at: _ } = self;
+        drop(text);
+    }
 }
 
 impl Model for Name {
@@ -24,10 +31,17 @@ impl Model for Name {
 }
 
 /// Type parameters, in angle brackets, and the place of the opening one.
-#[derive(Drop)]
 pub struct TypeParams {
     pub at: Place,
     pub names: Vec<Name>,
+}
+
+// Written out: a derived drop is proved again wherever a value is dropped.
+impl Drop for TypeParams {
+    fn drop(self) {
+        let TypeParams { at: _, names } = self;
+        drop(names);
+    }
 }
 
 impl Model for TypeParams {

@@ -10,11 +10,24 @@ use std::marker::Model;
 
 /// A statement behind its labels, and the place of the first token after them.
 #[cycle(stmt)]
-#[derive(Drop)]
 pub struct Stmt {
     pub labels: Vec<Name>,
     pub at: Place,
     pub form: StmtForm,
+}
+
+// Written out: a derived drop is proved again wherever a value is dropped.
+impl Drop for Stmt {
+    #[cycle(stmt)]
+    fn drop(self) {
+        let Stmt {
+            labels,
+            at: _,
+            form,
+        } = self;
+        drop(labels);
+        drop(form);
+    }
 }
 
 /// The forms of statements. A guard that is missing is `*`.
@@ -45,26 +58,54 @@ pub enum StmtForm {
 
 /// A branch of an `if`, and the place of the word.
 #[cycle(stmt)]
-#[derive(Drop)]
 pub struct Branch {
     pub at: Place,
     pub guard: Option<Expr>,
     pub body: Vec<Stmt>,
 }
 
+// Written out: a derived drop is proved again wherever a value is dropped.
+impl Drop for Branch {
+    #[cycle(stmt)]
+    fn drop(self) {
+        let Branch { at: _, guard, body } = self;
+        drop(guard);
+        drop(body);
+    }
+}
+
 /// A target of an assignment: a variable, or one of its entries.
-#[derive(Drop)]
 pub struct Target {
     pub name: Name,
     pub indices: Vec<Expr>,
 }
 
+// Written out: a derived drop is proved again wherever a value is dropped.
+impl Drop for Target {
+    fn drop(self) {
+        let Target { name, indices } = self;
+        drop(name);
+        drop(indices);
+    }
+}
+
 /// An invariant of a loop, and the place of the word `invariant`.
-#[derive(Drop)]
 pub struct Invariant {
     pub at: Place,
     pub free: bool,
     pub formula: Expr,
+}
+
+// Written out: a derived drop is proved again wherever a value is dropped.
+impl Drop for Invariant {
+    fn drop(self) {
+        let Invariant {
+            at: _,
+            free: _,
+            formula,
+        } = self;
+        drop(formula);
+    }
 }
 
 impl Model for Target {

@@ -9,10 +9,18 @@ use std::marker::Model;
 
 /// A type, and the place of its first token, an opening parenthesis around it counted.
 #[cycle(types)]
-#[derive(Drop)]
 pub struct Type {
     pub at: Place,
     pub form: TypeForm,
+}
+
+// Written out: a derived drop is proved again wherever a value is dropped.
+impl Drop for Type {
+    #[cycle(types)]
+    fn drop(self) {
+        let Type { at: _, form } = self;
+        drop(form);
+    }
 }
 
 /// The forms of types.
@@ -61,9 +69,7 @@ impl Type {
     pub fn in_parentheses(self, at: Place) -> Type
         ensures { result ≡ ty_from at self }
     {
-        Type {
-            at,
-            form: self.form,
-        }
+        let Type { at: _, form } = self;
+        Type { at, form }
     }
 }

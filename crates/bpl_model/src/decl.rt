@@ -4,35 +4,74 @@ use logic_core::{Def, Formula, Sort};
 use std::marker::Model;
 
 /// A constant.
-#[derive(Drop)]
 pub struct Const {
     pub name: Name,
     pub sort: Sort,
 }
 
+// Written out: a derived drop is proved again wherever a value is dropped.
+impl Drop for Const {
+    fn drop(self) {
+        let Const { name, sort } = self;
+        drop(name);
+        drop(sort);
+    }
+}
+
 /// A function, and the definition that its applications stand for.
-#[derive(Drop)]
 pub struct Function {
     pub name: Name,
     pub def: Def,
 }
 
+// Written out: a derived drop is proved again wherever a value is dropped.
+impl Drop for Function {
+    fn drop(self) {
+        let Function { name, def } = self;
+        drop(name);
+        drop(def);
+    }
+}
+
 /// A global variable. Its clause is assumed wherever it gets an arbitrary value.
-#[derive(Drop)]
 pub struct Global {
     pub name: Name,
     pub sort: Sort,
     pub clause: Option<Formula>,
 }
 
+// Written out: a derived drop is proved again wherever a value is dropped.
+impl Drop for Global {
+    fn drop(self) {
+        let Global { name, sort, clause } = self;
+        drop(name);
+        drop(sort);
+        drop(clause);
+    }
+}
+
 /// A parameter, a result or a local of a procedure. Its clause is assumed wherever it gets an
 /// arbitrary value. Those that stand for replaced calls are `own`, and the last of the locals.
-#[derive(Drop)]
 pub struct Local {
     pub name: Name,
     pub sort: Sort,
     pub own: bool,
     pub clause: Option<Formula>,
+}
+
+// Written out: a derived drop is proved again wherever a value is dropped.
+impl Drop for Local {
+    fn drop(self) {
+        let Local {
+            name,
+            sort,
+            own: _,
+            clause,
+        } = self;
+        drop(name);
+        drop(sort);
+        drop(clause);
+    }
 }
 
 impl Model for Const {

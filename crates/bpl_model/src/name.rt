@@ -5,9 +5,16 @@ use std::alloc::{AllocError, Global};
 use std::marker::Model;
 
 /// A name; contracts see its bytes.
-#[derive(Drop)]
 pub struct Name {
     pub text: String,
+}
+
+// Written out: a derived drop is proved again wherever a value is dropped.
+impl Drop for Name {
+    fn drop(self) {
+        let Name { text } = self;
+        drop(text);
+    }
 }
 
 impl Model for Name {

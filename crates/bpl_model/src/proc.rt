@@ -6,7 +6,6 @@ use crate::stmt::Stmt;
 use std::marker::Model;
 
 /// A procedure: its in-parameters, outs and locals, its contract, and its body where it has one.
-#[derive(Drop)]
 pub struct Proc {
     pub name: Name,
     pub ins: Vec<Local>,
@@ -14,6 +13,26 @@ pub struct Proc {
     pub locals: Vec<Local>,
     pub specs: Vec<Spec>,
     pub body: Option<Vec<Stmt>>,
+}
+
+// Written out: a derived drop is proved again wherever a value is dropped.
+impl Drop for Proc {
+    fn drop(self) {
+        let Proc {
+            name,
+            ins,
+            outs,
+            locals,
+            specs,
+            body,
+        } = self;
+        drop(name);
+        drop(ins);
+        drop(outs);
+        drop(locals);
+        drop(specs);
+        drop(body);
+    }
 }
 
 impl Model for Proc {

@@ -7,9 +7,16 @@ use logic_core::Formula;
 use std::marker::Model;
 
 /// A clause of a contract.
-#[derive(Drop)]
 pub struct Spec {
     pub form: SpecForm,
+}
+
+// Written out: a derived drop is proved again wherever a value is dropped.
+impl Drop for Spec {
+    fn drop(self) {
+        let Spec { form } = self;
+        drop(form);
+    }
 }
 
 /// The forms of clauses. The truth value says whether the clause is free: only assumed, and never

@@ -10,9 +10,17 @@ use std::marker::Model;
 
 /// A statement.
 #[cycle(stmt)]
-#[derive(Drop)]
 pub struct Stmt {
     pub form: StmtForm,
+}
+
+// Written out: a derived drop is proved again wherever a value is dropped.
+impl Drop for Stmt {
+    #[cycle(stmt)]
+    fn drop(self) {
+        let Stmt { form } = self;
+        drop(form);
+    }
 }
 
 /// The forms of statements, each with its place. Variables and procedures go by their numbers; a

@@ -79,7 +79,7 @@ impl<'a> Cursor<'a> {
         self.expect(b"(")?;
         let argument = self.argument(alloc, room)?;
         self.expect(b")")?;
-        Ok(argument.of)
+        Ok(argument.into_type())
     }
 
     /// "returns" "(" FArg ")" | ":" Type

@@ -4,7 +4,6 @@ use bv_base::place::Place;
 use logic_core::{Formula, Sequence};
 
 /// An invariant of a loop.
-#[derive(Drop)]
 pub struct Invariant {
     /// Whether it is only assumed, and never checked.
     pub free: bool,
@@ -14,8 +13,19 @@ pub struct Invariant {
     pub formula: Formula,
 }
 
+// Written out: a derived drop is proved again wherever a value is dropped.
+impl Drop for Invariant {
+    fn drop(self) {
+        let Invariant {
+            free: _,
+            place: _,
+            formula,
+        } = self;
+        drop(formula);
+    }
+}
+
 /// What stands at the head of a loop.
-#[derive(Drop)]
 pub struct LoopHead {
     /// The invariants of the loop, in order.
     pub invariants: Sequence<Invariant>,
@@ -23,8 +33,19 @@ pub struct LoopHead {
     pub targets: Sequence<u64>,
 }
 
+// Written out: a derived drop is proved again wherever a value is dropped.
+impl Drop for LoopHead {
+    fn drop(self) {
+        let LoopHead {
+            invariants,
+            targets,
+        } = self;
+        drop(invariants);
+        drop(targets);
+    }
+}
+
 /// A block: commands one after another, and then an edge to any of its successors.
-#[derive(Drop)]
 pub struct Block {
     /// The commands, in order.
     pub commands: Sequence<Command>,
@@ -32,4 +53,18 @@ pub struct Block {
     pub next: Sequence<u64>,
     /// What it is the head of, if it is the head of a loop.
     pub head: Option<LoopHead>,
+}
+
+// Written out: a derived drop is proved again wherever a value is dropped.
+impl Drop for Block {
+    fn drop(self) {
+        let Block {
+            commands,
+            next,
+            head,
+        } = self;
+        drop(commands);
+        drop(next);
+        drop(head);
+    }
 }

@@ -10,7 +10,6 @@ use std::alloc::{AllocError, Global};
 use std::marker::Model;
 
 /// A definition, whose applications stand for its body.
-#[derive(Drop)]
 pub struct Def {
     /// The sorts of the parameters.
     pub params: Sequence<Sort>,
@@ -20,6 +19,21 @@ pub struct Def {
     pub logical: bool,
     /// The body, in which `Bound(0)` is the last parameter.
     pub body: Term,
+}
+
+// Written out, as a term's.
+impl Drop for Def {
+    fn drop(self) {
+        let Def {
+            params,
+            sort,
+            logical: _,
+            body,
+        } = self;
+        drop(params);
+        drop(sort);
+        drop(body);
+    }
 }
 
 impl Model for Def {
@@ -50,10 +64,18 @@ impl Def {
 /// The sorts of the variables, by number, and the definitions, by number. Each body is well
 /// sorted under its parameters, has its definition's sort, and applies definitions of lower
 /// numbers alone.
-#[derive(Drop)]
 pub struct Signature {
     vars: Sequence<Sort>,
     defs: Sequence<Def>,
+}
+
+// Written out, as a term's.
+impl Drop for Signature {
+    fn drop(self) {
+        let Signature { vars, defs } = self;
+        drop(vars);
+        drop(defs);
+    }
 }
 
 impl Model for Signature {

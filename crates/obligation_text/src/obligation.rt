@@ -10,11 +10,24 @@ use std::marker::Model;
 
 /// What is to be proved: the goal, in every assignment of the signature's variables in which all
 /// axioms hold. The axioms and the goal are closed, well-sorted formulas over the signature.
-#[derive(Drop)]
 pub struct Obligation {
     signature: Signature,
     axioms: Sequence<Term>,
     goal: Term,
+}
+
+// Written out: a derived drop is proved again wherever a value is dropped.
+impl Drop for Obligation {
+    fn drop(self) {
+        let Obligation {
+            signature,
+            axioms,
+            goal,
+        } = self;
+        drop(signature);
+        drop(axioms);
+        drop(goal);
+    }
 }
 
 impl Model for Obligation {

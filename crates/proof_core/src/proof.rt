@@ -51,10 +51,19 @@ pub enum Step {
 
 /// A proof: its steps in order, and then its end.
 #[cycle(proof)]
-#[derive(Drop)]
 pub struct Proof {
     pub steps: Vec<Step>,
     pub end: End,
+}
+
+// Written out: a derived drop is proved again wherever a value is dropped.
+impl Drop for Proof {
+    #[cycle(proof)]
+    fn drop(self) {
+        let Proof { steps, end } = self;
+        drop(steps);
+        drop(end);
+    }
 }
 
 /// How a branch ends: by a close, or by a node with a proof for each of its children.
