@@ -54,11 +54,7 @@ fn sort_at(alloc: Global, sorts: &[Sort], number: u64) -> Result<Option<Sort>, A
 }
 
 /// The sorts of the bound variables in reach of a binder's body: the binder's last variable first.
-pub(crate) fn within_binder(
-    alloc: Global,
-    sorts: &[Sort],
-    bound: &[Sort],
-) -> Result<Vec<Sort>, AllocError>
+pub fn within_binder(alloc: Global, sorts: &[Sort], bound: &[Sort]) -> Result<Vec<Sort>, AllocError>
     ensures { IfOk result (λ v. v.items ≡ reverse sorts.now ++ bound.now) }
 {
     let mut reach = copy_sorts(alloc, sorts)?;

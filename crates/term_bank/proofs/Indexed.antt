@@ -20,7 +20,7 @@ last_push (k ∷ ns) n m = ap (λ o. or_first o (nat_eq n k)) (last_push ns n m)
     by true = refl
     by false = refl
 
-looked_up : (n : ℕ) (es : List (ℕ × ℕ)) (k v : ℕ) → lookup (nat_eq n) (insert_entry nat_eq es k v) ≡ cond (nat_eq n k) (Some v) (lookup (nat_eq n) es)
+pub looked_up : (n : ℕ) (es : List (ℕ × ℕ)) (k v : ℕ) → lookup (nat_eq n) (insert_entry nat_eq es k v) ≡ cond (nat_eq n k) (Some v) (lookup (nat_eq n) es)
 looked_up n [] k v = refl
 looked_up n (e ∷ es) k v = by (nat_eq k e.0) refl (looked_up n es k v)
   where

@@ -11,7 +11,7 @@ const SPREAD: u64 = 11_400_714_819_323_198_485;
 
 // One more number in a hash.
 #[tactic(auto, unfolding(crate::specs::Hash::mixed))]
-fn mix(hash: u64, number: u64) -> u64
+pub fn mix(hash: u64, number: u64) -> u64
     ensures { result ≡ mixed hash number }
 {
     let sum = hash.wrapping_mul(SPREAD).wrapping_add(number);
@@ -31,7 +31,7 @@ fn size_of(number: i128) -> u64
 }
 
 // A hash of a number.
-fn number_hash(number: i128) -> u64
+pub fn number_hash(number: i128) -> u64
     ensures { result ≡ number_hash number }
 {
     if number < 0 {

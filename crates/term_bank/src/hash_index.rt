@@ -10,7 +10,7 @@ use std::marker::Model;
 
 /// Hashes in the order in which they came, a hash perhaps several times.
 #[derive(Drop)]
-pub(crate) struct HashIndex {
+pub struct HashIndex {
     hashes: Vec<u64>,
     latest: IndexMap<u64, usize>,
     earlier: Vec<Option<usize>>,

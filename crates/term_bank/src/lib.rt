@@ -10,14 +10,14 @@ pub mod node;
 
 // Hashes of terms.
 pub mod hash;
-mod hash_index;
+pub mod hash_index;
 
 // Terms at places.
-mod places;
+pub mod places;
 
 // Terms by number.
 pub mod bank;
-mod made;
+pub mod made;
 mod number;
 mod table;
 

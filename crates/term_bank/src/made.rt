@@ -31,7 +31,7 @@ fn atoms_of(
 }
 
 /// The term's node, from the numbers of its direct parts and those of the terms of its triggers.
-pub(crate) fn node_of(
+pub fn node_of(
     alloc: Global,
     term: &Term,
     parts: Vec<TermId>,

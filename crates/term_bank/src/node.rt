@@ -5,7 +5,7 @@ use std::marker::Model;
 /// The number of a term in a bank.
 #[derive(Clone, Copy, PartialEq, Eq, PartialOrd, Ord, Hash)]
 pub struct TermId {
-    pub(crate) number: usize,
+    pub number: usize,
 }
 
 impl Model for TermId {

@@ -10,7 +10,7 @@ use std::marker::Model;
 
 /// Which part of a term: one of its direct parts, or of those in one of its triggers.
 #[derive(Clone, Copy)]
-pub(crate) struct Way {
+pub struct Way {
     /// The trigger, where it isn't a direct part.
     pub pattern: Option<usize>,
     /// The place among those parts.
@@ -28,7 +28,7 @@ enum Step {
 
 /// Places, each of which has a term.
 #[derive(Drop)]
-pub(crate) struct Places {
+pub struct Places {
     steps: Vec<Step>,
 }
 
@@ -122,7 +122,7 @@ fn in_pattern_or<'t>(
 }
 
 /// How many terms a trigger of the term has, or how many direct parts the term has.
-pub(crate) fn row_len(term: &Term, pattern: Option<usize>) -> usize
+pub fn row_len(term: &Term, pattern: Option<usize>) -> usize
     ensures { result ≡ length (row_of term.now pattern) }
 {
     match pattern {
@@ -170,7 +170,7 @@ fn pattern_len(patterns: &[Vec<Term>], pattern: usize) -> usize
 
 /// How many triggers the term has.
 #[tactic(auto, using(crate::proofs::Led::length_lists))]
-pub(crate) fn trigger_count(term: &Term) -> usize
+pub fn trigger_count(term: &Term) -> usize
     ensures { result ≡ length (triggers term.now) }
 {
     match &term.node {
@@ -180,7 +180,7 @@ pub(crate) fn trigger_count(term: &Term) -> usize
 }
 
 /// The part that lies this way, or the term itself where there is none.
-pub(crate) fn part_of(term: &Term, way: Way) -> &Term
+pub fn part_of(term: &Term, way: Way) -> &Term
     ensures { result.now ≡ part_or_self term.now way }
 {
     match way.pattern {
