@@ -1,0 +1,9 @@
+pub mod ListSteps
+pub mod StmtLists
+pub mod GroupedLocals
+pub mod GroupSteps
+pub mod BodiesFound
+pub mod FirstPlaces
+pub mod DistinctOrder
+pub mod FunctionEntries
+pub mod PlacedFunctions

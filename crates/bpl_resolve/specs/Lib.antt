@@ -1,1 +1,5 @@
 pub mod FirstFault
+pub mod Weights
+pub mod Locals
+pub mod Implemented
+pub mod Places

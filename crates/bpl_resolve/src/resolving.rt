@@ -5,8 +5,8 @@ ghost use Rattle.module_laws.specs.Elaborate.{module_of};
 ghost use Rattle.bpl_resolve.specs.FirstFault.{IsFirstFault};
 
 use crate::fault::ResolveFault;
+use crate::parts;
 use bpl_ast::Program;
-use bpl_elaborate::parts;
 use bpl_first_fault::program::first_fault;
 use bpl_model::Module;
 use std::alloc::Global;

@@ -17,7 +17,7 @@ use Rattle.module_laws.proofs.EntriesFine.{synonyms_fine}
 use Rattle.module_laws.proofs.ModuleSorts.{fine, acyclic}
 use Rattle.module_laws.proofs.Procedures.{map_length}
 use Rattle.module_laws.proofs.Ways.{Member, same_text, text_itself}
-use Rattle.bpl_elaborate.proofs.DistinctOrder.{Distinct, order_distinct}
+use Rattle.bpl_resolve.proofs.DistinctOrder.{Distinct, order_distinct}
 use Rattle.bpl_sorts.specs.Types.{integers, Head}
 use Rattle.bpl_sorts.specs.TypeShapes.{put_at, heads_put}
 use Rattle.bpl_sorts.specs.DeclaredTypes.{head_of}

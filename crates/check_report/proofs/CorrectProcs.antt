@@ -17,7 +17,7 @@ use Rattle.program_opening.specs.Laws.{IsSound, DeclaredModulesAreSound}
 use Rattle.program_opening.specs.Spelled.{AreSpelled}
 use Rattle.program_opening.proofs.Openings.{program_of}
 use Rattle.program_opening.proofs.Spelled.{spelled_declarations}
-use Rattle.goal_laws.specs.Proved.{GoalsAreSorted, ProvedGoalsAreValid}
+use Rattle.vc_build.specs.Proved.{GoalsAreSorted, ProvedGoalsAreValid}
 use Rattle.check_report.specs.Scratch.{verdicts}
 use Rattle.check_report.specs.Sound.{DeclaredCorrectIsSafe, CorrectIsSafe}
 use Rattle.check_report.proofs.FoundProofs.{all_have}

@@ -7,7 +7,7 @@ use Rattle.logic_core.specs.WellSorted.{IsWellSorted}
 use Rattle.proof_core.specs.Proof.{Proof}
 use Rattle.tableau.specs.Search.{answer, is_proved, FindsAccepted, FindsWhereProved}
 use Rattle.vc_build.specs.declared.goal.Goal.{Goal}
-use Rattle.goal_laws.specs.Proved.{HasProof}
+use Rattle.vc_build.specs.Proved.{HasProof}
 use Rattle.check_report.specs.Scratch.{verdict_on, verdicts}
 
 module _ (accepted : FindsAccepted) (where_proved : FindsWhereProved) (turns : ℕ) where

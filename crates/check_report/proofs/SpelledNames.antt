@@ -22,7 +22,7 @@ use Rattle.bpl_model.specs.Module.{Proc}
 use Rattle.bpl_sorts.specs.Erased.{users_with, replaced_body, replaced_from, replaced, Unique, one_more, axioms_from, axioms_after, uniques, carrier_axioms, as_integers, erased}
 use Rattle.module_laws.specs.Elaborate.{procs_in, module_of}
 use Rattle.program_opening.specs.Spelled.{IsSpelled, AreSpelled}
-use Rattle.goal_laws.proofs.Joined.{all_join}
+use Rattle.vc_build.proofs.Joined.{all_join}
 use Rattle.report_text.specs.Lines.{line_feed, count, IsWithout}
 use Rattle.report_text.specs.Called.{colon, IsName}
 

@@ -1,11 +1,11 @@
 //! What a report is worth, over the definitions alone.
 ghost use Rattle.check_report.specs.Sound.{DeclaredCorrectIsSafe, CorrectIsSafe};
 
-use goal_laws::laws::{goals_are_sorted, proved_goals_are_valid};
 use program_opening::laws::declared_modules_are_sound;
 use report_text::laws::correct_is_proved;
 use tableau::laws::{finds_accepted, finds_where_proved};
 use vc_build::laws::valid_goals_are_safe;
+use vc_build::proved_goals::{goals_are_sorted, proved_goals_are_valid};
 
 /// Where the line stands in a report's bytes, whole, that a procedure of these declarations is correct, no
 /// execution of that procedure from an entry state fails. Nothing is presumed of the turns, the search or

@@ -15,9 +15,9 @@ use Rattle.request_text.specs.Generated.{generate}
 use Rattle.board_core.specs.Board.{open_keys, close, closed_now}
 use Rattle.goal_board.specs.Calls.{BoardCall, made}
 use Rattle.goal_board.specs.Found.{found}
-use Rattle.generated_report.specs.Summary.{verdicts_on, summary}
-use Rattle.generated_report.specs.Questions.{questions_on, AreAnswered, AreStarved}
-use Rattle.generated_report.proofs.ProgramQuestions.{questions_by_proc}
+use Rattle.check_report.specs.Summary.{verdicts_on, summary}
+use Rattle.check_report.specs.Questions.{questions_on, AreAnswered, AreStarved}
+use Rattle.check_report.proofs.ProgramQuestions.{questions_by_proc}
 use Rattle.edit_session.specs.Program.{keys}
 use Rattle.edit_session.specs.GenCalls.{GenCalls}
 use Rattle.edit_session.specs.GenCalls as outcome

@@ -5,8 +5,8 @@ use Rattle.tableau.specs.Search.{is_proved}
 use Rattle.request_text.specs.Generated.{generate}
 use Rattle.program_opening.specs.ProcGoals.{goals_by_proc}
 use Rattle.program_opening.specs.Opening.{Opening, program, refused, Opens}
-use Rattle.generated_report.specs.Summary.{verdicts_on}
-use Rattle.generated_report.specs.Worth.{ProvedAreSafe}
+use Rattle.check_report.specs.Summary.{verdicts_on}
+use Rattle.check_report.specs.Worth.{ProvedAreSafe}
 use Rattle.edit_server.specs.Answer.{done_if}
 use Rattle.edit_server.specs.Exit.{IsAnswering}
 use Rattle.edit_server.specs.Generated.{IsSummaryOn, IsGenerated}

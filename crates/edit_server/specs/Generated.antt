@@ -8,7 +8,7 @@ use Rattle.report_text.specs.Lines.{ended}
 use Rattle.request_text.specs.Generated.{generate}
 use Rattle.program_opening.specs.ProcGoals.{goals_by_proc}
 use Rattle.program_opening.specs.Opening.{Opening, program, refused, Opens}
-use Rattle.generated_report.specs.Summary.{verdicts_on, summary}
+use Rattle.check_report.specs.Summary.{verdicts_on, summary}
 use Rattle.goal_board.specs.Calls.{BoardCall}
 use Rattle.edit_session.specs.GenCalls.{GenCalls}
 use Rattle.edit_session.specs.GenCalls as outcome

@@ -4,7 +4,7 @@ use Rattle.std.specs.Prelude.{IfOk}
 use Rattle.bpl_ast.specs.Statement.{Decl}
 use Rattle.bpl_model.specs.Module.{Module}
 use Rattle.fault_text.specs.Written.{Written}
-use Rattle.program_faults.specs.WrittenFault.{text_fault}
+use Rattle.fault_text.specs.WrittenFault.{text_fault}
 use Rattle.request_text.specs.Request.{Request, bad_json, bad_op, bad_field, too_long, quit, sums, BadRequest as Bad, Reply as Told, summed, ended, refused as refusal, memory, absent, misnamed}
 use Rattle.request_text.specs.RequestView.{IsAnswer}
 use Rattle.request_text.specs.ReplyView.{reply_view, refusal_view}

@@ -3,7 +3,7 @@ use Rattle.std.proofs.Common.{◌≡◌, ◌∙◌, refl, sym, ap, ℕ, List, Op
 use Rattle.bpl_ast.specs.Statement.{Decl}
 use Rattle.bpl_grammar.specs.Fault.{Fault}
 use Rattle.fault_text.specs.Written.{Written}
-use Rattle.program_faults.specs.WrittenFault.{text_fault}
+use Rattle.fault_text.specs.WrittenFault.{text_fault}
 use Rattle.request_text.specs.Request.{Request, Reply, absent, misnamed}
 use Rattle.program_edits.specs.Edited.{Edited, IsEdited, lacking, faulty, other_name}
 use Rattle.edit_session.specs.Asking.{text_reply, denied, outcome_of, Asks}

@@ -10,16 +10,16 @@ use Rattle.bpl_goto.specs.Forward.{AllGoForward}
 use Rattle.bpl_model.specs.Module.{Proc, DeclText, Module, with_procedure}
 use Rattle.bpl_model.specs.Typed.{IsTypedModule}
 use Rattle.canonical_laws.specs.RoundTrip.{AreWrittenDecls}
-use Rattle.program_faults.specs.FaultView.{SourcesAreShort}
+use Rattle.fault_text.specs.FaultView.{SourcesAreShort}
 use Rattle.fault_text.specs.Written.{Written}
-use Rattle.program_faults.specs.WrittenFault.{decl_fault}
+use Rattle.fault_text.specs.WrittenFault.{decl_fault}
 use Rattle.module_laws.specs.Elaborate.{module_of}
 use Rattle.module_laws.proofs.GoesForward.{goes_forward}
 use Rattle.module_laws.proofs.TypedModules.{module_typed}
 use Rattle.name_laws.specs.Resolved.{IsResolved}
-use Rattle.procedure_heads.specs.Revised.{IsRevised}
-use Rattle.body_module.specs.Revision.{IsRevision}
-use Rattle.body_module.specs.declared.revised.Revision.{Revision}
+use Rattle.body_revision.specs.Revised.{IsRevised}
+use Rattle.body_revision.specs.Revision.{IsRevision}
+use Rattle.body_revision.specs.declared.revised.Revision.{Revision}
 use Rattle.vc_build.specs.Large.{program_large}
 use Rattle.vc_build.specs.Rebuild.{BuiltProc, built, rebuilt}
 use Rattle.vc_rebuild.specs.Kept.{Program}

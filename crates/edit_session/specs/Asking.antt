@@ -3,7 +3,7 @@ use Rattle.std.specs.Prelude.{◌≡◌, ℕ, List, Option, Some, None}
 use Rattle.bpl_ast.specs.Statement.{Decl}
 use Rattle.bpl_model.specs.Module.{Module}
 use Rattle.fault_text.specs.Written.{Written}
-use Rattle.program_faults.specs.WrittenFault.{text_fault}
+use Rattle.fault_text.specs.WrittenFault.{text_fault}
 use Rattle.program_opening.specs.Opening.{Opening, program, refused, opening}
 use Rattle.request_text.specs.Request.{Request, Reply, absent, misnamed, fault}
 use Rattle.program_edits.specs.Edited.{Edited, edited, lacking, faulty, other_name, IsEdited}

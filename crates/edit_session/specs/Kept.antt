@@ -5,7 +5,7 @@ use Rattle.vc_build.specs.Large.{count_limit}
 use Rattle.vc_build.specs.Rebuild.{built}
 use Rattle.vc_rebuild.specs.Kept.{Program}
 use Rattle.canonical_laws.specs.RoundTrip.{AreWrittenDecls}
-use Rattle.program_faults.specs.FaultView.{SourcesAreShort}
+use Rattle.fault_text.specs.FaultView.{SourcesAreShort}
 use Rattle.request_text.specs.Request.{Reply}
 use Rattle.goal_board.specs.Calls.{Board, BoardCall}
 use Rattle.edit_session.specs.Program.{IsModuleOf, keys}

@@ -3,8 +3,8 @@ use Rattle.std.specs.Prelude.{◌≡◌, ℕ, false, List, None, slice_set}
 use Rattle.bpl_ast.specs.Statement.{Decl}
 use Rattle.bpl_declaration_faults.specs.DeclFaults.{fault_of}
 use Rattle.bpl_model.specs.Module.{Module, with_procedure}
-use Rattle.body_module.specs.Revision.{IsRevision}
-use Rattle.body_module.specs.declared.revised.Revision.{Revision}
+use Rattle.body_revision.specs.Revision.{IsRevision}
+use Rattle.body_revision.specs.declared.revised.Revision.{Revision}
 use Rattle.vc_build.specs.Large.{program_large}
 use Rattle.vc_build.specs.Rebuild.{BuiltProc, built, rebuilt}
 use Rattle.program_opening.specs.NoUsers.{has_user_types}

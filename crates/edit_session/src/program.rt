@@ -4,7 +4,7 @@ ghost use Rattle.bpl_goto.specs.Forward.{AllGoForward};
 ghost use Rattle.canonical_laws.specs.RoundTrip.{AreWrittenDecls};
 ghost use Rattle.name_laws.specs.Resolved.{IsResolved};
 ghost use Rattle.vc_build.specs.Rebuild.{built, rebuilt};
-ghost use Rattle.program_faults.specs.FaultView.{SourcesAreShort};
+ghost use Rattle.fault_text.specs.FaultView.{SourcesAreShort};
 ghost use Rattle.program_opening.specs.Opening.{typing, typed as typed_as};
 ghost use Rattle.program_opening.specs.ProcGoals.{goals_by_proc};
 ghost use Rattle.request_text.specs.ReplyView.{reply_view};

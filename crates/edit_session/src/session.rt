@@ -3,7 +3,7 @@ ghost use Rattle.std.specs.Prelude.{◌≡◌, ◌<◌, ◌^◌, ◌-◌, length
 ghost use Rattle.bpl_model.specs.Module.{Module as typed_module};
 ghost use Rattle.canonical_laws.specs.RoundTrip.{AreWrittenDecls};
 ghost use Rattle.vc_build.specs.Rebuild.{built, rebuilt as rebuilt_of};
-ghost use Rattle.program_faults.specs.FaultView.{SourcesAreShort};
+ghost use Rattle.fault_text.specs.FaultView.{SourcesAreShort};
 ghost use Rattle.tableau.specs.Settled.{Settled as settled};
 ghost use Rattle.board_core.specs.Board.{first};
 ghost use Rattle.program_edits.specs.Edited.{IsEdited, edited as edited_to};

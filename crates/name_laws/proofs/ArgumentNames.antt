@@ -12,7 +12,7 @@ use Rattle.bpl_declaration_faults.specs.Variables.{bound_argument}
 use Rattle.canonical_laws.specs.Same.{bare_name}
 use Rattle.canonical_laws.specs.SameStatement.{bare_argument}
 use Rattle.module_laws.proofs.Below.{back_onto}
-use Rattle.scope_laws.proofs.ScopesAlike.{SameBounds}
+use Rattle.name_laws.proofs.ScopesAlike.{SameBounds}
 
 -- parameters as bound variables have their names, the last first
 abbrev given : Argument → Option Text

@@ -19,8 +19,8 @@ use Rattle.module_laws.proofs.EntriesFine.{NoFaults, none_faulty}
 use Rattle.rebuild_laws.specs.Alike.{AlikeTerms}
 use Rattle.rebuild_laws.specs.DependencyTexts.{bodies_at, other_positions}
 use Rattle.rebuild_laws.specs.Numbers.{Low}
-use Rattle.scope_laws.proofs.ScopesAlike.{AlikeName}
-use Rattle.scope_laws.proofs.SameExpressionsAlike.{axiom_in, FineAxiom, axioms_alike}
+use Rattle.name_laws.proofs.ScopesAlike.{AlikeName}
+use Rattle.name_laws.proofs.SameExpressionsAlike.{axiom_in, FineAxiom, axioms_alike}
 use Rattle.name_laws.specs.Twins.{Reached, Used, in_reached}
 use Rattle.name_laws.proofs.Settled.{itself, among_passed}
 use Rattle.name_laws.proofs.SameNames.{vars_met, functions_met, new_low, new_function}

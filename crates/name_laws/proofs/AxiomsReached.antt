@@ -24,7 +24,7 @@ use Rattle.module_laws.specs.Elaborate.{axioms_in, decl_text, module_of}
 use Rattle.module_laws.proofs.Ways.{same_text, text_itself}
 use Rattle.vc_build.specs.Depends.{is_reached_axiom, axioms_among, reached_axioms}
 use Rattle.name_laws.proofs.Settled.{itself, same_number, among_passed, reached_within}
-use Rattle.scope_laws.proofs.ReachClosed.{is_passed, reached_stable}
+use Rattle.name_laws.proofs.ReachClosed.{is_passed, reached_stable}
 use Rattle.rebuild_laws.specs.DependencyTexts.{bodies_at, other_positions}
 use Rattle.name_laws.proofs.UsedNames.{text_there}
 use Rattle.name_laws.proofs.OrderOfNames.{first_left}

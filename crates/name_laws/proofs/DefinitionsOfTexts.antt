@@ -34,8 +34,8 @@ use Rattle.module_laws.proofs.Reached.{reached}
 use Rattle.rebuild_laws.specs.DependencyTexts.{bodies_at, other_positions}
 use Rattle.rebuild_laws.specs.Numbers.{Low}
 use Rattle.rebuild_laws.specs.Procedures.{AlikeDef}
-use Rattle.scope_laws.proofs.ScopesAlike.{AlikeTerm, AlikeName, no_vars}
-use Rattle.scope_laws.proofs.SameExpressionsAlike.{expressions_alike}
+use Rattle.name_laws.proofs.ScopesAlike.{AlikeTerm, AlikeName, no_vars}
+use Rattle.name_laws.proofs.SameExpressionsAlike.{expressions_alike}
 use Rattle.name_laws.specs.Twins.{Twins, Used, used}
 use Rattle.name_laws.proofs.UsedNames.{entity_entry}
 use Rattle.name_laws.proofs.EntityUses.{entity_uses, behind, used_in_entity}

@@ -26,9 +26,9 @@ use Rattle.module_laws.proofs.EntriesFine.{none_faulty}
 use Rattle.rebuild_laws.specs.Alike.{free_choice, guarded, AlikeClause, AlikeTerms}
 use Rattle.rebuild_laws.specs.DependencyTexts.{bodies_at, other_positions}
 use Rattle.rebuild_laws.specs.Numbers.{Low}
-use Rattle.scope_laws.proofs.ScopesAlike.{AlikeName, no_vars}
-use Rattle.scope_laws.proofs.TermsAlike.{each_first, each_second}
-use Rattle.scope_laws.proofs.SameExpressionsAlike.{clauses_alike}
+use Rattle.name_laws.proofs.ScopesAlike.{AlikeName, no_vars}
+use Rattle.name_laws.proofs.TermsAlike.{each_first, each_second}
+use Rattle.name_laws.proofs.SameExpressionsAlike.{clauses_alike}
 use Rattle.name_laws.specs.Twins.{Reached, Used, in_reached}
 use Rattle.name_laws.proofs.Settled.{among_passed}
 use Rattle.name_laws.proofs.SameNames.{vars_met, functions_met, new_low, new_function}

@@ -28,8 +28,8 @@ use Rattle.module_laws.proofs.EntriesFine.{none_faulty}
 use Rattle.module_laws.proofs.ModuleSorts.{numbered_entity}
 use Rattle.rebuild_laws.specs.DependencyTexts.{bodies_at, other_positions}
 use Rattle.rebuild_laws.specs.Numbers.{Low, AlikeGlobal, GlobalsAlike}
-use Rattle.scope_laws.proofs.ScopesAlike.{AlikeName, no_vars}
-use Rattle.scope_laws.proofs.SameExpressionsAlike.{clauses_alike}
+use Rattle.name_laws.proofs.ScopesAlike.{AlikeName, no_vars}
+use Rattle.name_laws.proofs.SameExpressionsAlike.{clauses_alike}
 use Rattle.name_laws.specs.Twins.{Twins, Used, in_reached}
 use Rattle.name_laws.proofs.EntityUses.{behind}
 use Rattle.name_laws.proofs.SameNames.{vars_met, functions_met, new_low, new_function}

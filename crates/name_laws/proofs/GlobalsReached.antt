@@ -26,7 +26,7 @@ use Rattle.module_laws.proofs.Ways.{same_text, text_itself}
 use Rattle.module_laws.proofs.EntriesFine.{NoFaults, none_faulty}
 use Rattle.module_laws.proofs.Numbered.{length_clauses}
 use Rattle.name_laws.proofs.Settled.{itself, same_number, among_passed, reached_within}
-use Rattle.scope_laws.proofs.ReachClosed.{is_passed, reached_stable}
+use Rattle.name_laws.proofs.ReachClosed.{is_passed, reached_stable}
 use Rattle.name_laws.proofs.Located.{found_at}
 use Rattle.rebuild_laws.proofs.OwnNames.{decl_again, again_apart}
 use Rattle.rebuild_laws.specs.DependencyTexts.{bodies_at, other_positions}

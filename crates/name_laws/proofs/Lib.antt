@@ -32,3 +32,11 @@ pub mod FunctionNumbers
 pub mod ArgumentNames
 pub mod DefinitionsOfTexts
 pub mod EqualTexts
+pub mod ScopesAlike
+pub mod TermsAlike
+pub mod StatementsAlike
+pub mod BareTerms
+pub mod BareStatements
+pub mod BareProcedures
+pub mod SameExpressionsAlike
+pub mod ReachClosed

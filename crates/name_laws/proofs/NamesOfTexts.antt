@@ -24,7 +24,7 @@ use Rattle.name_laws.proofs.SameNames.{vars_met, functions_met, new_low, new_fun
 use Rattle.name_laws.proofs.NumbersAlike.{consts_are, globals_are}
 use Rattle.name_laws.proofs.OrderOfNames.{OwnHaveNone, constants_in_order, globals_in_order}
 use Rattle.name_laws.proofs.NumberOrder.{low_numbers}
-use Rattle.scope_laws.proofs.ScopesAlike.{AlikeName}
+use Rattle.name_laws.proofs.ScopesAlike.{AlikeName}
 use Rattle.rebuild_laws.specs.Numbers.{new_all, Reads, Low, LowNumbers}
 
 no_constants : (bs : List DeclBody) (b : DeclBody) → HaveBody bs → In b bs → constants_in b ≡ []

@@ -17,7 +17,7 @@ use Rattle.module_laws.proofs.Ways.{text_itself}
 use Rattle.module_laws.proofs.EntriesFine.{none_faulty}
 use Rattle.canonical_laws.specs.Heads.{head_of, bare_head}
 use Rattle.name_laws.proofs.Settled.{itself, among_passed}
-use Rattle.scope_laws.proofs.ReachClosed.{is_passed, reached_stable}
+use Rattle.name_laws.proofs.ReachClosed.{is_passed, reached_stable}
 use Rattle.name_laws.proofs.BareUses.{group_texts, same_texts}
 use Rattle.name_laws.proofs.Located.{FoundAt, found_at}
 use Rattle.rebuild_laws.specs.DependencyTexts.{bodies_at, other_positions}

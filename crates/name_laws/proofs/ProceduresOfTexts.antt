@@ -32,9 +32,9 @@ use Rattle.rebuild_laws.specs.Procedures.{first_call, BeforeCalls, AlikeCallee, 
 use Rattle.rebuild_laws.specs.DependencyTexts.{bodies_at, other_positions}
 use Rattle.rebuild_laws.proofs.NumbersAlike.{all_high, low_reads, high_reads}
 use Rattle.rebuild_laws.proofs.UnplacedAlike.{alike_wherever}
-use Rattle.scope_laws.proofs.ScopesAlike.{AlikeName}
-use Rattle.scope_laws.proofs.StatementsAlike.{stmts_alike}
-use Rattle.scope_laws.proofs.BareProcedures.{same_procedures}
+use Rattle.name_laws.proofs.ScopesAlike.{AlikeName}
+use Rattle.name_laws.proofs.StatementsAlike.{stmts_alike}
+use Rattle.name_laws.proofs.BareProcedures.{same_procedures}
 use Rattle.name_laws.specs.Twins.{Used, used}
 use Rattle.name_laws.proofs.AxiomsOfTexts.{each_used}
 use Rattle.name_laws.proofs.SameNames.{vars_met, functions_met, new_low, new_function, name_alike}

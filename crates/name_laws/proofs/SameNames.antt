@@ -21,7 +21,7 @@ use Rattle.name_laws.proofs.Settled.{itself}
 use Rattle.name_laws.proofs.UsedNames.{met_reached, bare_meaning, same_entity, entity_entry}
 use Rattle.name_laws.proofs.SameSorts.{same_sort}
 use Rattle.name_laws.proofs.NamedNumbers.{constant_names, global_names, IsNamed, place_below, is_named, constants_counted, globals_counted}
-use Rattle.scope_laws.proofs.ScopesAlike.{AlikeEntity, undeclared, constants, globals, functions, synonyms, procedures, AlikeName}
+use Rattle.name_laws.proofs.ScopesAlike.{AlikeEntity, undeclared, constants, globals, functions, synonyms, procedures, AlikeName}
 
 -- a choice by the kind of a number: of a constant, a global or an entry value, where there are c constants and g globals
 abbrev pub by_kind : {A : Type 0} → ℕ → ℕ → (ℕ → A) → (ℕ → A) → (ℕ → A) → ℕ → A

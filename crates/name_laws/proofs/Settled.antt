@@ -6,7 +6,7 @@ use Rattle.std.proofs.lemmas.Bool.{eqb-true, eq-eqb}
 use Rattle.bpl_model.specs.Module.{Proc, Module}
 use Rattle.bpl_model.specs.Reach.{among, decl_at, positions, reaches_axiom, leads_to, reach_on, own_positions, reached_by}
 use Rattle.logic_core.proofs.Booleans.{one_is_true as either_of, or_second}
-use Rattle.scope_laws.proofs.ReachClosed.{is_passed, reached_stable}
+use Rattle.name_laws.proofs.ReachClosed.{is_passed, reached_stable}
 
 pub same_number : (m n : ℕ) → (m == n) ≡ true → m ≡ n
 same_number m n h = eqb-true m n h

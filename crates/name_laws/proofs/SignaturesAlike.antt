@@ -31,10 +31,10 @@ use Rattle.module_laws.specs.Elaborate.{clause_term, clause_terms, locals_with, 
 use Rattle.module_laws.proofs.HasSort.{first_empty, second_empty}
 use Rattle.rebuild_laws.specs.Alike.{AlikeClause, AlikeLocals, no_locals, a_local, AlikeSpec, both_require, both_ensure, both_modify, AlikeSpecs, no_specs, a_spec}
 use Rattle.rebuild_laws.proofs.UnplacedAlike.{clauses_wherever}
-use Rattle.scope_laws.proofs.ScopesAlike.{AlikeEntity, undeclared, constants, globals, functions, synonyms, procedures, AlikeName, AlikeVars, no_vars, a_var, scope_here, scope_there, UsedIn, sort_alike}
-use Rattle.scope_laws.proofs.TermsAlike.{Each, each_first, each_second, used_unless, Hidden}
-use Rattle.scope_laws.proofs.SameExpressionsAlike.{expressions_alike, clauses_alike}
-use Rattle.scope_laws.proofs.BareProcedures.{same_procedures}
+use Rattle.name_laws.proofs.ScopesAlike.{AlikeEntity, undeclared, constants, globals, functions, synonyms, procedures, AlikeName, AlikeVars, no_vars, a_var, scope_here, scope_there, UsedIn, sort_alike}
+use Rattle.name_laws.proofs.TermsAlike.{Each, each_first, each_second, used_unless, Hidden}
+use Rattle.name_laws.proofs.SameExpressionsAlike.{expressions_alike, clauses_alike}
+use Rattle.name_laws.proofs.BareProcedures.{same_procedures}
 
 -- the names of variables
 var_texts : (t : Table) (hidden : List Text) (r : Role) (k : ℕ) (ps : List (Name × Ty)) → map (λ (v : Var). v.name) (vars_from t hidden r k ps) ≡ texts_of (only_names ps)

@@ -12,7 +12,7 @@ use Rattle.canonical_laws.specs.Heads.{bare_head}
 use Rattle.rebuild_laws.specs.DependencyTexts.{bodies_at, other_positions}
 use Rattle.name_laws.specs.Twins.{Own, Reached, Twin, Twins}
 use Rattle.name_laws.proofs.Settled.{itself, same_number, among_passed}
-use Rattle.scope_laws.proofs.ReachClosed.{is_passed}
+use Rattle.name_laws.proofs.ReachClosed.{is_passed}
 use Rattle.name_laws.proofs.BareUses.{heads_same}
 
 abbrev pub In : DeclBody → List DeclBody → Type 0

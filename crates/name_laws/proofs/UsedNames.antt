@@ -18,7 +18,7 @@ use Rattle.module_laws.proofs.EntriesFine.{NoFaults, none_faulty}
 use Rattle.canonical_laws.specs.Heads.{bare_head}
 use Rattle.name_laws.specs.Twins.{Own, Reached, Twin, Twins, Used, in_own, in_reached, Met, used, declared}
 use Rattle.name_laws.proofs.Settled.{itself, same_number, own_reached}
-use Rattle.scope_laws.proofs.ReachClosed.{is_passed, reached_closed}
+use Rattle.name_laws.proofs.ReachClosed.{is_passed, reached_closed}
 use Rattle.name_laws.proofs.BareUses.{same_uses, same_contract_uses, same_declared}
 use Rattle.name_laws.proofs.Shapes.{bare_entity, bare_found, same_found}
 use Rattle.name_laws.proofs.Located.{LocatedIn, located, declared_found, FoundAt, found_at}

@@ -1,2 +1,4 @@
 pub mod Twins
 pub mod Resolved
+pub mod Declared
+pub mod Procedures

@@ -1,7 +1,7 @@
 -- What the code finds of a replacement, as the clauses say it.
 use Rattle.std.proofs.Common.{◌≡◌, ◌≢◌, ◌<◌, List, length, Option, Some, None, IfSome, Result, Ok, Err, slice_set, refl, sym}
 use Rattle.bpl_ast.specs.Statement.{Decl}
-use Rattle.program_faults.specs.FaultView.{SourcesAreShort}
+use Rattle.fault_text.specs.FaultView.{SourcesAreShort}
 use Rattle.request_text.specs.Request.{Request}
 use Rattle.program_edits.specs.Edited.{Edited, edited, numbered, IsEdited}
 use Rattle.program_edits.specs.Refusals.{RefusedBy, TextsAreShort, reading}

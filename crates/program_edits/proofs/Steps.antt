@@ -10,8 +10,8 @@ use Rattle.bpl_grammar.specs.Programs.{SpellsProgram}
 use Rattle.bpl_parse.specs.Program.{IsFaultOf}
 use Rattle.bpl_parse.specs.declared.fault.Fault.{Fault}
 use Rattle.bpl_parse.specs.declared.fault.Fault.TheVariants.{Lex, Syntax, Deep, Wide, Memory as Starved}
-use Rattle.program_faults.specs.FaultView.{SourcesAreShort}
-use Rattle.program_faults.proofs.InText.{sources_short}
+use Rattle.fault_text.specs.FaultView.{SourcesAreShort}
+use Rattle.fault_text.proofs.InText.{sources_short}
 use Rattle.request_text.specs.Request.{Put, Request}
 use Rattle.request_text.specs.RequestView.{put_view}
 use Rattle.request_text.specs.declared.request.Put.{Put as SeenPut}

@@ -7,7 +7,7 @@ use Rattle.bpl_grammar.specs.Fault.{Fault as Told, lexical, marked}
 use Rattle.bpl_grammar.specs.ReadPrograms.{read_text}
 use Rattle.bpl_parse.specs.declared.fault.Fault.{Fault}
 use Rattle.bpl_parse.specs.declared.fault.Fault.TheVariants.{Lex, Syntax, Deep, Wide, Memory as Starved}
-use Rattle.program_faults.specs.WrittenFault.{text_fault}
+use Rattle.fault_text.specs.WrittenFault.{text_fault}
 use Rattle.request_text.specs.Request.{Request, open_text, edit, status, report, sums, proofs, quit}
 use Rattle.program_edits.specs.Edited.{Edited, lacking, faulty, other_name, Texts, IsEdited}
 use Rattle.program_edits.specs.declared.fault.EditFault.{EditFault}

@@ -1,7 +1,7 @@
 // What a request makes of declarations.
 ghost use Rattle.std.specs.Prelude.{◌≡◌, ◌-◌, ◌^◌, ◌<◌, map, length, string_bytes, Some, IfOk, IfErr};
 ghost use Rattle.std.specs.List.{All};
-ghost use Rattle.program_faults.specs.FaultView.{SourcesAreShort};
+ghost use Rattle.fault_text.specs.FaultView.{SourcesAreShort};
 ghost use Rattle.request_text.specs.RequestView.{put_view, request_view};
 ghost use Rattle.request_text.specs.declared.request.Put.{Put};
 ghost use Rattle.program_edits.specs.Edited.{Edited, edited, names, opened, after_puts, changed, puts_of, edited_by, IsEdited};

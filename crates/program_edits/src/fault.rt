@@ -4,8 +4,7 @@ ghost use Rattle.bpl_grammar.specs.Fault.{Fault as Told};
 ghost use Rattle.bpl_parse.specs.Program.{IsFaultOf};
 
 use bpl_parse::Fault;
-use fault_text::Written;
-use program_faults::written_of_text;
+use fault_text::{Written, written_of_text};
 use std::alloc::{AllocError, AllocFailed, Global};
 use std::fmt;
 use thiserror::Error;

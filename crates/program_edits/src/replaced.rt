@@ -1,7 +1,7 @@
 // The declaration that takes the place of another.
 ghost use Rattle.std.specs.Prelude.{◌≡◌, ◌<◌, ◌-◌, ◌^◌, ◌||◌, cond, length, slice_set, option_map, Some, None, IfOk, IfSome, string_bytes};
 ghost use Rattle.bpl_scopes.specs.Fault.{is_among};
-ghost use Rattle.program_faults.specs.FaultView.{SourcesAreShort};
+ghost use Rattle.fault_text.specs.FaultView.{SourcesAreShort};
 ghost use Rattle.request_text.specs.RequestView.{put_view, request_view};
 ghost use Rattle.program_edits.specs.Edited.{edited, names, is_axiom, put_as, numbered, IsEdited};
 ghost use Rattle.program_edits.specs.Refusals.{TextsAreShort, reading};

@@ -19,14 +19,14 @@ use Rattle.module_laws.specs.Elaborate.{module_of}
 use Rattle.vc_build.specs.declared.fault.Measure.{Measure}
 use Rattle.vc_build.specs.Large.{program_large}
 use Rattle.fault_text.specs.Written.{Written}
-use Rattle.program_faults.specs.WrittenFault.{decl_fault}
-use Rattle.program_faults.specs.FaultView.{IsWrittenOf, SourcesAreShort}
-use Rattle.program_faults.proofs.InText.{sources_short}
+use Rattle.fault_text.specs.WrittenFault.{decl_fault}
+use Rattle.fault_text.specs.FaultView.{IsWrittenOf, SourcesAreShort}
+use Rattle.fault_text.proofs.InText.{sources_short}
 use Rattle.program_opening.specs.Opening.{program, refused, Typing, typed, ill_typed, told_carrier, typing_by_carriers, typing_by, typing, opening, size_fault, unless_large, within_limits}
 use Rattle.bpl_scopes.specs.Scopes.{Table, table_of}
 use Rattle.bpl_sorts.specs.Erased.{users_with, replaced_from, replaced, Unique, one_more, axioms_from, carrier_axioms, as_integers, erased, maps_over, told_apart}
 use Rattle.bpl_sorts.specs.CarrierFaults.{carrier_fault}
-use Rattle.program_faults.proofs.Position.{fault_there}
+use Rattle.fault_text.proofs.Position.{fault_there}
 use Rattle.program_opening.specs.OpenedView.{IsTypedAs, IsOpened, IsOpenedText}
 use Rattle.program_opening.specs.declared.typing.Typed.{Typed}
 use Rattle.program_opening.specs.declared.opening.Opened.{Opened}

@@ -16,7 +16,7 @@ use Rattle.bpl_sorts.specs.CarrierFaults.{carrier_fault}
 use Rattle.bpl_model.specs.Module.{Module}
 use Rattle.module_laws.specs.Elaborate.{module_of}
 use Rattle.fault_text.specs.Written.{Written}
-use Rattle.program_faults.specs.WrittenFault.{decl_fault}
+use Rattle.fault_text.specs.WrittenFault.{decl_fault}
 use Rattle.program_opening.specs.Opening.{typed, ill_typed, typing}
 use Rattle.program_opening.specs.NoUsers.{is_user_type, has_user_types}
 use Rattle.program_opening.proofs.Openings.{faulty_is, faultless_is, carriers_right}

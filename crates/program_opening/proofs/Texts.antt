@@ -5,7 +5,7 @@ use Rattle.bpl_ast.specs.Statement.{Decl}
 use Rattle.bpl_grammar.specs.Fault.{Fault}
 use Rattle.bpl_grammar.specs.ReadPrograms.{read_text}
 use Rattle.bpl_grammar.specs.ProgramLaw.{ProgramsAreExact, ProgramsAreUnique, FaultsAreFound}
-use Rattle.program_faults.specs.WrittenFault.{text_fault}
+use Rattle.fault_text.specs.WrittenFault.{text_fault}
 use Rattle.program_opening.specs.Opening.{Opening, refused, opening, Opens}
 use Rattle.program_opening.specs.Laws.{OpensOnce, OpensSomething}
 

@@ -18,7 +18,7 @@ use Rattle.vc_build.specs.Large.{program_large}
 use Rattle.fault_text.specs.Written.{Written}
 use Rattle.fault_text.specs.Words.{no_word}
 use Rattle.fault_text.specs.Faults.{fault_in_decl, fault_of_size}
-use Rattle.program_faults.specs.WrittenFault.{text_fault, decl_fault}
+use Rattle.fault_text.specs.WrittenFault.{text_fault, decl_fault}
 
 pub data Opening : Type 0 where
   program : Module → Opening

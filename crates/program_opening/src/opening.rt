@@ -3,7 +3,7 @@ ghost use Rattle.std.specs.Prelude.{◌-◌, ◌^◌, ◌<◌, length, IfOk};
 ghost use Rattle.bpl_goto.specs.Forward.{AllGoForward};
 ghost use Rattle.vc_build.specs.Large.{program_large};
 ghost use Rattle.program_opening.specs.Opening.{opening, unless_large};
-ghost use Rattle.program_faults.specs.FaultView.{SourcesAreShort};
+ghost use Rattle.fault_text.specs.FaultView.{SourcesAreShort};
 ghost use Rattle.program_opening.specs.OpenedView.{IsOpened, IsOpenedText};
 
 use crate::goals::{ProcGoals, program_goals};
@@ -12,8 +12,7 @@ use crate::typing::{Typed, type_check};
 use bpl_ast::Program;
 use bpl_model::Module;
 use bpl_parse::{Fault, parse};
-use fault_text::Written;
-use program_faults::written_of_text;
+use fault_text::{Written, written_of_text};
 use std::alloc::{AllocError, Global};
 use vc_build::BuildFault;
 

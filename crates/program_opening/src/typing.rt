@@ -4,7 +4,7 @@ ghost use Rattle.bpl_ast.specs.DeclView.{body_of};
 ghost use Rattle.bpl_declaration_faults.specs.DeclFaults.{fault_of};
 ghost use Rattle.bpl_goto.specs.Forward.{AllGoForward};
 ghost use Rattle.module_laws.specs.Elaborate.{module_of};
-ghost use Rattle.program_faults.specs.FaultView.{SourcesAreShort};
+ghost use Rattle.fault_text.specs.FaultView.{SourcesAreShort};
 ghost use Rattle.bpl_sorts.specs.Erased.{erased};
 ghost use Rattle.bpl_sorts.specs.CarrierFaults.{carrier_fault};
 ghost use Rattle.program_opening.specs.Opening.{told_carrier, typing_by_carriers, typing};
@@ -17,8 +17,7 @@ use bpl_resolve::{ResolveFault, resolve};
 use bpl_scopes::TypeKind;
 use bpl_sorts::{CarrierFault, check_carriers, erase};
 use bv_base::place::Place;
-use fault_text::{Written, fault_in_decl};
-use program_faults::written_of_program;
+use fault_text::{Written, fault_in_decl, written_of_program};
 use std::alloc::{AllocError, Global};
 
 /// What declarations are: a module, or what has a first fault by names and types, as it is written.
@@ -101,7 +100,7 @@ pub fn has_user_types(decls: &[Decl]) -> bool
 }
 
 // What declarations without user types are: as they stand there are no carriers to tell.
-#[tactic(auto, using(crate::proofs::SameDecls::same_typed, crate::proofs::SameDecls::same_faulty, module_laws::proofs::GoesForward::goes_forward, program_faults::proofs::Position::fault_there))]
+#[tactic(auto, using(crate::proofs::SameDecls::same_typed, crate::proofs::SameDecls::same_faulty, module_laws::proofs::GoesForward::goes_forward, fault_text::proofs::Position::fault_there))]
 fn check_same(alloc: Global, program: &Program) -> Result<Typed, AllocError>
     requires sources { SourcesAreShort program.now }
     requires same { has_user_types program.now ≡ false }
@@ -118,7 +117,7 @@ fn check_same(alloc: Global, program: &Program) -> Result<Typed, AllocError>
 
 // What declarations are whose user types are read as integers, and then told from them and from each
 // other.
-#[tactic(auto, using(crate::proofs::Openings::faulty_is, crate::proofs::Openings::typed_as, crate::proofs::Openings::sources_stay, module_laws::proofs::GoesForward::goes_forward, program_faults::proofs::Position::fault_there))]
+#[tactic(auto, using(crate::proofs::Openings::faulty_is, crate::proofs::Openings::typed_as, crate::proofs::Openings::sources_stay, module_laws::proofs::GoesForward::goes_forward, fault_text::proofs::Position::fault_there))]
 fn check_erased(alloc: Global, program: &Program) -> Result<Typed, AllocError>
     requires { SourcesAreShort program.now }
     ensures { IfOk result (λ t. IsTypedAs (typing program.now) t) }

@@ -10,7 +10,7 @@ use Rattle.vc_build.specs.declared.goal.Goal.{Goal}
 use Rattle.vc_build.specs.Goals.{goals, goals_with_body}
 use Rattle.program_opening.specs.ProcGoals.{ProcGoals, goals_of_proc, goals_by_proc}
 use Rattle.program_opening.specs.Laws.{ModulesAreSound, ProgramsAreSound}
-use Rattle.goal_laws.specs.Proved.{HasProof, ProvedGoalsAreValid}
+use Rattle.vc_build.specs.Proved.{HasProof, ProvedGoalsAreValid}
 use Rattle.recheck_report.specs.Recheck.{Head, head_of, heads_in, heads, Rechecks, all_accepted, has_proof, lacks_one}
 use Rattle.recheck_report.specs.Worth.{AcceptedIsSafe}
 use Rattle.recheck_report.proofs.ExactAnswers.{all_by_line}

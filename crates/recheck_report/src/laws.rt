@@ -1,10 +1,10 @@
 //! What the answer is worth, over the definitions alone.
 ghost use Rattle.recheck_report.specs.Worth.{OneAnswer, AcceptedExactly, AcceptedIsSafe};
 
-use goal_laws::laws::proved_goals_are_valid;
 use program_opening::laws::{modules_are_sound, programs_are_sound};
 use proof_core::soundness::refuses_the_others;
 use proof_text::laws::{one_bad_place, one_proof_a_text_has};
+use vc_build::proved_goals::proved_goals_are_valid;
 
 /// Goals and lines have one answer at most.
 pub fn one_answer()

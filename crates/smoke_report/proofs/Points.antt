@@ -6,7 +6,7 @@ use Rattle.bpl_model.specs.Module.{Proc, Module}
 use Rattle.bpl_smoke.specs.declared.point.Point.{Point}
 use Rattle.bpl_smoke.specs.Points.{points, point_at}
 use Rattle.bpl_smoke.proofs.Numbered.{number_is}
-use Rattle.goal_laws.proofs.Joined.{all_join}
+use Rattle.vc_build.proofs.Joined.{all_join}
 use Rattle.smoke_report.specs.declared.program_point.ProgramPoint.{ProgramPoint}
 use Rattle.smoke_report.specs.ProgramPoints.{points_on, points_from, program_points}
 

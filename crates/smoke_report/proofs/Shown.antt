@@ -19,7 +19,7 @@ use Rattle.bpl_smoke.proofs.Numbered.{kind_is}
 use Rattle.tableau.specs.Search.{answer, is_proved, FindsAccepted, FindsWhereProved}
 use Rattle.vc_build.specs.declared.goal.Goal.{Goal}
 use Rattle.vc_build.specs.Goals.{goals, goals_of_found}
-use Rattle.goal_laws.specs.Proved.{GoalsAreSorted}
+use Rattle.vc_build.specs.Proved.{GoalsAreSorted}
 use Rattle.smoke_report.specs.declared.program_point.ProgramPoint.{ProgramPoint}
 use Rattle.smoke_report.specs.ProgramPoints.{program_points}
 use Rattle.smoke_report.specs.Smoke.{point_goals, is_point, is_mark_of, is_shown, is_shown_or_another, is_unreachable, unreachable}

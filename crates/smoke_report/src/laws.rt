@@ -3,10 +3,10 @@
 ghost use Rattle.smoke_report.specs.Sound.{ValidPointsAreUnreached, UnreachableIsUnreached};
 
 use bpl_smoke::laws::{with_point_goes_forward, with_point_stays_typed};
-use goal_laws::laws::goals_are_sorted;
 use proof_core::soundness::acceptance_is_sound;
 use tableau::laws::{finds_accepted, finds_where_proved};
 use vc_build::laws::failures_have_goals;
+use vc_build::proved_goals::goals_are_sorted;
 
 /// In a typed module whose labels are distinct and whose gotos go forward: where each goal with a point's
 /// mark, of its procedure with the point put in, is valid, the procedure reaches the point from none of

@@ -29,3 +29,10 @@ mod FindsMax
 mod GroupsOfClauses
 mod JumpsAcrossLoops
 mod TriggersOfAxioms
+mod GraphMarks
+mod BlockMarks
+mod CallMarks
+pub mod TextMarks
+pub mod Joined
+mod SortedGoals
+mod ProvedGoals

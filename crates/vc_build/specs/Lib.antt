@@ -5,3 +5,6 @@ pub mod Sound
 pub mod Rebuild
 pub mod Exceeds
 pub mod NamedAxioms
+pub mod Marks
+pub mod MarkLaws
+pub mod Proved

@@ -14,13 +14,12 @@ use crate::shared::{SharedGoal, remarked, share_all};
 use crate::text::depends;
 use bpl_model::{Links, Proc};
 use bv_base::Steps;
-use goal_marks::marks_of;
 use logic_core::Sequence;
 use std::alloc::{AllocError, Global};
 use std::sync::ledger::Ledger;
-use vc_build::BuildFault;
 use vc_build::procedure::add_goals;
 use vc_build::tally::Tally;
+use vc_build::{BuildFault, marks_of};
 
 /// A procedure with its goals.
 #[derive(Drop)]

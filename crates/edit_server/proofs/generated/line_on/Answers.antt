@@ -1,4 +1,4 @@
-use Rattle.generated_report.proofs.Answered.{answered_starves}
+use Rattle.check_report.proofs.Answered.{answered_starves}
 use Rattle.edit_server.proofs.GeneratedCalls.{in_any_case}
 use Rattle.edit_server.proofs.generated.line_on.Goals as goal
 

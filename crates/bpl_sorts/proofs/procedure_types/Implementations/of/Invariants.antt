@@ -1,5 +1,5 @@
 use Rattle.std.proofs.Common.{◌≡◌, ◌++◌, drop}
-use Rattle.bpl_elaborate.specs.Implemented.{names_of_bodies, bodies_given}
+use Rattle.bpl_resolve.specs.Implemented.{names_of_bodies, bodies_given}
 use Rattle.bpl_sorts.specs.BodiesFound.{bodies_seen}
 use Rattle.bpl_sorts.proofs.procedure_types.Implementations.of.Given as goal
 

@@ -1,5 +1,5 @@
 use Rattle.std.proofs.Common.{◌∙◌, sym, ap, subst}
-use Rattle.program_faults.specs.FaultView.{SourcesAreShort}
+use Rattle.fault_text.specs.FaultView.{SourcesAreShort}
 use Rattle.request_text.specs.RequestView.{request_view}
 use Rattle.program_edits.specs.Edited.{IsEdited, edited}
 use Rattle.program_edits.specs.Refusals.{IsRefused}

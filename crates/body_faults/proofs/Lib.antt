@@ -1,3 +1,0 @@
-pub mod SameTable
-pub mod FirstOfRevised
-pub mod EarlierSteps

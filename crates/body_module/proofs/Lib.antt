@@ -1,3 +1,0 @@
-pub mod SetParts
-pub mod KeptBodies
-pub mod RevisedModule

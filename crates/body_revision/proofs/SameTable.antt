@@ -1,0 +1,34 @@
+-- A procedure with another body declares what it declared: the table and the counts are the same.
+use Rattle.std.proofs.Common.{◌≡◌, refl, sym, ap, ◌∙◌, subst, ℕ, zero, suc, ◌+◌, List, [], ◌∷◌, ◌++◌, slice_get, slice_set, Some}
+use Rattle.std.specs.Option.{unwrap_or}
+use Rattle.bpl_ast.specs.Statement.{DeclBody, Decl}
+use Rattle.bpl_scopes.specs.Scopes.{table_of, Counts, counts_with, counts_after, no_counts, entries_of, entries_after}
+use Rattle.body_revision.specs.Revised.{IsRevised}
+
+pub revised_entries : (c : Counts) (k : ℕ) (d e : DeclBody) → IsRevised d e → entries_of c k e ≡ entries_of c k d
+revised_entries c k d e r = ap (entries_of c k) r.new ∙ sym (ap (entries_of c k) r.old)
+
+pub revised_counts : (c : Counts) (d e : DeclBody) → IsRevised d e → counts_with c e ≡ counts_with c d
+revised_counts c d e r = ap (counts_with c) r.new ∙ sym (ap (counts_with c) r.old)
+
+-- the one that stands first
+pub revised_first : (x d e : Decl) → Some x ≡ Some d → IsRevised d.body e.body → IsRevised x.body e.body
+revised_first x d e is r = subst (λ (y : Decl). IsRevised y.body e.body) (sym (ap (λ o. unwrap_or o x) is)) r
+
+pub same_entries : (c : Counts) (k : ℕ) (ds : List Decl) (at : ℕ) (d e : Decl) → slice_get ds at ≡ Some d → IsRevised d.body e.body → entries_after c k (slice_set ds at e) ≡ entries_after c k ds
+same_entries c k [] at d e is r = refl
+same_entries c k (x ∷ xs) zero d e is r =
+    let s = revised_first x d e is r in
+    λ i. revised_entries c k x.body e.body s i ++ entries_after (revised_counts c x.body e.body s i) (k + 1) xs
+same_entries c k (x ∷ xs) (suc at) d e is r = ap (λ es. entries_of c k x.body ++ es) (same_entries (counts_with c x.body) (k + 1) xs at d e is r)
+
+pub same_counts_after : (c : Counts) (ds : List Decl) (at : ℕ) (d e : Decl) → slice_get ds at ≡ Some d → IsRevised d.body e.body → counts_after c (slice_set ds at e) ≡ counts_after c ds
+same_counts_after c [] at d e is r = refl
+same_counts_after c (x ∷ xs) zero d e is r = ap (λ k. counts_after k xs) (revised_counts c x.body e.body (revised_first x d e is r))
+same_counts_after c (x ∷ xs) (suc at) d e is r = same_counts_after (counts_with c x.body) xs at d e is r
+
+pub same_table : (ds : List Decl) (at : ℕ) (d e : Decl) → slice_get ds at ≡ Some d → IsRevised d.body e.body → table_of (slice_set ds at e) ≡ table_of ds
+same_table ds at d e is r = same_entries no_counts 0 ds at d e is r
+
+pub same_counts : (ds : List Decl) (at : ℕ) (d e : Decl) → slice_get ds at ≡ Some d → IsRevised d.body e.body → counts_after no_counts (slice_set ds at e) ≡ counts_after no_counts ds
+same_counts ds at d e is r = same_counts_after no_counts ds at d e is r

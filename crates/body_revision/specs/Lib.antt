@@ -1,0 +1,4 @@
+pub mod Revised
+pub mod EarlierDecls
+pub mod Procedures
+pub mod Revision

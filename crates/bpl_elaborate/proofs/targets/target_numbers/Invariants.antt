@@ -1,7 +1,0 @@
-use Rattle.std.proofs.Common.{◌≡◌, take}
-use Rattle.bpl_faults.specs.ScopeView.{scope_seen}
-use Rattle.module_laws.specs.Elaborate.{target_numbers}
-use Rattle.bpl_elaborate.proofs.targets.target_numbers.Given as goal
-
-abbrev pub invariant-loop-name : goal.invariant-loop-name
-invariant-loop-name l = l.numbers.items ≡ target_numbers (scope_seen l.scope) (take l.name-index l.names)

@@ -1,4 +1,0 @@
-pub mod Weights
-pub mod Locals
-pub mod Implemented
-pub mod Places

@@ -1,0 +1,8 @@
+use Rattle.bpl_ast.specs.Statement.{Decl}
+use Rattle.bpl_scopes.specs.CountsView.{counts_seen}
+use Rattle.bpl_resolve.proofs.ListSteps.{flat_pushed}
+use Rattle.module_laws.specs.Elaborate.{axioms_in}
+use Rattle.bpl_resolve.proofs.constants.axioms.Goals as goal
+
+pub loop-decl-preserved : goal.loop-decl-preserved
+loop-decl-preserved c = flat_pushed (λ (d : Decl). axioms_in c.args.declared.now.environment.now (counts_seen c.args.declared.now.counts) d.body) c.args.decls.now c.loop-decl.decl-index c.decl-item.result c.loop-decl.axioms.items c.push_axiom.new.axioms.items _ c.loop-decl-test.true c.decl-item.is c.in_ok-push_axiom.ensures c.loop-decl.invariant

@@ -1,0 +1,33 @@
+-- The questions of the procedures that have a body are those of all goals of the program.
+use Rattle.std.proofs.Common.{◌≡◌, ◌∙◌, refl, sym, ap, ℕ, cond, is_some, List, [], ◌∷◌, ◌++◌, map, filter, Option, Some, None, option_map}
+use Rattle.std.specs.Prelude.{flat_map}
+use Rattle.std.proofs.lemmas.List.{map-append}
+use Rattle.bpl_model.specs.Module.{Stmts, Proc, Module}
+use Rattle.bpl_goto.specs.Removed.{body_without, removed, remove_gotos}
+use Rattle.vc_build.specs.Goals.{goals, goals_with_body}
+use Rattle.vc_build.specs.Large.{program_goals}
+use Rattle.program_opening.specs.ProcGoals.{goals_of_proc, goals_by_proc}
+use Rattle.check_report.specs.Questions.{question_on, questions_on}
+
+map_flat : {A B C : Type 0} (f : A → List B) (g : B → C) (xs : List A) → map g (flat_map f xs) ≡ flat_map (λ x. map g (f x)) xs
+map_flat f g [] = refl
+map_flat f g (x ∷ xs) = map-append g (f x) (flat_map f xs) ∙ ap (λ ys. map g (f x) ++ ys) (map_flat f g xs)
+
+-- a procedure without a body has no goals
+pub no_goals : (m : Module) (p : Proc) → p.body ≡ None → goals m p ≡ []
+no_goals m p e = λ i. goals_with_body (remove_gotos m) (removed p) (option_map body_without (e i))
+
+of_bodies : (turns : ℕ) (m : Module) (ps : List Proc) → questions_on turns (map (goals_of_proc m) (filter (λ (p : Proc). is_some p.body) ps)) ≡ flat_map (λ (p : Proc). map (question_on turns) (goals m p)) ps
+of_bodies turns m [] = refl
+of_bodies turns m (p ∷ ps) = by_body p.body refl (of_bodies turns m ps)
+  where
+    others : List Proc
+    others = filter (λ (p : Proc). is_some p.body) ps
+
+    by_body : (b : Option Stmts) → p.body ≡ b → questions_on turns (map (goals_of_proc m) others) ≡ flat_map (λ (p : Proc). map (question_on turns) (goals m p)) ps
+        → questions_on turns (map (goals_of_proc m) (cond (is_some b) (p ∷ others) others)) ≡ map (question_on turns) (goals m p) ++ flat_map (λ (p : Proc). map (question_on turns) (goals m p)) ps
+    by_body None e rest = rest ∙ ap (λ gs. map (question_on turns) gs ++ flat_map (λ (p : Proc). map (question_on turns) (goals m p)) ps) (sym (no_goals m p e))
+    by_body (Some ss) e rest = ap (λ qs. map (question_on turns) (goals m p) ++ qs) rest
+
+pub questions_by_proc : (turns : ℕ) (m : Module) → questions_on turns (goals_by_proc m) ≡ map (question_on turns) (program_goals m)
+questions_by_proc turns m = of_bodies turns m m.procs ∙ sym (map_flat (goals m) (question_on turns) m.procs)

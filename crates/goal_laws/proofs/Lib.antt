@@ -1,3 +1,0 @@
-pub mod Joined
-mod SortedGoals
-mod ProvedGoals

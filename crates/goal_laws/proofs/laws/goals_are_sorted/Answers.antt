@@ -1,5 +1,0 @@
-use Rattle.goal_laws.proofs.SortedGoals.{goals_sorted}
-use Rattle.goal_laws.proofs.laws.goals_are_sorted.Goals as goal
-
-pub returns : goal.returns
-returns c = goals_sorted c.sequents_are_sorted.ensures c.remove_gotos_stays_typed.ensures c.remove_gotos_keeps_failures.ensures c.obligations_are_kept.ensures c.canonical_keeps.ensures

@@ -1,4 +1,0 @@
-mod GraphMarks
-mod BlockMarks
-mod CallMarks
-pub mod TextMarks

@@ -1,8 +1,0 @@
-//! What is promised of the definitions, over all modules.
-ghost use Rattle.goal_marks.specs.Laws.{GoalsHaveTheirMarks};
-
-/// The goals of a procedure have, one by one, the marks of its text.
-#[tactic(auto, using(crate::proofs::TextMarks::goals_have_their_marks))]
-pub fn goals_have_their_marks()
-    ensures { GoalsHaveTheirMarks }
-{}

@@ -1,2 +1,0 @@
-pub mod InText
-pub mod Position

@@ -1,2 +1,0 @@
-pub mod WrittenFault
-pub mod FaultView

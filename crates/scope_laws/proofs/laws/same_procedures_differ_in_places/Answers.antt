@@ -1,5 +1,0 @@
-use Rattle.scope_laws.proofs.BareProcedures.{same_procedures}
-use Rattle.scope_laws.proofs.laws.same_procedures_differ_in_places.Goals as goal
-
-pub returns : goal.returns
-returns c = same_procedures
