@@ -1,5 +1,5 @@
 -- What is drawn piece by piece is what the statement's blocks are.
-use Rattle.std.specs.Prelude.{◌≡◌, refl, ℕ, ◌+◌, true, false, List, [], ◌∷◌, ◌++◌, length, Some, None, option_map}
+use Rattle.std.specs.Prelude.{◌≡◌, refl, ℕ, ◌+◌, Bool, true, false, List, [], ◌∷◌, ◌++◌, length, Some, None, option_map}
 use Rattle.std.proofs.Common.{arith, ap, sym, ◌∙◌, append_assoc}
 use Rattle.std.proofs.lemmas.List.{length-append, append-nil}
 use Rattle.bv_base.specs.declared.place.Place.{Place}
@@ -77,8 +77,8 @@ module _ (setting : Setting) where
     abbrev both_branches : Stmts → Stmts → ℕ → ℕ → ℕ → Drawn
     both_branches ss ts first other join = branch (if_scopes join) (branch (if_scopes join) (ended d (first ∷ other ∷ [])) g ss join) (option_map negation g) ts join
 
-    if_made : (ss ts : Stmts) → (let first = length d.blocks + 1 in let other = first + list_size ss + 1 in both_branches ss ts first other (other + list_size ts + 1)) ≡ with_stmt setting scopes d labels (if_else at g ss ts)
-    if_made ss ts =
+    if_made : (has_else : Bool) (ss ts : Stmts) → (let first = length d.blocks + 1 in let other = first + list_size ss + 1 in both_branches ss ts first other (other + list_size ts + 1)) ≡ with_stmt setting scopes d labels (if_else at has_else g ss ts)
+    if_made has_else ss ts =
         let first = length d.blocks + 1 in
         let other = first + list_size ss + 1 in
         let join = other + list_size ts + 1 in
@@ -98,12 +98,12 @@ module _ (setting : Setting) where
         ∙ (λ i. record { blocks = branches_behind d.blocks (r first).0 (q other (pass_by g)).0 a (block (r first).1 (join ∷ [])) (block (q other (pass_by g)).1 (join ∷ [])) i; commands = [] })
 
     -- an if, where the numbers of its blocks are these
-    pub if_drawn : (ss ts : Stmts) (first other join : ℕ) → first ≡ length d.blocks + 1 → other ≡ first + list_size ss + 1 → join ≡ other + list_size ts + 1
-        → both_branches ss ts first other join ≡ with_stmt setting scopes d labels (if_else at g ss ts)
-    if_drawn ss ts first other join e f h =
+    pub if_drawn : (has_else : Bool) (ss ts : Stmts) (first other join : ℕ) → first ≡ length d.blocks + 1 → other ≡ first + list_size ss + 1 → join ≡ other + list_size ts + 1
+        → both_branches ss ts first other join ≡ with_stmt setting scopes d labels (if_else at has_else g ss ts)
+    if_drawn has_else ss ts first other join e f h =
         let f' : other ≡ length d.blocks + 1 + list_size ss + 1 = f ∙ ap (λ k. k + list_size ss + 1) e in
         let h' : join ≡ length d.blocks + 1 + list_size ss + 1 + list_size ts + 1 = h ∙ ap (λ k. k + list_size ts + 1) f' in
-        (λ i. both_branches ss ts (e i) (f' i) (h' i)) ∙ if_made ss ts
+        (λ i. both_branches ss ts (e i) (f' i) (h' i)) ∙ if_made has_else ss ts
 
     abbrev loop_scopes : ℕ → List Scope
     loop_scopes behind = record { labels = labels; is_loop = true; behind = behind } ∷ scopes
@@ -141,17 +141,17 @@ module _ (setting : Setting) where
         (λ i. whole_loop is ss (e i) (f' i) (h' i) (j' i)) ∙ loop_made is ss
 
     -- an if, drawn one after another
-    pub if_made_of : (ss ts : Stmts) (first other join : ℕ) (next : List ℕ) (ls : List Name) (h k : Guard) (s1 s2 : List Scope) (d1 d2 d3 : Drawn)
+    pub if_made_of : (has_else : Bool) (ss ts : Stmts) (first other join : ℕ) (next : List ℕ) (ls : List Name) (h k : Guard) (s1 s2 : List Scope) (d1 d2 d3 : Drawn)
         → first ≡ length d.blocks + 1 → other ≡ first + list_size ss + 1 → join ≡ other + list_size ts + 1
         → ls ≡ labels → h ≡ g → k ≡ option_map negation g → next ≡ first ∷ other ∷ []
         → s1 ≡ record { labels = ls; is_loop = false; behind = join } ∷ scopes → s2 ≡ s1
         → d1 ≡ ended d next → d2 ≡ branch s1 d1 h ss join → d3 ≡ branch s2 d2 k ts join
-        → d3 ≡ with_stmt setting scopes d labels (if_else at g ss ts)
-    if_made_of ss ts first other join next ls h k s1 s2 d1 d2 d3 e f j l hg kg n p q a b r =
+        → d3 ≡ with_stmt setting scopes d labels (if_else at has_else g ss ts)
+    if_made_of has_else ss ts first other join next ls h k s1 s2 d1 d2 d3 e f j l hg kg n p q a b r =
         let inner : s1 ≡ if_scopes join = p ∙ (λ i. record { labels = l i; is_loop = false; behind = join } ∷ scopes) in
         let one : d1 ≡ ended d (first ∷ other ∷ []) = a ∙ ap (ended d) n in
         let two : d2 ≡ branch (if_scopes join) (ended d (first ∷ other ∷ [])) g ss join = b ∙ (λ i. branch (inner i) (one i) (hg i) ss join) in
-        r ∙ ((λ i. branch ((q ∙ inner) i) (two i) (kg i) ts join) ∙ if_drawn ss ts first other join e f j)
+        r ∙ ((λ i. branch ((q ∙ inner) i) (two i) (kg i) ts join) ∙ if_drawn has_else ss ts first other join e f j)
 
     -- a loop, drawn one after another
     pub loop_made_of : (is : List Invariant) (ss : Stmts) (head inside exit behind : ℕ) (ls : List Name) (h k : Guard) (s1 : List Scope) (d1 d2 d3 d4 : Drawn)

@@ -1,5 +1,5 @@
 // Statements as blocks, in the order of the text.
-ghost use Rattle.std.specs.Prelude.{◌≡◌, [], ◌∷◌, ◌++◌, IfOk, OnOk, option_map};
+ghost use Rattle.std.specs.Prelude.{◌≡◌, true, [], ◌∷◌, ◌++◌, IfOk, OnOk, option_map};
 ghost use Rattle.logic_core.specs.Tree.{negation};
 ghost use Rattle.bpl_model.specs.Module.{havoc, if_else, while};
 ghost use Rattle.bpl_model.specs.StmtView.{stmts_of};
@@ -44,7 +44,7 @@ fn draw_stmt(
             drawn.add(Command::Assign(Sequence::of(pairs)))
         }
         StmtForm::Call(_, _, _, _) | StmtForm::Goto(_, _) => Ok(()),
-        StmtForm::If(_, guard, first, second) => {
+        StmtForm::If(_, _, guard, first, second) => {
             draw_if(alloc, setting, labels, scopes, guard, first, second, drawn)
         }
         StmtForm::While(_, guard, invariants, body) => {
@@ -89,7 +89,7 @@ fn draw_if(
     second: &[Stmt],
     drawn: &mut Drawn,
 ) -> Result<(), AllocError>
-    ensures drawn { OnOk result (drawn.new ≡ with_stmt setting.now scopes.old drawn.old labels.now (if_else anywhere guard.now (stmts_of first.now) (stmts_of second.now))) }
+    ensures drawn { OnOk result (drawn.new ≡ with_stmt setting.now scopes.old drawn.old labels.now (if_else anywhere true guard.now (stmts_of first.now) (stmts_of second.now))) }
     ensures scopes { OnOk result (scopes.new ≡ scopes.old) }
 {
     let one_more = sum(drawn.number(), 1)?;

@@ -12,7 +12,7 @@ fn size(stmt: &Stmt) -> Result<u64, AllocError>
     ensures { IfOk result (λ n. n ≡ size stmt.now) }
 {
     match &stmt.form {
-        StmtForm::If(_, _, first, second) => sum(sum(list_size(first)?, list_size(second)?)?, 3),
+        StmtForm::If(_, _, _, first, second) => sum(sum(list_size(first)?, list_size(second)?)?, 3),
         StmtForm::While(_, _, _, body) => sum(list_size(body)?, 4),
         StmtForm::Break(_, _) | StmtForm::Return(_) => Ok(1),
         StmtForm::Labelled(_, behind) => size(behind),

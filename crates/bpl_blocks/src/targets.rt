@@ -24,7 +24,7 @@ fn push_sets(stmt: &Stmt, set: &mut Vec<u64>) -> Result<(), AllocError>
     match &stmt.form {
         StmtForm::Havoc(_, vars) | StmtForm::Call(_, _, _, vars) => set.extend_from_slice(vars),
         StmtForm::Assign(_, pairs) => push_assigned(pairs, set),
-        StmtForm::If(_, _, first, second) => {
+        StmtForm::If(_, _, _, first, second) => {
             push_list_sets(first, set)?;
             push_list_sets(second, set)
         }

@@ -71,13 +71,13 @@ module _ (named : List Name) (n : ℕ) where
   choice_last at (l ∷ k ∷ ls) zero d h = absurd (omega (h, arith))
   choice_last at (l ∷ k ∷ ls) (suc i) d h = choice_last at (k ∷ ls) i d (omega (h, arith))
 
-  pub choice_before : (at : Place) (ls : List Name) (i : ℕ) (d : Name) → i + 1 < length ls → choice named n at (drop i ls) ≡ if_else at None (one (leave named n at (slice_index_or ls i d))) (one (choice named n at (drop (i + 1) ls)))
+  pub choice_before : (at : Place) (ls : List Name) (i : ℕ) (d : Name) → i + 1 < length ls → choice named n at (drop i ls) ≡ if_else at true None (one (leave named n at (slice_index_or ls i d))) (one (choice named n at (drop (i + 1) ls)))
   choice_before at [] i d h = absurd (omega (h, arith))
   choice_before at (l ∷ []) i d h = absurd (omega (h, arith))
   choice_before at (l ∷ k ∷ ls) zero d h = refl
   choice_before at (l ∷ k ∷ ls) (suc i) d h =
       let e : suc (i + 1) ≡ suc i + 1 = omega arith in
-      choice_before at (k ∷ ls) i d (omega (h, arith)) ∙ (λ j. if_else at None (one (leave named n at (slice_index_or (k ∷ ls) i d))) (one (choice named n at (drop (e j) (l ∷ k ∷ ls)))))
+      choice_before at (k ∷ ls) i d (omega (h, arith)) ∙ (λ j. if_else at true None (one (leave named n at (slice_index_or (k ∷ ls) i d))) (one (choice named n at (drop (e j) (l ∷ k ∷ ls)))))
 
 -- with other names that are the same ones
 module _ (named others : List Name) (n : ℕ) (same : (l : Name) → is_among named l ≡ is_among others l) where
@@ -87,7 +87,7 @@ module _ (named others : List Name) (n : ℕ) (same : (l : Name) → is_among na
   choice_same : (at : Place) (ls : List Name) → choice named n at ls ≡ choice others n at ls
   choice_same at [] = refl
   choice_same at (l ∷ []) = refl
-  choice_same at (l ∷ k ∷ ls) = λ i. if_else at None (one (leave [] n at l)) (one (choice_same at (k ∷ ls) i))
+  choice_same at (l ∷ k ∷ ls) = λ i. if_else at true None (one (leave [] n at l)) (one (choice_same at (k ∷ ls) i))
 
   mutual
     pub stmt_same : (s : Stmt) → stmt_without named n s ≡ stmt_without others n s
@@ -96,7 +96,7 @@ module _ (named others : List Name) (n : ℕ) (same : (l : Name) → is_among na
     stmt_same (havoc at xs) = refl
     stmt_same (assign at ps) = refl
     stmt_same (call at q es xs) = refl
-    stmt_same (if_else at g ss ts) = λ i. if_else at g (list_same no_stmts ss i) (list_same no_stmts ts i)
+    stmt_same (if_else at has_else g ss ts) = λ i. if_else at has_else g (list_same no_stmts ss i) (list_same no_stmts ts i)
     stmt_same (while at g is ss) = λ i. while at g is (list_same no_stmts ss i)
     stmt_same (break at l) = refl
     stmt_same (return at) = refl

@@ -72,7 +72,7 @@ module _ (m : Module) (p : Proc) where
     weaker (havoc at xs) inside A B f h = h
     weaker (assign at ps) inside A B f h = h
     weaker (call at q es xs) inside A B f h = h
-    weaker (if_else at g ss ts) inside A B f h = (h.0, weaker_list ss inside A B f h.1, weaker_list ts inside A B f h.2)
+    weaker (if_else at has_else g ss ts) inside A B f h = (h.0, weaker_list ss inside A B f h.1, weaker_list ts inside A B f h.2)
     weaker (while at g is ss) inside A B f h = (h.0, h.1, weaker_list ss true A B f h.2)
     weaker (break at None) inside A B f h = h
     weaker (break at (Some l)) inside A B f h = f l h
@@ -135,7 +135,7 @@ module _ (m : Module) (p : Proc) (named : List Name) (n : ℕ) where
   scope_stays (havoc at xs) e = e
   scope_stays (assign at ps) e = e
   scope_stays (call at q es xs) e = e
-  scope_stays (if_else at g ss ts) e = refl
+  scope_stays (if_else at has_else g ss ts) e = refl
   scope_stays (while at g is ss) e = refl
   scope_stays (break at l) e = e
   scope_stays (return at) e = e
@@ -171,7 +171,7 @@ module _ (m : Module) (p : Proc) (named : List Name) (n : ℕ) where
         results = h.1.results;
       },
     )
-    typed_stmt (if_else at guard ss ts) inside A C later f around g h k = (
+    typed_stmt (if_else at has_else guard ss ts) inside A C later f around g h k = (
       h.0,
       typed_list ss no_stmts inside A C later f around (λ l e. g l (has_left l (named_within ss) (named_within ts) e)) tt h.1 k.0,
       typed_list ts no_stmts inside A C later f around (λ l e. g l (has_right l (named_within ss) (named_within ts) e)) tt h.2 k.1,

@@ -11,7 +11,7 @@ use Rattle.bpl_goto.specs.Removed.{nowhere, body_without, remove_gotos}
 
 -- W: if (true) { .. }
 abbrev wrap : Name → Stmts → Stmt
-wrap w ss = labelled (w ∷ []) (if_else nowhere (Some (truth true)) ss no_stmts)
+wrap w ss = labelled (w ∷ []) (if_else nowhere false (Some (truth true)) ss no_stmts)
 
 j_goes_forward : BodyGoesForward (Some jumps.body)
 j_goes_forward = (refl, (tt, ((refl, (refl, tt)), (tt, ((refl, tt), (tt, (tt, tt)))))))
@@ -21,7 +21,7 @@ j_removed : body_without jumps.body ≡ list (
     wrap (codes "@@B") (list (
     wrap (codes "@@A") (list (
     assign (at 4 3) ((1, n 0) ∷ [])
-    ∷ if_else (at 5 3) None (list (break (at 5 3) (Some (codes "@@A")) ∷ [])) (list (break (at 5 3) (Some (codes "@@B")) ∷ [])) ∷ []))
+    ∷ if_else (at 5 3) true None (list (break (at 5 3) (Some (codes "@@A")) ∷ [])) (list (break (at 5 3) (Some (codes "@@B")) ∷ [])) ∷ []))
     ∷ labelled (codes "A" ∷ []) (assign (at 6 6) ((1, n 1) ∷ []))
     ∷ break (at 7 3) (Some (codes "@@C")) ∷ []))
     ∷ labelled (codes "B" ∷ []) (assign (at 8 6) ((1, n 2) ∷ [])) ∷ []))
@@ -47,7 +47,7 @@ outer_goes_forward = (refl, (((((refl, tt), tt), tt), (tt, tt)), (tt, (tt, tt)))
 
 outer_removed : body_without jumps.out_body ≡ list (
     wrap (codes "@@L") (list (
-    while (at 2 3) (Some (truth true)) [] (list (if_else (at 2 5) (Some (truth true)) (list (break (at 3 7) (Some (codes "@@L")) ∷ [])) no_stmts ∷ assert (marked 5 5 Assert) (truth true) ∷ []))
+    while (at 2 3) (Some (truth true)) [] (list (if_else (at 2 5) false (Some (truth true)) (list (break (at 3 7) (Some (codes "@@L")) ∷ [])) no_stmts ∷ assert (marked 5 5 Assert) (truth true) ∷ []))
     ∷ assert (marked 7 3 Assert) (truth true) ∷ []))
     ∷ labelled (codes "L" ∷ []) (assert (marked 8 6 Assert) (truth false)) ∷ [])
 outer_removed = refl
@@ -61,8 +61,8 @@ three = list (goto (at 1 1) (codes "A" ∷ codes "@@B" ∷ codes "C" ∷ []) ∷
 
 three_removed : body_without three ≡ list (
     wrap (codes "@@@@C") (list (wrap (codes "@@@@@@B") (list (wrap (codes "@@@@A") (list (
-    if_else (at 1 1) None (list (break (at 1 1) (Some (codes "@@@@A")) ∷ []))
-    (list (if_else (at 1 1) None (list (break (at 1 1) (Some (codes "@@@@@@B")) ∷ [])) (list (break (at 1 1) (Some (codes "@@@@C")) ∷ [])) ∷ [])) ∷ [])) ∷ [])) ∷ []))
+    if_else (at 1 1) true None (list (break (at 1 1) (Some (codes "@@@@A")) ∷ []))
+    (list (if_else (at 1 1) true None (list (break (at 1 1) (Some (codes "@@@@@@B")) ∷ [])) (list (break (at 1 1) (Some (codes "@@@@C")) ∷ [])) ∷ [])) ∷ [])) ∷ [])) ∷ []))
     ∷ labelled (codes "A" ∷ codes "@@B" ∷ codes "C" ∷ []) (assume (at 2 1) (truth true)) ∷ [])
 three_removed = refl
 
@@ -70,5 +70,5 @@ three_removed = refl
 back : BodyGoesForward (Some (list (labelled (codes "A" ∷ []) (assert (marked 1 1 Assert) (truth true)) ∷ goto (at 2 1) (codes "A" ∷ []) ∷ []))) → ⊥
 back h = let bad : false ≡ true = h.1.1.0.0 in cc
 
-into : BodyGoesForward (Some (list (goto (at 1 1) (codes "A" ∷ []) ∷ if_else (at 2 1) None (list (labelled (codes "A" ∷ []) (assert (marked 3 1 Assert) (truth true)) ∷ [])) no_stmts ∷ []))) → ⊥
+into : BodyGoesForward (Some (list (goto (at 1 1) (codes "A" ∷ []) ∷ if_else (at 2 1) false None (list (labelled (codes "A" ∷ []) (assert (marked 3 1 Assert) (truth true)) ∷ [])) no_stmts ∷ []))) → ⊥
 into h = let bad : false ≡ true = h.1.0.0 in cc

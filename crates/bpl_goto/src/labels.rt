@@ -16,7 +16,7 @@ fn put_named<'a>(names: &mut NameSet<'a>, stmt: &'a Stmt) -> Result<(), AllocErr
     ensures { OnOk result (names.new ≡ with_names names.old (named_in stmt.now)) }
 {
     match &stmt.form {
-        StmtForm::If(_, _, first, second) => {
+        StmtForm::If(_, _, _, first, second) => {
             put_each_named(names, first)?;
             put_each_named(names, second)
         }
@@ -55,7 +55,7 @@ fn longest_in(stmt: &Stmt) -> usize
     ensures { result ≡ longest (labels_in stmt.now) }
 {
     match &stmt.form {
-        StmtForm::If(_, _, first, second) => longest_within(first).max(longest_within(second)),
+        StmtForm::If(_, _, _, first, second) => longest_within(first).max(longest_within(second)),
         StmtForm::While(_, _, _, body) => longest_within(body),
         StmtForm::Labelled(labels, behind) => longest_of(labels).max(longest_in(behind)),
         _ => 0,

@@ -19,11 +19,11 @@ impl<'a> Labels<'a> {
         ensures { IfOk result (λ s. s ≡ stmt_without self.now.named self.now.longest stmt.now) }
     {
         match &stmt.form {
-            StmtForm::If(at, guard, first, second) => {
+            StmtForm::If(at, has_else, guard, first, second) => {
                 let guard = copy_optional_formula(alloc, guard)?;
                 let first = self.list_without(alloc, first)?;
                 let second = self.list_without(alloc, second)?;
-                Ok(Stmt::new(StmtForm::If(*at, guard, first, second)))
+                Ok(Stmt::new(StmtForm::If(*at, *has_else, guard, first, second)))
             }
             StmtForm::While(at, guard, invariants, body) => {
                 let guard = copy_optional_formula(alloc, guard)?;

@@ -51,7 +51,7 @@ impl<'a> Labels<'a> {
         while i > 0 {
             i -= 1;
             let first = one(alloc, self.leave(alloc, at, &labels[i])?)?;
-            rest = Stmt::new(StmtForm::If(at, None, first, one(alloc, rest)?));
+            rest = Stmt::new(StmtForm::If(at, true, None, first, one(alloc, rest)?));
         }
         Ok(rest)
     }
@@ -67,7 +67,7 @@ impl<'a> Labels<'a> {
     {
         let guard = Some(Term::new(Node::Truth(true)));
         let nowhere = Place { line: 0, col: 0 };
-        let inner = Stmt::new(StmtForm::If(nowhere, guard, before, Vec::new(alloc)));
+        let inner = Stmt::new(StmtForm::If(nowhere, false, guard, before, Vec::new(alloc)));
         let mut labels = Vec::new(alloc);
         labels.push(self.wrapper(alloc, label)?)?;
         let outer = Stmt::new(StmtForm::Labelled(labels, Box::new(alloc, inner)?));

@@ -191,7 +191,7 @@ module _ (m : Module) (p : Proc) where
     typed inside ls (havoc at xs) = targeted xs
     typed inside ls (assign at ps) = both (are_targets v (map (λ a. a.0) ps)) (list_all (fits (defs_of m) v.sorts) ps) (AreTargets m p (map (λ a. a.0) ps)) (AllByRecursion (Fits m p) ps) (targeted (map (λ a. a.0) ps)) (each (fits (defs_of m) v.sorts) (Fits m p) fitting ps)
     typed inside ls (call at q es xs) = both (are_targets v xs) (is_call_of (defs_of m) v.sorts (slice_get m.procs q) es xs) (AreTargets m p xs) (IsCall m p q es xs) (targeted xs) (called (slice_get m.procs q) q es xs refl)
-    typed inside ls (if_else at g ss ts) = all_three (is_formula_or_none (defs_of m) v.sorts g) (are_typed (defs_of m) m.procs v inside ls ss) (are_typed (defs_of m) m.procs v inside ls ts) (IsGuard m p g) (AreTyped m p inside ls ss) (AreTyped m p inside ls ts) (guarded g) (all_typed inside ls ss) (all_typed inside ls ts)
+    typed inside ls (if_else at has_else g ss ts) = all_three (is_formula_or_none (defs_of m) v.sorts g) (are_typed (defs_of m) m.procs v inside ls ss) (are_typed (defs_of m) m.procs v inside ls ts) (IsGuard m p g) (AreTyped m p inside ls ss) (AreTyped m p inside ls ts) (guarded g) (all_typed inside ls ss) (all_typed inside ls ts)
     typed inside ls (while at g is ss) = all_three (is_formula_or_none (defs_of m) v.sorts g) (list_all (λ i. is_formula (defs_of m) v.sorts i.formula) is) (are_typed (defs_of m) m.procs v true ls ss) (IsGuard m p g) (AllByRecursion (λ i. IsFormula (sorts_of m p) (defs_of m) i.formula) is) (AreTyped m p true ls ss) (guarded g) (each (λ (i : Invariant). is_formula (defs_of m) v.sorts i.formula) (λ (i : Invariant). IsFormula (sorts_of m p) (defs_of m) i.formula) (λ (i : Invariant). formula boolean (sort_of v.sorts (defs_of m) [] i.formula)) is) (all_typed true ls ss)
     typed inside ls (break at None) = ((λ h. h), (λ h. h))
     typed inside ls (break at (Some l)) = ((λ h. h), (λ h. h))

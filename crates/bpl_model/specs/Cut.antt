@@ -88,7 +88,7 @@ module _ (m : Module) where
     cut_stmt n (havoc at xs) = (one (havoc at xs), [])
     cut_stmt n (assign at ps) = (one (assign at ps), [])
     cut_stmt n (call at q es xs) = cut_call m n at (slice_get m.procs q) es xs
-    cut_stmt n (if_else at g ss ts) = let r = cut_list n ss in let q = cut_list (n + length r.1) ts in (one (if_else at g r.0 q.0), r.1 ++ q.1)
+    cut_stmt n (if_else at has_else g ss ts) = let r = cut_list n ss in let q = cut_list (n + length r.1) ts in (one (if_else at has_else g r.0 q.0), r.1 ++ q.1)
     cut_stmt n (while at g is ss) = let r = cut_list n ss in (one (while at g is r.0), r.1)
     cut_stmt n (break at l) = (one (break at l), [])
     cut_stmt n (return at) = (one (return at), [])

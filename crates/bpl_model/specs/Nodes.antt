@@ -9,7 +9,7 @@ abbrev mutual
   stmt_nodes (havoc at xs) = 1
   stmt_nodes (assign at ps) = 1
   stmt_nodes (call at q es xs) = 1
-  stmt_nodes (if_else at g ss ts) = stmts_nodes ss + stmts_nodes ts + 1
+  stmt_nodes (if_else at has_else g ss ts) = stmts_nodes ss + stmts_nodes ts + 1
   stmt_nodes (while at g is ss) = stmts_nodes ss + 1
   stmt_nodes (break at l) = 1
   stmt_nodes (return at) = 1

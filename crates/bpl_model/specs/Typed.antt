@@ -46,7 +46,7 @@ module _ (m : Module) (p : Proc) where
     IsTyped inside ls (havoc at xs) = AreTargets xs
     IsTyped inside ls (assign at ps) = AreTargets (map (λ a. a.0) ps) × AllByRecursion Fits ps
     IsTyped inside ls (call at q es xs) = AreTargets xs × IsCall q es xs
-    IsTyped inside ls (if_else at g ss ts) = IsGuard g × AreTyped inside ls ss × AreTyped inside ls ts
+    IsTyped inside ls (if_else at has_else g ss ts) = IsGuard g × AreTyped inside ls ss × AreTyped inside ls ts
     IsTyped inside ls (while at g is ss) = IsGuard g × AllByRecursion (λ i. IsFormula (sorts_of m p) (defs_of m) i.formula) is × AreTyped true ls ss
     IsTyped inside ls (break at None) = IsTrue inside
     IsTyped inside ls (break at (Some l)) = IsTrue (list_any (bytes_eq l) ls)

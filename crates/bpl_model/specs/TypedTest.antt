@@ -80,7 +80,7 @@ module _ (defs : List Def) where
       is_typed inside ls (havoc at xs) = are_targets v xs
       is_typed inside ls (assign at ps) = are_targets v (map (λ a. a.0) ps) && list_all (fits v.sorts) ps
       is_typed inside ls (call at q es xs) = are_targets v xs && is_call_of v.sorts (slice_get procs q) es xs
-      is_typed inside ls (if_else at g ss ts) = is_formula_or_none v.sorts g && (are_typed inside ls ss && are_typed inside ls ts)
+      is_typed inside ls (if_else at has_else g ss ts) = is_formula_or_none v.sorts g && (are_typed inside ls ss && are_typed inside ls ts)
       is_typed inside ls (while at g is ss) = is_formula_or_none v.sorts g && (list_all (λ i. is_formula v.sorts i.formula) is && are_typed true ls ss)
       is_typed inside ls (break at None) = inside
       is_typed inside ls (break at (Some l)) = list_any (bytes_eq l) ls

@@ -81,11 +81,11 @@ impl Stmt {
                 let vars = Vec::from_slice(alloc, vars)?;
                 Ok(Stmt::new(StmtForm::Call(*at, *callee, arguments, vars)))
             }
-            StmtForm::If(at, guard, first, second) => {
+            StmtForm::If(at, has_else, guard, first, second) => {
                 let guard = copy_optional_formula(alloc, guard)?;
                 let first = copy_stmts(alloc, first)?;
                 let second = copy_stmts(alloc, second)?;
-                Ok(Stmt::new(StmtForm::If(*at, guard, first, second)))
+                Ok(Stmt::new(StmtForm::If(*at, *has_else, guard, first, second)))
             }
             StmtForm::While(at, guard, invariants, body) => {
                 let guard = copy_optional_formula(alloc, guard)?;

@@ -38,8 +38,10 @@ pub enum StmtForm {
     Assign(Place, Vec<(u64, Term)>),
     /// The callee, its arguments, and the variables that take its results.
     Call(Place, u64, Vec<Term>, Vec<u64>),
-    /// A guard, and the statements where it holds and where it doesn't.
-    If(Place, Option<Formula>, Vec<Stmt>, Vec<Stmt>),
+    /// Whether an `else` list stands there, the guard, and the statements where it holds and where it
+    /// doesn't. Without an `else` list the latter are none, or the one `if` of an `else if`. What
+    /// statements do doesn't depend on it.
+    If(Place, bool, Option<Formula>, Vec<Stmt>, Vec<Stmt>),
     /// A guard, the invariants, and the body.
     While(Place, Option<Formula>, Vec<Invariant>, Vec<Stmt>),
     /// The end of the if or while of that label, or of the innermost loop.

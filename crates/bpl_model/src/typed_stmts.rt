@@ -102,7 +102,7 @@ impl<'a> Scope<'a> {
             StmtForm::Call(_, callee, arguments, targets) => {
                 self.is_typed_call(alloc, *callee, arguments, targets)
             }
-            StmtForm::If(_, guard, first, second) => {
+            StmtForm::If(_, _, guard, first, second) => {
                 self.is_typed_if(alloc, inside, labels, guard, first, second)
             }
             StmtForm::While(_, guard, invariants, body) => {

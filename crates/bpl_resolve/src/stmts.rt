@@ -9,7 +9,7 @@ ghost use Rattle.bpl_scopes.specs.TableView.{entity_seen};
 ghost use Rattle.bpl_faults.specs.ScopeView.{scope_seen};
 ghost use Rattle.bpl_model.specs.StmtView.{stmts_of as module_stmts};
 ghost use Rattle.bpl_model.specs.Module.{«break», if_else, while};
-ghost use Rattle.module_laws.specs.Elaborate.{labelled_as, procedure_number, guard_of, invariants_of, stmts_of, stmt_of, action_of, chain_of, others_of};
+ghost use Rattle.module_laws.specs.Elaborate.{labelled_as, procedure_number, guard_of, invariants_of, is_else, stmts_of, stmt_of, action_of, chain_of, others_of};
 
 use crate::names::{name_of, names_of};
 use crate::targets::{assignments, guard_of, invariants_of, target_numbers};
@@ -213,6 +213,16 @@ fn action_of<'a>(
     }
 }
 
+// Whether an else list goes on behind a branch, and not another branch, or nothing.
+fn is_else(branches: &[Branch], last: &Option<Vec<Stmt>>) -> bool
+    ensures { result ≡ is_else (branches_of branches.now (last_of last.now)) }
+{
+    match branches.split_first() {
+        Some(_) => false,
+        None => matches!(last, Some(_)),
+    }
+}
+
 // A chain of branches; where there is none, the last block, behind a guard that is false.
 #[cycle(stmts)]
 fn chain_of<'a>(
@@ -228,13 +238,16 @@ fn chain_of<'a>(
 {
     match branches.split_first() {
         Some((first, others)) => {
+            let has_else = is_else(others, last);
             let others = others_of(alloc, scope, order, others, last)?;
-            branch_of(alloc, scope, order, first, others)
+            branch_of(alloc, scope, order, first, has_else, others)
         }
         None => {
+            let has_else = is_else(branches, last);
             let never = Some(Term::new(Node::Truth(false)));
             let last = block_of(alloc, scope, order, last)?;
-            Ok(Typed::new(TypedForm::If(at, never, Vec::new(alloc), last)))
+            let none = Vec::new(alloc);
+            Ok(Typed::new(TypedForm::If(at, has_else, never, none, last)))
         }
     }
 }
@@ -254,9 +267,10 @@ fn others_of<'a>(
     let Some((first, rest)) = branches.split_first() else {
         return block_of(alloc, scope, order, last);
     };
+    let has_else = is_else(rest, last);
     let others = others_of(alloc, scope, order, rest, last)?;
     let mut block = Vec::new(alloc);
-    block.push(branch_of(alloc, scope, order, first, others)?)?;
+    block.push(branch_of(alloc, scope, order, first, has_else, others)?)?;
     Ok(block)
 }
 
@@ -266,14 +280,15 @@ fn branch_of<'a>(
     scope: &Scope<'_, 'a>,
     order: &Positions,
     branch: &'a Branch,
+    has_else: bool,
     others: Vec<Typed>,
 ) -> Result<Typed, AllocError>
     requires { order.now ≡ in_number_order (scope_seen scope.now).table }
-    ensures { IfOk result (λ s. s ≡ if_else branch.now.at (guard_of (scope_seen scope.now) branch.now.guard) (stmts_of (scope_seen scope.now) (stmts_tree branch.now.body.items)) (module_stmts others.items)) }
+    ensures { IfOk result (λ s. s ≡ if_else branch.now.at has_else (guard_of (scope_seen scope.now) branch.now.guard) (stmts_of (scope_seen scope.now) (stmts_tree branch.now.body.items)) (module_stmts others.items)) }
 {
     let guard = guard_of(alloc, scope, order, &branch.guard)?;
     let body = stmts_of(alloc, scope, order, &branch.body)?;
-    Ok(Typed::new(TypedForm::If(branch.at, guard, body, others)))
+    Ok(Typed::new(TypedForm::If(branch.at, has_else, guard, body, others)))
 }
 
 #[cycle(stmts)]

@@ -8,7 +8,7 @@ use Rattle.bpl_model.specs.Cut.{append, one}
 use Rattle.bpl_goto.specs.Labels.{are_distinct, list_labels, labels_in, labels_within}
 use Rattle.bpl_goto.specs.Forward.{GoesForward, GoForward, BodyGoesForward, AllGoForward}
 use Rattle.bpl_smoke.specs.declared.point.Point.{Point}
-use Rattle.bpl_smoke.specs.Points.{is_else, point_at}
+use Rattle.bpl_smoke.specs.Points.{point_at}
 use Rattle.bpl_smoke.specs.Put.{count_within, count_in, ended, ended_if, put_in, put_within, put_list, proc_with, proc_with_point, procs_with}
 use Rattle.bpl_smoke.specs.Kept.{WithPointGoesForward}
 use Rattle.bpl_smoke.proofs.Found.{set_all, found_in}
@@ -61,7 +61,7 @@ module _ (mark : Mark) where
   own_labels (havoc at xs) k = refl
   own_labels (assign at es) k = refl
   own_labels (call at q es xs) k = refl
-  own_labels (if_else at g ss ts) k = refl
+  own_labels (if_else at has_else g ss ts) k = refl
   own_labels (while at g is ss) k = refl
   own_labels (break at l) k = refl
   own_labels (return at) k = refl
@@ -79,10 +79,10 @@ module _ (mark : Mark) where
     labels_put (havoc at xs) k = refl
     labels_put (assign at es) k = refl
     labels_put (call at q es xs) k = refl
-    labels_put (if_else at g ss ts) k =
+    labels_put (if_else at has_else g ss ts) k =
         let j = k - count_within ss in
         let first = within_ended j (put_within mark k ss) ∙ within_put ss k in
-        let second = within_ended_if (is_else ts) (j - 1 - count_within ts) (put_within mark (j - 1) ts) ∙ within_put ts (j - 1) in
+        let second = within_ended_if has_else (j - 1 - count_within ts) (put_within mark (j - 1) ts) ∙ within_put ts (j - 1) in
         λ i. first i ++ second i
     labels_put (while at g is ss) k = within_ended (k - count_within ss) (put_within mark k ss) ∙ within_put ss k
     labels_put (break at l) k = refl
@@ -103,10 +103,10 @@ module _ (mark : Mark) where
     forward_put later (havoc at xs) k h = h
     forward_put later (assign at es) k h = h
     forward_put later (call at q es xs) k h = h
-    forward_put later (if_else at g ss ts) k h =
+    forward_put later (if_else at has_else g ss ts) k h =
         let j = k - count_within ss in (
           forward_ended later j (put_within mark k ss) (forward_within later ss k h.0),
-          forward_ended_if later (is_else ts) (j - 1 - count_within ts) (put_within mark (j - 1) ts) (forward_within later ts (j - 1) h.1),
+          forward_ended_if later has_else (j - 1 - count_within ts) (put_within mark (j - 1) ts) (forward_within later ts (j - 1) h.1),
         )
     forward_put later (while at g is ss) k h = forward_ended later (k - count_within ss) (put_within mark k ss) (forward_within later ss k h)
     forward_put later (break at l) k h = h

@@ -9,7 +9,7 @@ use Rattle.bpl_model.specs.Typed.{HasSort, IsTyped, AreTyped, IsBody, IsTypedPro
 use Rattle.bpl_model.specs.Cut.{append, one}
 use Rattle.logic_core.specs.Tree.{truth}
 use Rattle.bpl_smoke.specs.declared.point.Point.{Point}
-use Rattle.bpl_smoke.specs.Points.{is_else, point_at}
+use Rattle.bpl_smoke.specs.Points.{point_at}
 use Rattle.bpl_smoke.specs.Put.{count_within, count_in, ended, ended_if, put_in, put_within, put_list, proc_with, proc_with_point, procs_with}
 use Rattle.bpl_smoke.specs.Kept.{WithPointStaysTyped}
 use Rattle.bpl_smoke.proofs.Found.{HaveLike, set_like, point_like, set_all, found_in}
@@ -36,7 +36,7 @@ module _ (m : Module) (ps : List Proc) (like : HaveLike m.procs ps) (p : Proc) w
             results = subst (λ ls. sorts_at (sorts_of m p) xs ≡ local_sorts ls) (sym (k.2).1) h.1.results;
           },
         )
-    moved (if_else at g ss ts) inside A h = (h.0, moved_list ss inside A h.1, moved_list ts inside A h.2)
+    moved (if_else at has_else g ss ts) inside A h = (h.0, moved_list ss inside A h.1, moved_list ts inside A h.2)
     moved (while at g is ss) inside A h = (h.0, h.1, moved_list ss true A h.2)
     moved (break at None) inside A h = h
     moved (break at (Some l)) inside A h = h
@@ -68,7 +68,7 @@ module _ (mark : Mark) where
   scope_stays (havoc at xs) k = refl
   scope_stays (assign at es) k = refl
   scope_stays (call at q es xs) k = refl
-  scope_stays (if_else at g ss ts) k = refl
+  scope_stays (if_else at has_else g ss ts) k = refl
   scope_stays (while at g is ss) k = refl
   scope_stays (break at l) k = refl
   scope_stays (return at) k = refl
@@ -98,11 +98,11 @@ module _ (mark : Mark) where
       typed_in (havoc at xs) k inside A h = h
       typed_in (assign at es) k inside A h = h
       typed_in (call at q es xs) k inside A h = h
-      typed_in (if_else at g ss ts) k inside A h =
+      typed_in (if_else at has_else g ss ts) k inside A h =
           let j = k - count_within ss in (
             h.0,
             typed_ended j (put_within mark k ss) inside A (typed_within ss k inside A h.1),
-            typed_ended_if (is_else ts) (j - 1 - count_within ts) (put_within mark (j - 1) ts) inside A (typed_within ts (j - 1) inside A h.2),
+            typed_ended_if has_else (j - 1 - count_within ts) (put_within mark (j - 1) ts) inside A (typed_within ts (j - 1) inside A h.2),
           )
       typed_in (while at g is ss) k inside A h = (h.0, h.1, typed_ended (k - count_within ss) (put_within mark k ss) true A (typed_within ss k true A h.2))
       typed_in (break at None) k inside A h = h
@@ -132,7 +132,7 @@ module _ (m : Module) (p : Proc) (b : Option Stmts) where
     kept (havoc at xs) inside A h = h
     kept (assign at es) inside A h = h
     kept (call at f es xs) inside A h = (h.0, record { callee = h.1.callee; named = h.1.named; arguments = h.1.arguments; results = h.1.results })
-    kept (if_else at g ss ts) inside A h = (h.0, kept_list ss inside A h.1, kept_list ts inside A h.2)
+    kept (if_else at has_else g ss ts) inside A h = (h.0, kept_list ss inside A h.1, kept_list ts inside A h.2)
     kept (while at g is ss) inside A h = (h.0, h.1, kept_list ss true A h.2)
     kept (break at None) inside A h = h
     kept (break at (Some l)) inside A h = h

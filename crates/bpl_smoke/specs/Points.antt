@@ -1,21 +1,11 @@
 -- The points of a procedure: the ends of the lists that are the branches of its ifs, the bodies of its loops, and its whole body.
-use Rattle.std.specs.Prelude.{ℕ, zero, suc, ◌+◌, Bool, true, false, not, cond, List, [], ◌∷◌, ◌++◌, slice_get, Option, Some, None}
+use Rattle.std.specs.Prelude.{ℕ, zero, suc, ◌+◌, Bool, cond, List, [], ◌∷◌, ◌++◌, slice_get, Option, Some, None}
 use Rattle.bv_base.specs.declared.place.Place.{Place}
 use Rattle.flow_core.specs.declared.mark.GoalKind.TheVariants as why
 use Rattle.bpl_model.specs.Module.{Stmt, assert, assume, havoc, assign, call, if_else, while, break, return, goto, labelled, Stmts, no_stmts, stmt, Proc}
 use Rattle.bpl_smoke.specs.declared.point.PointKind.{PointKind}
 use Rattle.bpl_smoke.specs.declared.point.PointKind.TheVariants.{Branch, Else, Loop, End}
 use Rattle.bpl_smoke.specs.declared.point.Point.{Point}
-
-abbrev pub is_if : Stmt → Bool
-is_if (if_else at g ss ts) = true
-is_if s = false
-
--- the other branch of an if is an else list where it isn't missing and isn't one if alone: that is an `else if`
-abbrev pub is_else : Stmts → Bool
-is_else no_stmts = false
-is_else (stmt s no_stmts) = not (is_if s)
-is_else (stmt s (stmt t ss)) = true
 
 -- where a point is named, and its kind
 abbrev pub Spot : Type 0
@@ -37,9 +27,9 @@ abbrev mutual
   points_in chain (havoc at xs) = []
   points_in chain (assign at ps) = []
   points_in chain (call at q es xs) = []
-  points_in chain (if_else at g ss ts) =
+  points_in chain (if_else at has_else g ss ts) =
       let b = branch_of chain at in
-      points_within None ss ++ (b.0, Branch b.1) ∷ cond (is_else ts) (points_within None ts ++ (b.0, Else) ∷ []) (points_within (Some (b.0, b.1 + 1)) ts)
+      points_within None ss ++ (b.0, Branch b.1) ∷ cond has_else (points_within None ts ++ (b.0, Else) ∷ []) (points_within (Some (b.0, b.1 + 1)) ts)
   points_in chain (while at g is ss) = points_within None ss ++ (at, Loop) ∷ []
   points_in chain (break at l) = []
   points_in chain (return at) = []
@@ -76,6 +66,6 @@ of_number ps (suc k) = slice_get ps k
 abbrev pub point_at : Proc → ℕ → Option Point
 point_at p n = of_number (points p) n
 
--- of the other branch of an if that is this branch of its chain, an else list or not
+-- of the other branch of an if that is this branch of its chain: an else list, or what an `else if` goes on with
 abbrev pub points_beside : Place × ℕ → Bool → Stmts → List Spot
-points_beside b is ts = cond is (points_within None ts ++ (b.0, Else) ∷ []) (points_within (Some (b.0, b.1 + 1)) ts)
+points_beside b has_else ts = cond has_else (points_within None ts ++ (b.0, Else) ∷ []) (points_within (Some (b.0, b.1 + 1)) ts)

@@ -3,7 +3,7 @@ use Rattle.std.specs.Prelude.{ℕ, ◌-◌, nat_eq, Bool, true, false, cond, Lis
 use Rattle.logic_core.specs.Tree.{truth}
 use Rattle.flow_core.specs.declared.mark.Mark.{Mark}
 use Rattle.bpl_model.specs.Module.{Stmt, assert, assume, havoc, assign, call, if_else, while, break, return, goto, labelled, Stmts, no_stmts, stmt, append, one, Proc, Module}
-use Rattle.bpl_smoke.specs.Points.{is_else, points_in, points_within, point_at}
+use Rattle.bpl_smoke.specs.Points.{points_in, points_within, point_at}
 use Rattle.bpl_smoke.specs.declared.point.Point.{Point}
 
 -- how many points there are
@@ -31,9 +31,9 @@ module _ (mark : Mark) where
     put_in n (havoc at xs) = havoc at xs
     put_in n (assign at ps) = assign at ps
     put_in n (call at q es xs) = call at q es xs
-    put_in n (if_else at g ss ts) =
+    put_in n (if_else at has_else g ss ts) =
         let k = n - count_within ss in
-        if_else at g (ended k (put_within n ss)) (ended_if (is_else ts) (k - 1 - count_within ts) (put_within (k - 1) ts))
+        if_else at has_else g (ended k (put_within n ss)) (ended_if has_else (k - 1 - count_within ts) (put_within (k - 1) ts))
     put_in n (while at g is ss) = while at g is (ended (n - count_within ss) (put_within n ss))
     put_in n (break at l) = break at l
     put_in n (return at) = return at

@@ -1,32 +1,11 @@
 // The points of a procedure.
 ghost use Rattle.std.specs.Prelude.{◌≡◌, ◌+◌, ◌≤◌, ◌++◌, Some, IfOk, IfSome, OnOk, length};
 ghost use Rattle.bpl_model.specs.StmtView.{stmts_of, body_of};
-ghost use Rattle.bpl_smoke.specs.Points.{branch_of, is_if, is_else, points_in, points_within, points_beside, spots_of, points, numbered, of_number};
+ghost use Rattle.bpl_smoke.specs.Points.{branch_of, points_in, points_within, points_beside, spots_of, points, numbered, of_number};
 
 use crate::point::{Point, PointKind};
 use bpl_model::{GoalKind, Mark, Place, Proc, Stmt, StmtForm};
 use std::alloc::{AllocError, Global};
-
-fn is_if(stmt: &Stmt) -> bool
-    ensures { result ≡ is_if stmt.now }
-{
-    matches!(&stmt.form, StmtForm::If(..))
-}
-
-/// Whether the other branch of an `if` is an `else`: it is there, and isn't one `if` alone, which is
-/// an `else if`.
-#[tactic(auto, using(crate::proofs::Lists::else_none, crate::proofs::Lists::else_one, crate::proofs::Lists::else_more))]
-pub fn is_else(stmts: &[Stmt]) -> bool
-    ensures { result ≡ is_else (stmts_of stmts.now) }
-{
-    if stmts.len() == 0 {
-        return false;
-    }
-    if stmts.len() == 1 {
-        return !is_if(&stmts[0]);
-    }
-    true
-}
 
 // Where the chain of an `if` at this place begins, and the number of its branch.
 fn branch_of(chain: Option<(Place, u64)>, at: Place) -> (Place, u64)
@@ -49,11 +28,11 @@ fn add_in(
     ensures { OnOk result (spots.new.items ≡ spots.old.items ++ points_in chain stmt.now) }
 {
     match &stmt.form {
-        StmtForm::If(at, _, first, second) => {
+        StmtForm::If(at, has_else, _, first, second) => {
             let (place, number) = branch_of(chain, *at);
             add_within(spots, None, first)?;
             spots.push((place, PointKind::Branch(number)))?;
-            add_beside(spots, place, number, second)
+            add_beside(spots, place, number, *has_else, second)
         }
         StmtForm::While(at, _, _, body) => {
             add_within(spots, None, body)?;
@@ -65,18 +44,20 @@ fn add_in(
     }
 }
 
-// The points in the other branch of an `if` come behind, and that of its end where it is an `else`.
+// The points in the other branch of an `if` come behind, and that of its end where it is an `else`
+// list; else the chain goes on in it.
 #[cycle(points)]
 fn add_beside(
     spots: &mut Vec<(Place, PointKind)>,
     place: Place,
     number: u64,
+    has_else: bool,
     stmts: &[Stmt],
 ) -> Result<(), AllocError>
     requires { number ≤ length spots.old.items }
-    ensures { OnOk result (spots.new.items ≡ spots.old.items ++ points_beside (place, number) (is_else (stmts_of stmts.now)) (stmts_of stmts.now)) }
+    ensures { OnOk result (spots.new.items ≡ spots.old.items ++ points_beside (place, number) has_else (stmts_of stmts.now)) }
 {
-    if is_else(stmts) {
+    if has_else {
         add_within(spots, None, stmts)?;
         spots.push((place, PointKind::Else))?;
         Ok(())

@@ -1,11 +1,10 @@
 // A point put into statements.
 ghost use Rattle.std.specs.Prelude.{◌≡◌, ◌-◌, Some, IfOk, OnOk, cond, option_map};
 ghost use Rattle.bpl_model.specs.StmtView.{stmts_of, body_of};
-ghost use Rattle.bpl_smoke.specs.Points.{is_else};
 ghost use Rattle.bpl_smoke.specs.Put.{count_in, count_within, ended, ended_if, put_in, put_within, put_list, proc_with, proc_with_point};
 
 use crate::point::Point;
-use crate::proc_points::{is_else, of_number, points};
+use crate::proc_points::{of_number, points};
 use bpl_model::copy_decls::{copy_locals, copy_optional_formula, copy_specs};
 use bpl_model::copy_stmts::copy_invariants;
 use bpl_model::name::copy_names;
@@ -37,11 +36,11 @@ fn put_in(alloc: Global, mark: Mark, left: &mut u64, stmt: &Stmt) -> Result<Stmt
     ensures left { OnOk result (left.new ≡ left.old - count_in stmt.now) }
 {
     match &stmt.form {
-        StmtForm::If(at, guard, first, second) => {
+        StmtForm::If(at, has_else, guard, first, second) => {
             let guard = copy_optional_formula(alloc, guard)?;
             let first = put_list(alloc, mark, left, first)?;
-            let second = put_beside(alloc, mark, left, second)?;
-            Ok(Stmt::new(StmtForm::If(*at, guard, first, second)))
+            let second = put_beside(alloc, mark, left, *has_else, second)?;
+            Ok(Stmt::new(StmtForm::If(*at, *has_else, guard, first, second)))
         }
         StmtForm::While(at, guard, invariants, body) => {
             let guard = copy_optional_formula(alloc, guard)?;
@@ -93,18 +92,19 @@ fn put_list(
     Ok(put)
 }
 
-// The other branch of an `if`, whose end is a point too where it is an `else`.
+// The other branch of an `if`, whose end is a point too where it is an `else` list.
 #[cycle(put)]
 fn put_beside(
     alloc: Global,
     mark: Mark,
     left: &mut u64,
+    has_else: bool,
     stmts: &[Stmt],
 ) -> Result<Vec<Stmt>, AllocError>
-    ensures put { IfOk result (λ v. stmts_of v.items ≡ ended_if mark (is_else (stmts_of stmts.now)) (left.old - count_within (stmts_of stmts.now)) (put_within mark left.old (stmts_of stmts.now))) }
-    ensures left { OnOk result (left.new ≡ left.old - count_within (stmts_of stmts.now) - cond (is_else (stmts_of stmts.now)) 1 0) }
+    ensures put { IfOk result (λ v. stmts_of v.items ≡ ended_if mark has_else (left.old - count_within (stmts_of stmts.now)) (put_within mark left.old (stmts_of stmts.now))) }
+    ensures left { OnOk result (left.new ≡ left.old - count_within (stmts_of stmts.now) - cond has_else 1 0) }
 {
-    if is_else(stmts) {
+    if has_else {
         put_list(alloc, mark, left, stmts)
     } else {
         put_within(alloc, mark, left, stmts)

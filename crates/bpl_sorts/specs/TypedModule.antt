@@ -48,7 +48,7 @@ module _ (T : Types) where
       IsStmt (havoc at xs) = ⊤
       IsStmt (assign at ps) = AllByRecursion IsSide ps
       IsStmt (call at q es xs) = IsCall q es xs
-      IsStmt (if_else at g ss ts) = IsOptional g × AreStmts ss × AreStmts ts
+      IsStmt (if_else at has_else g ss ts) = IsOptional g × AreStmts ss × AreStmts ts
       IsStmt (while at g is ss) = IsOptional g × AllByRecursion (λ i. IsTruth i.formula) is × AreStmts ss
       IsStmt (break at l) = ⊤
       IsStmt (return at) = ⊤

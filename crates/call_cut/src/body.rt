@@ -95,11 +95,14 @@ fn cut_stmt(
                 alloc, parts, first, *at, *callee, arguments, vars, variables,
             )
         }
-        StmtForm::If(at, guard, ifs, elses) => {
+        StmtForm::If(at, has_else, guard, ifs, elses) => {
             let guard = copy_optional_formula(alloc, guard)?;
             let ifs = cut_list(alloc, parts, first, ifs, variables)?;
             let elses = cut_list(alloc, parts, first, elses, variables)?;
-            one(alloc, Stmt::new(StmtForm::If(*at, guard, ifs, elses)))
+            one(
+                alloc,
+                Stmt::new(StmtForm::If(*at, *has_else, guard, ifs, elses)),
+            )
         }
         StmtForm::While(at, guard, invariants, body) => {
             let guard = copy_optional_formula(alloc, guard)?;

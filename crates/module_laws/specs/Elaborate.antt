@@ -6,7 +6,7 @@ use Rattle.bpl_model.specs.Module.{DeclText, Module}
 use Rattle.bpl_scopes.specs.Scopes.{Table, table_of, Counts, no_counts, counts_after}
 use Rattle.bpl_texts.specs.Uses.{decl_uses, contract_uses, leads_of}
 use Rattle.module_laws.specs.Elaborated.{all_consts, all_axioms, all_functions, all_globals, all_procs}
-pub use Rattle.module_laws.specs.Elaborated.{number_of_term, target_number, target_numbers, assignment, assignments, arguments, procedure_number, guard_of, invariants_of, labelled_as, stmts_of, stmt_of, action_of, chain_of, others_of, clause_term, clause_terms, locals_with, entity_number, modified_number, spec_in, spec_of, Implemented, or_else, implements, implementation_of, own_body, proc_locals, proc_body, proc_of, consts_in, globals_with, globals_in, axioms_in, value_term, function_def, procs_in}
+pub use Rattle.module_laws.specs.Elaborated.{number_of_term, target_number, target_numbers, assignment, assignments, arguments, procedure_number, guard_of, invariants_of, labelled_as, is_else, stmts_of, stmt_of, action_of, chain_of, others_of, clause_term, clause_terms, locals_with, entity_number, modified_number, spec_in, spec_of, Implemented, or_else, implements, implementation_of, own_body, proc_locals, proc_body, proc_of, consts_in, globals_with, globals_in, axioms_in, value_term, function_def, procs_in}
 
 -- among so many declarations
 abbrev pub decl_text : Table → ℕ → Decl → DeclText

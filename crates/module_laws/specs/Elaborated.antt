@@ -1,5 +1,5 @@
 -- What declarations without faults give a typed module.
-use Rattle.std.specs.Prelude.{◌≡◌, ℕ, true, false, List, [], ◌∷◌, ◌++◌, map, filter_map, flat_map, bytes_eq, Option, Some, None, option_map}
+use Rattle.std.specs.Prelude.{◌≡◌, ℕ, Bool, true, false, List, [], ◌∷◌, ◌++◌, map, filter_map, flat_map, bytes_eq, Option, Some, None, option_map}
 use Rattle.bv_base.specs.declared.place.Place.{Place}
 use Rattle.flow_core.specs.declared.block.Invariant.{Invariant as Assumed}
 use Rattle.flow_core.specs.declared.mark.GoalKind.TheVariants.{Assert}
@@ -56,6 +56,12 @@ abbrev pub labelled_as : List Name → Stmt → Stmt
 labelled_as [] s = s
 labelled_as (n ∷ ns) s = Stmt.labelled (texts_of (n ∷ ns)) s
 
+-- what goes on behind a branch is an else list
+abbrev pub is_else : Branches → Bool
+is_else (branch p g xs bs) = false
+is_else (otherwise xs) = true
+is_else no_branch = false
+
 abbrev mutual
   pub stmts_of : Scope → Statements → Stmts
   stmts_of s no_statements = Stmts.no_stmts
@@ -76,14 +82,14 @@ abbrev mutual
   action_of s p «return» = Stmt.return p
   action_of s p (goto ns) = Stmt.goto p (texts_of ns)
 
-  -- an `else if` is the only statement of the other branch
+  -- an `else if` is the only statement of the other branch, which is no else list then
   pub chain_of : Scope → Place → Branches → Stmt
-  chain_of s q (branch p g xs bs) = Stmt.if_else p (guard_of s g) (stmts_of s xs) (others_of s bs)
-  chain_of s q (otherwise xs) = Stmt.if_else q (Some (truth false)) Stmts.no_stmts (stmts_of s xs)
-  chain_of s q no_branch = Stmt.if_else q (Some (truth false)) Stmts.no_stmts Stmts.no_stmts
+  chain_of s q (branch p g xs bs) = Stmt.if_else p (is_else bs) (guard_of s g) (stmts_of s xs) (others_of s bs)
+  chain_of s q (otherwise xs) = Stmt.if_else q true (Some (truth false)) Stmts.no_stmts (stmts_of s xs)
+  chain_of s q no_branch = Stmt.if_else q false (Some (truth false)) Stmts.no_stmts Stmts.no_stmts
 
   pub others_of : Scope → Branches → Stmts
-  others_of s (branch p g xs bs) = Stmts.stmt (Stmt.if_else p (guard_of s g) (stmts_of s xs) (others_of s bs)) Stmts.no_stmts
+  others_of s (branch p g xs bs) = Stmts.stmt (Stmt.if_else p (is_else bs) (guard_of s g) (stmts_of s xs) (others_of s bs)) Stmts.no_stmts
   others_of s (otherwise xs) = stmts_of s xs
   others_of s no_branch = Stmts.no_stmts
 

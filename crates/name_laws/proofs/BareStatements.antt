@@ -1,5 +1,5 @@
 -- Statements and the same without their places are, once elaborated, the same but for places.
-use Rattle.std.specs.Prelude.{◌≡◌, refl, ℕ, false, List, [], ◌∷◌, map, Option, Some, None, option_map}
+use Rattle.std.specs.Prelude.{◌≡◌, refl, ℕ, true, false, List, [], ◌∷◌, map, Option, Some, None, option_map}
 use Rattle.bv_base.specs.declared.place.Place.{Place}
 use Rattle.flow_core.specs.declared.mark.GoalKind.TheVariants.{Assert}
 use Rattle.std.proofs.Common.{ap}
@@ -12,7 +12,7 @@ use Rattle.bpl_scopes.specs.Scopes.{entity_of, Scope}
 use Rattle.bpl_terms.specs.Terms.{stored}
 use Rattle.canonical_laws.specs.Same.{start, bare_names, bare, bare_exprs}
 use Rattle.canonical_laws.specs.SameStatement.{bare_target, bare_invariant, bare_stmt, bare_action, bare_branches, bare_stmts}
-use Rattle.module_laws.specs.Elaborate.{target_number, target_numbers, assignments, arguments, procedure_number, guard_of, invariants_of, labelled_as, stmts_of, stmt_of, action_of, chain_of, others_of}
+use Rattle.module_laws.specs.Elaborate.{target_number, target_numbers, assignments, arguments, procedure_number, guard_of, invariants_of, labelled_as, is_else, stmts_of, stmt_of, action_of, chain_of, others_of}
 use Rattle.rebuild_laws.specs.Unplaced.{unplaced_invariant, unplaced, unplaced_stmts}
 use Rattle.name_laws.proofs.BareTerms.{bare_texts, bare_term, bare_terms_in}
 
@@ -42,6 +42,11 @@ bare_labels : (ls : List Name) (x y : Stmt) → unplaced x ≡ unplaced y → un
 bare_labels [] x y e = e
 bare_labels (l ∷ ls) x y e = λ i. Stmt.labelled (l.text ∷ bare_texts ls i) (e i)
 
+bare_else : (bs : Branches) → is_else (bare_branches bs) ≡ is_else bs
+bare_else (branch q g xs bs) = refl
+bare_else (otherwise xs) = refl
+bare_else no_branch = refl
+
 mutual
   pub bare_body_stmts : (s : Scope) (xs : Statements) → unplaced_stmts (stmts_of s (bare_stmts xs)) ≡ unplaced_stmts (stmts_of s xs)
   bare_body_stmts s no_statements = refl
@@ -64,11 +69,11 @@ mutual
   bare_acted s p (goto ns) = λ i. Stmt.goto start (bare_texts ns i)
 
   bare_chain : (s : Scope) (p : Place) (bs : Branches) → unplaced (chain_of s start (bare_branches bs)) ≡ unplaced (chain_of s p bs)
-  bare_chain s p (branch q g xs bs) = λ i. Stmt.if_else start (bare_guard s g i) (bare_body_stmts s xs i) (bare_others s bs i)
-  bare_chain s p (otherwise xs) = λ i. Stmt.if_else start (Some (truth false)) Stmts.no_stmts (bare_body_stmts s xs i)
+  bare_chain s p (branch q g xs bs) = λ i. Stmt.if_else start (bare_else bs i) (bare_guard s g i) (bare_body_stmts s xs i) (bare_others s bs i)
+  bare_chain s p (otherwise xs) = λ i. Stmt.if_else start true (Some (truth false)) Stmts.no_stmts (bare_body_stmts s xs i)
   bare_chain s p no_branch = refl
 
   bare_others : (s : Scope) (bs : Branches) → unplaced_stmts (others_of s (bare_branches bs)) ≡ unplaced_stmts (others_of s bs)
-  bare_others s (branch q g xs bs) = λ i. Stmts.stmt (Stmt.if_else start (bare_guard s g i) (bare_body_stmts s xs i) (bare_others s bs i)) Stmts.no_stmts
+  bare_others s (branch q g xs bs) = λ i. Stmts.stmt (Stmt.if_else start (bare_else bs i) (bare_guard s g i) (bare_body_stmts s xs i) (bare_others s bs i)) Stmts.no_stmts
   bare_others s (otherwise xs) = bare_body_stmts s xs
   bare_others s no_branch = refl

@@ -138,9 +138,9 @@ module _ (new_def new_var : ℕ → ℕ) (D V : ℕ → Type 0) (C : ℕ → ℕ
         commands = alike_both new_def new_var D V cs ds (Havoc vs ∷ assume_all (clauses vs)) (Havoc (map new_var vs) ∷ assume_all (clauses_there (map new_var vs))) a (one_more (any_values h) (clauses_alike vs h));
       }
       stmt_alike _ _ (assigns {ps = ps} h) ls sc n cs ds a = record { blocks = no_blocks; commands = more cs ds (Assign ps) (Assign (map (λ (r : ℕ × Tree). (new_var r.0, both_renamed new_def new_var r.1)) ps)) a (set_all h) }
-      stmt_alike _ _ (branches {p = p} {g = g} {h = h} {ss = ss} {ts = ts} {us = us} {ws = ws} c b e) ls sc n cs ds a =
-          subst (λ m. AlikeDrawn (stmt_blocks clauses own last ls sc n cs (if_else p g ss us)) (if_drawn h ts ws ls sc n ds m (list_size ws))) (sym (sizes_alike ss ts b))
-          (subst (λ m. AlikeDrawn (stmt_blocks clauses own last ls sc n cs (if_else p g ss us)) (if_drawn h ts ws ls sc n ds (list_size ss) m)) (sym (sizes_alike us ws e))
+      stmt_alike _ _ (branches {p = p} {e = has_else} {g = g} {h = h} {ss = ss} {ts = ts} {us = us} {ws = ws} c b e) ls sc n cs ds a =
+          subst (λ m. AlikeDrawn (stmt_blocks clauses own last ls sc n cs (if_else p has_else g ss us)) (if_drawn h ts ws ls sc n ds m (list_size ws))) (sym (sizes_alike ss ts b))
+          (subst (λ m. AlikeDrawn (stmt_blocks clauses own last ls sc n cs (if_else p has_else g ss us)) (if_drawn h ts ws ls sc n ds (list_size ss) m)) (sym (sizes_alike us ws e))
           (let other = n + 1 + list_size ss + 1 in
           let join = other + list_size us + 1 in
           let scopes = record { labels = ls; is_loop = false; behind = join } ∷ sc in

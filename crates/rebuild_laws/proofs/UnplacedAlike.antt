@@ -49,7 +49,7 @@ module _ (new_def new_var : ℕ → ℕ) (D V : ℕ → Type 0) (C : ℕ → ℕ
     given _ (assume p _) (assumes h) = assumes h
     given _ (havoc p _) (havocs h) = havocs h
     given _ (assign p _) (assigns h) = assigns h
-    given _ (if_else p _ ss ts) (branches g a b) = branches g (all_given _ ss a) (all_given _ ts b)
+    given _ (if_else p has_else _ ss ts) (branches g a b) = branches g (all_given _ ss a) (all_given _ ts b)
     given _ (while p _ is ss) (loops g i a) = loops g (with_places new_def new_var D V _ is i) (all_given _ ss a)
     given _ (break p _) breaks = breaks
     given _ (return p) returns = returns

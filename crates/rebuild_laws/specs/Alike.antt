@@ -36,7 +36,7 @@ module _ (new_def new_var : ℕ → ℕ) (D V : ℕ → Type 0) (C : ℕ → ℕ
       assumes : {p q : Place} {E : Tree} → EachHas V D E → AlikeStmt (assume p E) (assume q (both_renamed new_def new_var E))
       havocs : {p q : Place} {vs : List ℕ} → AllByRecursion V vs → AlikeStmt (havoc p vs) (havoc q (map new_var vs))
       assigns : {p q : Place} {ps : List (ℕ × Tree)} → AllByRecursion (Sets D V) ps → AlikeStmt (assign p ps) (assign q (map (λ r. (new_var r.0, both_renamed new_def new_var r.1)) ps))
-      branches : {p q : Place} {g h : Guard} {ss ts us ws : Stmts} → AlikeGuard g h → AlikeStmts ss ts → AlikeStmts us ws → AlikeStmt (if_else p g ss us) (if_else q h ts ws)
+      branches : {p q : Place} {e f : Bool} {g h : Guard} {ss ts us ws : Stmts} → AlikeGuard g h → AlikeStmts ss ts → AlikeStmts us ws → AlikeStmt (if_else p e g ss us) (if_else q f h ts ws)
       loops : {p q : Place} {g h : Guard} {is js : List Invariant} {ss ts : Stmts} → AlikeGuard g h → AlikeInvariants new_def new_var D V is js → AlikeStmts ss ts → AlikeStmt (while p g is ss) (while q h js ts)
       breaks : {p q : Place} {l : Option Name} → AlikeStmt (break p l) (break q l)
       returns : {p q : Place} → AlikeStmt (return p) (return q)

@@ -16,7 +16,7 @@ abbrev mutual
   unplaced (havoc p vs) = havoc start vs
   unplaced (assign p ps) = assign start ps
   unplaced (call p k es vs) = call start k es vs
-  unplaced (if_else p g ss ts) = if_else start g (unplaced_stmts ss) (unplaced_stmts ts)
+  unplaced (if_else p has_else g ss ts) = if_else start has_else g (unplaced_stmts ss) (unplaced_stmts ts)
   unplaced (while p g is ss) = while start g (map unplaced_invariant is) (unplaced_stmts ss)
   unplaced (break p l) = break start l
   unplaced (return p) = return start

@@ -66,7 +66,7 @@ module _ (clauses : List ℕ → List Tree) (own last : ℕ) where
   stmt_starts (havoc at xs) ls sc n cs = tt
   stmt_starts (assign at ps) ls sc n cs = tt
   stmt_starts (call at q es xs) ls sc n cs = tt
-  stmt_starts (if_else at g ss ts) ls sc n cs = refl
+  stmt_starts (if_else at has_else g ss ts) ls sc n cs = refl
   stmt_starts (while at g is ss) ls sc n cs = refl
   stmt_starts (break at l) ls sc n cs = refl
   stmt_starts (return at) ls sc n cs = refl
@@ -153,14 +153,14 @@ module _ (clauses : List ℕ → List Tree) (own last : ℕ) (blocks : List Bloc
       stmt_marked (havoc at xs) ls sc n cs h e o = marks_both cs (Havoc xs ∷ assume_all (clauses xs)) ∙ ap (λ ms. marks_in cs ++ ms) (assumed_unmarked (clauses xs))
       stmt_marked (assign at ps) ls sc n cs h e o = marks_both cs (Assign ps ∷ [])
       stmt_marked (call at q es xs) ls sc n cs h e o = sym (append-nil (marks_in cs))
-      stmt_marked (if_else at g ss ts) ls sc n cs h e o =
+      stmt_marked (if_else at has_else g ss ts) ls sc n cs h e o =
           let x = n + 1 + list_size ss + 1 in
           let j = x + list_size ts + 1 in
           let scopes : List Scope = record { labels = ls; is_loop = false; behind = j } ∷ sc in
           let r = then_made clauses own last blocks ls sc n g ss ts in
           let q = else_made clauses own last blocks ls sc n g ss ts in
-          let p = if_parts clauses own last blocks ls sc n cs at g ss ts h in
-          let join : NoHead j = let same : n + size (if_else at g ss ts) ≡ j = omega arith in subst NoHead same e in
+          let p = if_parts clauses own last blocks ls sc n cs at has_else g ss ts h in
+          let join : NoHead j = let same : n + size (if_else at has_else g ss ts) ≡ j = omega arith in subst NoHead same e in
           let left_end = no_head (n + 1 + list_size ss) (block r.1 (j ∷ [])) p.left_end refl in
           let right_end = no_head (x + list_size ts) (block q.1 (j ∷ [])) p.right_end refl in
           let left = sits_start (n + 1) (list_size ss) r.0 (list_sized clauses own last scopes (n + 1) (enter g) ss) p.left (list_starts clauses own last ss scopes (n + 1) (enter g)) left_end in

@@ -63,7 +63,7 @@ module _ (m : Module) where
     cut_marked (havoc at xs) n = refl
     cut_marked (assign at ps) n = refl
     cut_marked (call at q es xs) n = called_marked n at (slice_get m.procs q) es xs
-    cut_marked (if_else at g ss ts) n =
+    cut_marked (if_else at has_else g ss ts) n =
         let r = cut_list m n ss in
         append-nil (own_list r.0 ++ own_list (cut_list m (n + length r.1) ts).0) ∙ (λ i. all_marked ss n i ++ all_marked ts (n + length r.1) i)
     cut_marked (while at g is ss) n =

@@ -22,7 +22,7 @@ p0 = record {
   locals = [];
   specs = (ensures false (at 2 3) (equal (free 3)
       (Tree.call 0 (tree (free 1) (tree (free 2) no_trees)))) ∷ []);
-  body = Some (stmt (if_else (at 4 3) (Some (at_most (linear (part (pos 1) (free 1)
+  body = Some (stmt (if_else (at 4 3) true (Some (at_most (linear (part (pos 1) (free 1)
       no_parts) (pos 1)) (free 2))) (stmt (assign (at 4 16) ((3, (free 2)) ∷ [])) no_stmts) (stmt (assign (at 4 33) ((3, (free 1)) ∷ [])) no_stmts))
       no_stmts);
 }

@@ -18,7 +18,7 @@ p0 = record {
   outs = (record { name = codes "r"; sort = int; own = false; clause = None } ∷ []);
   locals = (record { name = codes "i"; sort = int; own = false; clause = (Some (at_most (num (pos 0)) (free 3))) } ∷ []);
   specs = (ensures false (at 2 3) (at_most (num (pos 1)) (free 2)) ∷ []);
-  body = Some (stmt (assign (at 5 3) ((2, (num (pos 0))) ∷ [])) (stmt (if_else (at 6 3) (Some (free 0))
+  body = Some (stmt (assign (at 5 3) ((2, (num (pos 0))) ∷ [])) (stmt (if_else (at 6 3) true (Some (free 0))
       (stmt (goto (at 6 12) (codes "A" ∷ [])) no_stmts) (stmt (goto (at 6 29) (codes "B" ∷ codes "End" ∷ [])) no_stmts)) (stmt
       (assign (at 7 3) ((2, (num (pos 7))) ∷ [])) (stmt
       (labelled (codes "A" ∷ codes "B" ∷ []) (assign (at 8 9) ((2, (num (pos 1))) ∷ []))) (stmt
@@ -26,20 +26,20 @@ p0 = record {
       (Some (at_most (linear (part (pos 1) (free 3) no_parts) (pos 1)) (free 1)))
       (record { free = false; place = (at 10 20); formula = (at_most (num (pos 1)) (free 2)) } ∷ []) (stmt
       (assign (at 11 5) ((3, (linear (part (pos 1) (free 3) (part (pos 1) (num (pos 1)) no_parts)) (pos 0))) ∷ [])) (stmt (
-      if_else (at 12 5) (Some (equal (free 3) (num (pos 5))))
-      (stmt (goto (at 12 19) (codes "Out" ∷ codes "In" ∷ [])) no_stmts) no_stmts) (stmt (if_else (at 13 5)
+      if_else (at 12 5) false (Some (equal (free 3) (num (pos 5))))
+      (stmt (goto (at 12 19) (codes "Out" ∷ codes "In" ∷ [])) no_stmts) no_stmts) (stmt (if_else (at 13 5) false
       (Some (equal (free 3) (num (pos 6)))) (stmt (break (at 13 19) (Some (codes "L"))) no_stmts) no_stmts) (stmt (
       while (at 14 5) None ([]) (stmt
-      (if_else (at 14 17) (Some (free 0)) (stmt (goto (at 14 26) (codes "In" ∷ [])) no_stmts) no_stmts)
+      (if_else (at 14 17) false (Some (free 0)) (stmt (goto (at 14 26) (codes "In" ∷ [])) no_stmts) no_stmts)
       (stmt (break (at 14 37) None) no_stmts))) (stmt (assign (at 15 5)
       ((2, (linear (part (pos 1) (free 2) (part (pos 1) (num (pos 1)) no_parts)) (pos 0))) ∷ [])) (stmt
       (labelled (codes "In" ∷ []) (assert (marked 16 9 kind.Assert) (at_most (num (pos 1)) (free 2)))) no_stmts)))))))) (
       stmt (assert (marked 18 3 kind.Assert) (at_most (num (pos 1)) (free 2))) (stmt (labelled (codes "Out" ∷ []) (if_else
-      (at 19 8) None (stmt (labelled (codes "M" ∷ [])
-      (if_else (at 19 20) (Some (free 0)) (stmt (goto (at 19 29) (codes "N" ∷ [])) no_stmts) no_stmts)) (stmt
+      (at 19 8) true None (stmt (labelled (codes "M" ∷ [])
+      (if_else (at 19 20) false (Some (free 0)) (stmt (goto (at 19 29) (codes "N" ∷ [])) no_stmts) no_stmts)) (stmt
       (assign (at 19 39) ((2, (num (pos 2))) ∷ [])) (stmt (labelled (codes "N" ∷ []) (assert
       (marked 19 50 kind.Assert) (at_most (linear (part (pos 1) (num (pos 0)) no_parts) (pos 1)) (free 2)))) (
-      stmt (if_else (at 19 64) (Some (at_most (linear (part (pos 1) (num (pos 3)) no_parts) (pos 1)) (free 2)))
+      stmt (if_else (at 19 64) false (Some (at_most (linear (part (pos 1) (num (pos 3)) no_parts) (pos 1)) (free 2)))
       (stmt (goto (at 19 77) (codes "End" ∷ [])) no_stmts) no_stmts) no_stmts))))
       (stmt (return (at 19 98)) no_stmts))) (stmt (goto (at 20 3) (codes "End" ∷ [])) (stmt
       (assert (marked 21 3 kind.Assert) (truth false)) (stmt (labelled (codes "End" ∷ [])

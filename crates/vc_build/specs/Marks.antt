@@ -28,7 +28,7 @@ module _ (called : Place → ℕ → List Mark) where
     stmt_marks (havoc at xs) = []
     stmt_marks (assign at ps) = []
     stmt_marks (call at q es xs) = called at q
-    stmt_marks (if_else at g ss ts) = list_marks ss ++ list_marks ts
+    stmt_marks (if_else at has_else g ss ts) = list_marks ss ++ list_marks ts
     stmt_marks (while at g is ss) = invariant_marks InvariantEntry is ++ (list_marks ss ++ invariant_marks InvariantKept is)
     stmt_marks (break at l) = []
     stmt_marks (return at) = []

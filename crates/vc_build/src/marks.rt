@@ -37,7 +37,7 @@ fn push_stmt(parts: &Parts, marks: &mut Vec<Mark>, stmt: &Stmt) -> Result<(), Al
             Ok(())
         }
         StmtForm::Call(at, callee, _, _) => push_call(parts, marks, *at, *callee),
-        StmtForm::If(_, _, first, second) => {
+        StmtForm::If(_, _, _, first, second) => {
             push_stmts(parts, marks, first)?;
             push_stmts(parts, marks, second)
         }

@@ -15,7 +15,7 @@ mutual
   none_in_stmt (havoc at xs) h = tt
   none_in_stmt (assign at ps) h = tt
   none_in_stmt (call at q es xs) h = tt
-  none_in_stmt (if_else at g ss ts) h = let p = neither (have_goto ss) (have_goto ts) h in (none_in_list ss p.0, none_in_list ts p.1)
+  none_in_stmt (if_else at has_else g ss ts) h = let p = neither (have_goto ss) (have_goto ts) h in (none_in_list ss p.0, none_in_list ts p.1)
   none_in_stmt (while at g is ss) h = none_in_list ss h
   none_in_stmt (break at l) h = tt
   none_in_stmt (return at) h = tt

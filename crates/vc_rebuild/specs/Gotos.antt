@@ -10,7 +10,7 @@ abbrev mutual
   has_goto (havoc at xs) = false
   has_goto (assign at ps) = false
   has_goto (call at q es xs) = false
-  has_goto (if_else at g ss ts) = have_goto ss || have_goto ts
+  has_goto (if_else at has_else g ss ts) = have_goto ss || have_goto ts
   has_goto (while at g is ss) = have_goto ss
   has_goto (break at l) = false
   has_goto (return at) = false

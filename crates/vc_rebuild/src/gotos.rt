@@ -16,7 +16,7 @@ fn has_goto(stmt: &Stmt) -> bool
     ensures { result ≡ has_goto stmt.now }
 {
     match &stmt.form {
-        StmtForm::If(_, _, first, second) => have_goto(first) || have_goto(second),
+        StmtForm::If(_, _, _, first, second) => have_goto(first) || have_goto(second),
         StmtForm::While(_, _, _, body) => have_goto(body),
         StmtForm::Goto(_, _) => true,
         StmtForm::Labelled(_, behind) => has_goto(behind),

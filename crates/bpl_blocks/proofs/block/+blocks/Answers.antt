@@ -33,7 +33,7 @@ draw_list-returns-clause-drawn t c =
 
 pub draw_if-returns-clause-drawn : goal.draw_if-returns-clause-drawn
 draw_if-returns-clause-drawn t c =
-    if_made_of c.args.setting.now c.args.scopes.now c.args.drawn.now c.args.labels.now anywhere c.args.guard.now (stmts_of c.args.first.now) (stmts_of c.args.second.now)
+    if_made_of c.args.setting.now c.args.scopes.now c.args.drawn.now c.args.labels.now anywhere c.args.guard.now true (stmts_of c.args.first.now) (stmts_of c.args.second.now)
     c.in_ok-one_more.one_more c.in_ok-other.other c.in_ok-join.join c.in_ok-two.field-0.items c.in_ok-labels.labels.items c.in_ok-holds.holds c.in_ok-denied.denied
     c.enter.new.self c.draw_branch.new.scopes c.end.new.self c.draw_branch.new.drawn c.draw_branch-2.new.drawn
     (c.in_ok-one_more.ensures ∙ ap (λ k. k + 1) c.number.ensures)

@@ -1,10 +1,9 @@
-use Rattle.std.proofs.Common.{◌≡◌, ◌∙◌, ℕ, ap, sym, arith, cond, drop-cons}
+use Rattle.std.proofs.Common.{◌≡◌, ◌∙◌, ap, sym, arith, drop-cons}
 use Rattle.std.proofs.lemmas.Grind.{common_steps}
 use Rattle.std.proofs.lemmas.List.{at_drop_all}
 use Rattle.bpl_model.specs.Module.{if_else}
 use Rattle.bpl_model.specs.StmtView.{stmts_of, stmt_of}
 use Rattle.bpl_model.specs.Cut.{append}
-use Rattle.bpl_smoke.specs.Points.{is_else}
 use Rattle.bpl_smoke.specs.Put.{count_in, count_within, put_within}
 use Rattle.bpl_smoke.proofs.Counts.{count_if}
 use Rattle.bpl_smoke.proofs.Lists.{append_none}
@@ -24,11 +23,10 @@ pub put_in-returns-in_ok-second-in-If-clause-left : goal.put_in-returns-in_ok-se
 put_in-returns-in_ok-second-in-If-clause-left t c =
     let ss = stmts_of c.in-If.first.items in
     let ts = stmts_of c.in-If.second.items in
-    let shape : c.args.stmt.now ≡ if_else c.in-If.at c.in-If.guard ss ts = sym c.stmt.view_is ∙ ap stmt_of c.in-If.is in
-    let count = ap count_in shape ∙ count_if c.in-If.at c.in-If.guard ss ts in
+    let shape : c.args.stmt.now ≡ if_else c.in-If.at c.in-If.has_else c.in-If.guard ss ts = sym c.stmt.view_is ∙ ap stmt_of c.in-If.is in
+    let count = ap count_in shape ∙ count_if c.in-If.at c.in-If.has_else c.in-If.guard ss ts in
     let same_first = ap (λ xs. count_within (stmts_of xs)) c.deref.ensures.value in
     let same_second = ap (λ xs. count_within (stmts_of xs)) c.deref-in-If.ensures.value in
-    let same_else = ap {B = ℕ} (λ xs. cond (is_else (stmts_of xs)) 1 0) c.deref-in-If.ensures.value in
     let first = c.in_ok-first-in-If.ensures.left in
     let second = c.in_ok-second-in-If.ensures.left in
-    omega (arith, count, same_first, same_second, same_else, first, second)
+    omega (arith, count, same_first, same_second, first, second)
