@@ -107,7 +107,7 @@ module _ (o : Obligation) (sorted : IsWellSorted o) where
   bodies_have = to_mapped HasVariables (body o.defs) fs (every_of (λ f. HasVariables (body o.defs f)) fs (λ f h.
       variables_have (HasVariable o.vars (take f o.defs)) (HasDefinition o.vars (take f o.defs)) (body o.defs f) (body_mentions f (walked.good f h).0)))
 
-  variables_there : AllByRecursion (HasVariable o.vars o.defs) vs
+  pub variables_there : AllByRecursion (HasVariable o.vars o.defs) vs
   variables_there = only_these (HasVariable o.vars o.defs) [] (flat_map variables texts) tt
       (flat_from (HasVariable o.vars o.defs) variables texts (every_append HasVariables (map (body o.defs) fs ++ o.axioms) (o.goal ∷ []) (every_append HasVariables (map (body o.defs) fs) o.axioms bodies_have formulas_have.1) (formulas_have.0, tt)))
 

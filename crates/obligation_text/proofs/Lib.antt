@@ -12,6 +12,10 @@ pub mod Places
 pub mod Walk
 pub mod CanonicalRenames
 pub mod CanonicalSorted
+pub mod RenamedTerms
+pub mod SameCanonical
+pub mod CanonicalNumbers
+pub mod CanonicalStays
 pub mod Tables
 pub mod Printable
 pub mod PlacesJoined

@@ -3,7 +3,7 @@ ghost use Rattle.std.specs.Prelude.{◌≡◌, ℕ, ◌<◌, [], ◌∷◌, ◌+
 ghost use Rattle.logic_core.specs.WellSorted.{IsWellSorted};
 ghost use Rattle.logic_core.specs.Renamed.{both_renamed, def_renamed, new_number};
 ghost use Rattle.logic_core.specs.Variables.{place_in};
-ghost use Rattle.obligation_text.specs.Numbering.{definition_order, variable_order};
+ghost use Rattle.obligation_text.specs.Numbering.{definition_order, variable_order, IsCanonical};
 ghost use Rattle.obligation_text.specs.Canonical.{picked, canonical};
 
 use crate::numbering::{definition_order, variable_order};
@@ -142,7 +142,8 @@ struct Parts {
 
 impl Parts {
     fn into_obligation(self) -> Obligation
-        requires { IsWellSorted (record { vars = self.vars; defs = self.defs; axioms = self.axioms; goal = self.goal }) }
+        requires sorted { IsWellSorted (record { vars = self.vars; defs = self.defs; axioms = self.axioms; goal = self.goal }) }
+        requires numbered { IsCanonical (record { vars = self.vars; defs = self.defs; axioms = self.axioms; goal = self.goal }) }
         ensures { result ≡ record { vars = self.vars; defs = self.defs; axioms = self.axioms; goal = self.goal } }
     {
         let signature = Signature::new(self.vars, self.defs);

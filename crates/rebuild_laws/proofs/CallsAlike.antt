@@ -17,7 +17,7 @@ use Rattle.bpl_model.specs.Contract.{postconditions, call_checks, modified}
 use Rattle.bpl_model.specs.StmtView.{stmts_of}
 use Rattle.bpl_model.specs.Numbering.{first_global}
 use Rattle.bpl_model.specs.Cut.{Cut, one, owned, owned_global, result, arguments, old_globals, results, over, own_variables, check, contract_of, cut_call, with_labels, cut_stmt, cut_list}
-use Rattle.rebuild_laws.proofs.RenamedTerms.{renamed_twice, renamed_has}
+use Rattle.obligation_text.proofs.RenamedTerms.{renamed_twice, renamed_has}
 use Rattle.rebuild_laws.proofs.RemovedAlike.{appended}
 use Rattle.rebuild_laws.proofs.LocalsAlike.{locals_long, locals_both}
 use Rattle.rebuild_laws.specs.Alike.{Sets, AlikeInvariants, no_invariants, one_invariant, AlikeGuard, free_choice, guarded, AlikeStmt, asserts, assumes, havocs, assigns, branches, loops, breaks, returns, jumps, calls_so, labels, AlikeStmts, none_more, a_stmt, AlikeClause, AlikeLocals, no_locals, a_local, both_require, both_ensure, both_modify, AlikeSpecs, no_specs, a_spec}

@@ -11,7 +11,7 @@ use Rattle.bpl_model.specs.Contract.{named_in_modifies, modified}
 use Rattle.bpl_model.specs.Numbering.{first_global, first_entry, first_in, first_out, global_numbers}
 use Rattle.bpl_model.specs.Cut.{owned_global, old_global, over}
 use Rattle.vc_build.proofs.SortedGraphLists.{of_any}
-use Rattle.rebuild_laws.proofs.SameCanonical.{position_same}
+use Rattle.obligation_text.proofs.SameCanonical.{position_same}
 use Rattle.rebuild_laws.proofs.InOrder.{every_two, in_order}
 use Rattle.rebuild_laws.proofs.LocalsAlike.{locals_long}
 use Rattle.rebuild_laws.proofs.Ranges.{lower_so, higher_so, range_plus, filter_none, filter_keeps, range_each}

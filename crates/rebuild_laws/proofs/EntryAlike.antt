@@ -9,7 +9,7 @@ use Rattle.flow_core.specs.Reader.{command_of}
 use Rattle.bpl_model.specs.Module.{Spec}
 use Rattle.bpl_model.specs.Contract.{preconditions, end_checks}
 use Rattle.bpl_blocks.specs.Blocks.{assume_all}
-use Rattle.rebuild_laws.proofs.RenamedTerms.{renamed_twice, each_more}
+use Rattle.obligation_text.proofs.RenamedTerms.{renamed_twice, each_more}
 use Rattle.rebuild_laws.proofs.Commands.{asserted, assumed_so, AlikeCommands, no_more, one_more}
 use Rattle.rebuild_laws.proofs.LocalsAlike.{no_terms_alike}
 use Rattle.rebuild_laws.specs.Alike.{AlikeTerms, AlikeSpec, both_require, both_ensure, both_modify, AlikeSpecs, no_specs, a_spec}

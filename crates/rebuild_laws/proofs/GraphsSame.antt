@@ -17,7 +17,7 @@ use Rattle.passive_form.specs.Incarnations.{first_incarnations, has_edge, do_blo
 use Rattle.obligation_text.proofs.Walk.{every_map}
 use Rattle.vc_build.specs.declared.goal.Goal.{Goal}
 use Rattle.vc_build.specs.Goals.{sequent_at, obligation_at, goals_in, goals_of_graph}
-use Rattle.rebuild_laws.proofs.RenamedTerms.{renamed_twice, each_more}
+use Rattle.obligation_text.proofs.RenamedTerms.{renamed_twice, each_more}
 use Rattle.rebuild_laws.proofs.SameAfterTriggers.{one_var, RenamesIn}
 use Rattle.rebuild_laws.proofs.PassiveSame.{obligation_same}
 use Rattle.rebuild_laws.proofs.InOrder.{range_long, InOrder}

@@ -1,5 +1,3 @@
-pub mod RenamedTerms
-pub mod SameCanonical
 pub mod TriggersHave
 pub mod RenamedTriggers
 pub mod SameAfterTriggers

@@ -3,7 +3,7 @@ use Rattle.std.specs.Prelude.{IsTrue}
 use Rattle.std.proofs.lemmas.List.Elements.{recursion_from_All}
 use Rattle.logic_laws.specs.RenamingLaws.{Covers}
 use Rattle.rebuild_laws.specs.CanonicalForms.{RenamedHaveOneForm, RenamedHaveOneFormWithTriggers}
-use Rattle.rebuild_laws.proofs.SameCanonical.{same_canonical}
+use Rattle.obligation_text.proofs.SameCanonical.{same_canonical}
 use Rattle.rebuild_laws.proofs.SameAfterTriggers.{same_after_triggers}
 
 pub one_form : RenamedHaveOneForm

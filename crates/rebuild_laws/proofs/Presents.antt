@@ -14,7 +14,7 @@ use Rattle.passive_form.specs.Passive.{formula_in, formulas}
 use Rattle.passive_form.specs.declared.made.Made.{Made}
 use Rattle.passive_form.specs.Incarnations.{incarnation, read, anew, also, assigned, havocked, perform, perform_all}
 use Rattle.rebuild_laws.proofs.Commands.{AlikeCommand, asserted, assumed_so, set_all, any_values, AlikeCommands, no_more, one_more}
-use Rattle.rebuild_laws.proofs.RenamedTerms.{renamed_twice, renamed_has}
+use Rattle.obligation_text.proofs.RenamedTerms.{renamed_twice, renamed_has}
 use Rattle.rebuild_laws.specs.Alike.{Sets}
 
 -- over the sorts of the variables here and there, the new number of each variable and definition, and those that are renamed

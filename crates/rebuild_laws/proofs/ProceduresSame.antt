@@ -26,7 +26,7 @@ use Rattle.passive_form.specs.Incarnations.{incarnation, first_incarnation, firs
 use Rattle.vc_build.specs.declared.goal.Goal.{Goal}
 use Rattle.vc_build.specs.Depends.{reached_axioms}
 use Rattle.vc_build.specs.Goals.{sequent_at, passive_graph, goals_by_passes}
-use Rattle.rebuild_laws.proofs.RenamedTerms.{each_more}
+use Rattle.obligation_text.proofs.RenamedTerms.{each_more}
 use Rattle.rebuild_laws.proofs.SameAfterTriggers.{one_var, RenamesIn}
 use Rattle.rebuild_laws.proofs.Commands.{AlikeCommands}
 use Rattle.rebuild_laws.proofs.CutsAlike.{no_head, AlikeBlock, AlikeBlocks, no_blocks, one_block, graphs_cut_alike}

@@ -14,7 +14,7 @@ use Rattle.logic_core.proofs.SameTerm.{same_is_equal, same_as_itself}
 use Rattle.logic_laws.proofs.RenamedVariables.{renames_nothing}
 use Rattle.trigger_choice.specs.Candidates.{is_simple, is_built, bound_number, bound_numbers, touches, covers, is_plain, joined, once, is_read_or_call, is_candidate, candidates}
 use Rattle.trigger_choice.specs.Choice.{smaller, least, any_new, adds, cover, pick, as_trigger, triggers, with_triggers, each_with_triggers, parts_with_triggers}
-use Rattle.rebuild_laws.proofs.RenamedTerms.{renamed_twice}
+use Rattle.obligation_text.proofs.RenamedTerms.{renamed_twice}
 use Rattle.rebuild_laws.proofs.TriggersHave.{outside_has, filtered_has, joined_has}
 
 two_trees : (f : Tree → Tree) (xs ys ns ms : List Tree) → xs ≡ map f ns → ys ≡ map f ms → xs ++ ys ≡ map f (ns ++ ms)

@@ -9,10 +9,10 @@ use Rattle.logic_core.specs.Renamed.{both_renamed, EachHas}
 use Rattle.obligation_text.specs.Canonical.{canonical}
 use Rattle.trigger_choice.specs.Candidates.{is_plain}
 use Rattle.trigger_choice.specs.Choice.{with_triggers, def_with_triggers, obligation_with_triggers}
-use Rattle.rebuild_laws.proofs.RenamedTerms.{each_more}
+use Rattle.obligation_text.proofs.RenamedTerms.{each_more}
 use Rattle.rebuild_laws.proofs.TriggersHave.{with_triggers_has}
 use Rattle.rebuild_laws.proofs.RenamedTriggers.{with_triggers_renamed}
-use Rattle.rebuild_laws.proofs.SameCanonical.{Renames, same_canonical}
+use Rattle.obligation_text.proofs.SameCanonical.{Renames, same_canonical}
 
 module _ (new_def new_var old_def old_var : ℕ → ℕ) (D V : ℕ → Type 0) (back_def : (f : ℕ) → D f → old_def (new_def f) ≡ f) (back_var : (v : ℕ) → V v → old_var (new_var v) ≡ v) where
   pub one_def : (f g : ℕ) → D f → D g → new_def f ≡ new_def g → f ≡ g

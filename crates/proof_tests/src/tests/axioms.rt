@@ -18,7 +18,7 @@ fn one(alloc: Global) -> Result<Term, AllocError> {
     Ok(Term::new(Node::Exists(integer(alloc)?, Vec::new(alloc), Box::new(alloc, body)?)))
 }
 
-/// Number 0 is false, and the others in order: p and q; every; one; y = x + 1; y <= x; a call is 0;
+/// Number 0 is false, and the others in order: p and q; every; one; x + 1 = y; y <= x; a call is 0;
 /// reads of m written at x and at y are 0; m and n aren't equal; p or q; a choice is 0.
 pub fn axioms(alloc: Global) -> Result<Vec<Term>, AllocError> {
     let mut axioms = Vec::new(alloc);
@@ -26,7 +26,7 @@ pub fn axioms(alloc: Global) -> Result<Vec<Term>, AllocError> {
     axioms.push(Term::new(Node::And(formulas(alloc)?)))?;
     axioms.push(every(alloc)?)?;
     axioms.push(one(alloc)?)?;
-    axioms.push(equal(alloc, variable(Y), next(alloc)?)?)?;
+    axioms.push(equal(alloc, next(alloc)?, variable(Y))?)?;
     axioms.push(at_most(alloc, variable(Y), variable(X))?)?;
     axioms.push(equal(alloc, call(alloc)?, number(0))?)?;
     axioms.push(equal(alloc, read_past(alloc, variable(X))?, number(0))?)?;

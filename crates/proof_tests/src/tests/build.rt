@@ -1,16 +1,17 @@
-// Terms for tests, over two integers, two formulas and two maps.
+// Terms for tests, over two formulas, a map, two integers and a map: in the order in which the axioms
+// mention them.
 use logic_core::{Node, Sort, Term};
 use std::alloc::{AllocError, Global};
 
-pub const X: u64 = 0;
+pub const P: u64 = 0;
 
-pub const Y: u64 = 1;
+pub const Q: u64 = 1;
 
-pub const P: u64 = 2;
+pub const M: u64 = 2;
 
-pub const Q: u64 = 3;
+pub const X: u64 = 3;
 
-pub const M: u64 = 4;
+pub const Y: u64 = 4;
 
 pub const N: u64 = 5;
 

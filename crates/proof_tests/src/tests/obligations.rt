@@ -28,14 +28,14 @@ fn maps(alloc: Global) -> Result<Sort, AllocError> {
     })
 }
 
-/// Two integers, two formulas, two maps, and the identity.
+/// Two formulas, a map, two integers, a map, and the identity.
 pub fn signature(alloc: Global) -> Result<Signature, AllocError> {
     let sorts = [
-        Sort::int(),
-        Sort::int(),
         Sort::boolean(),
         Sort::boolean(),
         maps(alloc)?,
+        Sort::int(),
+        Sort::int(),
         maps(alloc)?,
     ];
     let vars = Sequence::of(Vec::from_array(alloc, sorts)?);
@@ -68,7 +68,8 @@ fn checked(
     Ok(Some(found))
 }
 
-/// The goal p from the axioms; None where one of these is no formula.
+/// The goal p from the axioms; None where one of these is no formula. The axioms mention the variables
+/// in order, so each keeps its number.
 pub fn obligation(alloc: Global) -> Result<Option<Obligation>, AllocError> {
     let sig = signature(alloc)?;
     let goal = variable(P);
@@ -78,5 +79,5 @@ pub fn obligation(alloc: Global) -> Result<Option<Obligation>, AllocError> {
     if !is_formula(alloc, &sig, &goal)? {
         return Ok(None);
     }
-    Ok(Some(Obligation::new(sig, axioms, goal)))
+    Ok(Some(Obligation::numbered(alloc, &sig, axioms.as_slice(), &goal)?))
 }

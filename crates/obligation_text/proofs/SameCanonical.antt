@@ -11,20 +11,9 @@ use Rattle.logic_core.specs.Renamed.{both_renamed, def_renamed, EachHas}
 use Rattle.logic_core.specs.Variables.{variables, calls, joined, first_occurrences, place_in}
 use Rattle.obligation_text.specs.Numbering.{body, visited, definition_order, numbered_terms, variable_order}
 use Rattle.obligation_text.specs.Canonical.{picked, renumbered, canonical}
-use Rattle.rebuild_laws.proofs.RenamedTerms.{renamed_calls, each_renamed_calls, each_renamed_variables, renamed_twice}
-use Rattle.obligation_text.proofs.Lists.{variables_have, calls_have}
-
-every_both : {A : Type 0} (P : A → Type 0) (xs ys : List A) → AllByRecursion P xs → AllByRecursion P ys → AllByRecursion P (xs ++ ys)
-every_both P [] ys h k = k
-every_both P (x ∷ xs) ys h k = (h.0, every_both P xs ys h.1 k)
-
-every_map : {A : Type 0} (P Q : A → Type 0) → ((x : A) → P x → Q x) → (xs : List A) → AllByRecursion P xs → AllByRecursion Q xs
-every_map P Q f [] h = tt
-every_map P Q f (x ∷ xs) h = (f x h.0, every_map P Q f xs h.1)
-
-every_flat : (P : ℕ → Type 0) (f : Tree → List ℕ) (ts : List Tree) → AllByRecursion (λ t. AllByRecursion P (f t)) ts → AllByRecursion P (flat_map f ts)
-every_flat P f [] h = tt
-every_flat P f (t ∷ ts) h = every_both P (f t) (flat_map f ts) h.0 (every_flat P f ts h.1)
+use Rattle.obligation_text.proofs.RenamedTerms.{renamed_calls, each_renamed_calls, each_renamed_variables, renamed_twice}
+use Rattle.obligation_text.proofs.Lists.{every_append, variables_have, calls_have}
+use Rattle.obligation_text.proofs.Walk.{every_map, flat_from}
 
 none_there : (xs : List ℕ) → AllByRecursion (λ n. ⊥) xs → xs ≡ []
 none_there [] h = refl
@@ -64,7 +53,7 @@ module _ (new : ℕ → ℕ) (P : ℕ → Type 0) (one : (m n : ℕ) → P m →
     where
       by : (b : Bool) → AllByRecursion P (if b then ns else ns ++ n ∷ [])
       by true = k
-      by false = every_both P ns (n ∷ []) k (h, tt)
+      by false = every_append P ns (n ∷ []) k (h, tt)
 
   -- in the order of their first occurrences
   first_same : (before ns : List ℕ) → AllByRecursion P before → AllByRecursion P ns → fold joined (map new before) (map new ns) ≡ map new (fold joined before ns)
@@ -168,11 +157,11 @@ module _ (new_def new_var : ℕ → ℕ) (D V : ℕ → Type 0)
     below_new : (f : ℕ) → D f → new_def f ≤ length p.defs
     below_new f h = let r = defs f h in let k = slice_get_within p.defs (new_def f) (def_renamed new_def new_var r.definition) r.new in omega (k, arith)
 
-    order_alike : Alike (definition_order o) (definition_order p)
+    pub order_alike : Alike (definition_order o) (definition_order p)
     order_alike =
         let gs = flat_map calls (o.goal ∷ o.axioms) in
         let same : flat_map calls (p.goal ∷ p.axioms) ≡ map new_def gs = (λ i. flat_map calls (goal i ∷ axioms i)) ∙ each_renamed_calls new_def new_var (o.goal ∷ o.axioms) in
-        let each : AllByRecursion D gs = every_flat D calls (o.goal ∷ o.axioms) (calls_have V D o.goal goal_covered, every_map (EachHas V D) (λ t. AllByRecursion D (calls t)) (calls_have V D) o.axioms axioms_covered) in
+        let each : AllByRecursion D gs = flat_from D calls (o.goal ∷ o.axioms) (calls_have V D o.goal goal_covered, every_map (EachHas V D) (λ t. AllByRecursion D (calls t)) (calls_have V D) o.axioms axioms_covered) in
         subst (λ ns. Alike (definition_order o) (fold (visited p.defs (length p.defs)) [] ns)) (sym same)
         (folds o.defs p.defs defs (visited o.defs (length o.defs)) (visited p.defs (length p.defs)) D
         (λ f h ns ms b. visits o.defs p.defs defs (length o.defs) (length p.defs) f h (below_old f h) (below_new f h) ns ms b) gs each [] [] (record { same = refl; each = tt }))
@@ -204,12 +193,12 @@ module _ (new_def new_var : ℕ → ℕ) (D V : ℕ → Type 0)
 
     terms_variables : (fs : List ℕ) → AllByRecursion D fs → AllByRecursion V (flat_map variables (numbered_terms o fs))
     terms_variables fs h =
-        every_flat V variables (numbered_terms o fs)
-        (every_both (λ t. AllByRecursion V (variables t)) (map (body o.defs) fs ++ o.axioms) (o.goal ∷ [])
-        (every_both (λ t. AllByRecursion V (variables t)) (map (body o.defs) fs) o.axioms (bodies_variables fs h) (every_map (EachHas V D) (λ t. AllByRecursion V (variables t)) (variables_have V D) o.axioms axioms_covered))
+        flat_from V variables (numbered_terms o fs)
+        (every_append (λ t. AllByRecursion V (variables t)) (map (body o.defs) fs ++ o.axioms) (o.goal ∷ [])
+        (every_append (λ t. AllByRecursion V (variables t)) (map (body o.defs) fs) o.axioms (bodies_variables fs h) (every_map (EachHas V D) (λ t. AllByRecursion V (variables t)) (variables_have V D) o.axioms axioms_covered))
         (variables_have V D o.goal goal_covered, tt))
 
-    variables_same : (fs : List ℕ) → AllByRecursion D fs → variable_order p (map new_def fs) ≡ map new_var (variable_order o fs)
+    pub variables_same : (fs : List ℕ) → AllByRecursion D fs → variable_order p (map new_def fs) ≡ map new_var (variable_order o fs)
     variables_same fs h =
         ap (first_occurrences []) (ap (flat_map variables) (terms_same fs h) ∙ each_renamed_variables new_def new_var (numbered_terms o fs))
         ∙ first_same new_var V one_var [] (flat_map variables (numbered_terms o fs)) tt (terms_variables fs h)
