@@ -126,11 +126,15 @@ impl State {
     {
         let State { levels, cursor, .. } = self;
         if !levels.is_empty() {
+            drop(cursor);
             return None;
         }
         match cursor {
             Cursor::Ended(proof) => Some(proof),
-            _ => None,
+            other => {
+                drop(other);
+                None
+            }
         }
     }
 }

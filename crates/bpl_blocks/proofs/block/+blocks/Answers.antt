@@ -1,4 +1,4 @@
-use Rattle.std.proofs.Common.{◌≡◌, refl, ◌∙◌, ◌+◌, ◌++◌, [], ◌∷◌, ap, sym, subst, arith, drop}
+use Rattle.std.proofs.Common.{◌≡◌, refl, ◌∙◌, ◌+◌, ◌++◌, true, [], ◌∷◌, ap, sym, subst, arith, drop}
 use Rattle.std.specs.Prelude.{OnOk, Some}
 use Rattle.std.proofs.lemmas.List.{drop_all}
 use Rattle.bpl_model.specs.Nodes.{stmts_nodes}
