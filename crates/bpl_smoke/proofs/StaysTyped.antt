@@ -52,10 +52,10 @@ module _ (m : Module) (ps : List Proc) (like : HaveLike m.procs ps) (p : Proc) w
   moved_body None h = h
   moved_body (Some ss) h = moved_list ss false [] h
 
-  moved_proc : IsTypedProc m p → IsTypedProc n p
+  pub moved_proc : IsTypedProc m p → IsTypedProc n p
   moved_proc h = record { specs = h.specs; in_clauses = h.in_clauses; out_clauses = h.out_clauses; local_clauses = h.local_clauses; body = moved_body p.body h.body; none_own = h.none_own }
 
-moved_procs : (m : Module) (ps : List Proc) → HaveLike m.procs ps → (qs : List Proc) → AllByRecursion (IsTypedProc m) qs → AllByRecursion (IsTypedProc (record m { procs = ps })) qs
+pub moved_procs : (m : Module) (ps : List Proc) → HaveLike m.procs ps → (qs : List Proc) → AllByRecursion (IsTypedProc m) qs → AllByRecursion (IsTypedProc (record m { procs = ps })) qs
 moved_procs m ps like [] h = tt
 moved_procs m ps like (q ∷ qs) h = (moved_proc m ps like q h.0, moved_procs m ps like qs h.1)
 

@@ -18,3 +18,4 @@ pub mod laws;
 pub use module::with_point;
 pub use point::{Point, PointKind};
 pub use proc_points::points;
+pub use put::proc_with_point;

@@ -3,3 +3,7 @@ mod Unreached
 mod Shown
 mod Named
 mod NoGotos
+mod Called
+mod OverOthers
+mod PointedGoals
+mod Batches

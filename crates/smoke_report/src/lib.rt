@@ -6,6 +6,9 @@
 // The points of a program.
 pub mod program_point;
 
+// Points put into their procedures, many at once.
+mod pointed;
+
 // What the search says of a point.
 mod search;
 

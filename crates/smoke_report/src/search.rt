@@ -1,21 +1,25 @@
 // What the search says of a point.
-ghost use Rattle.std.specs.Prelude.{◌≡◌, None, IfErr, IfOk};
+ghost use Rattle.std.specs.Prelude.{◌≡◌, Contains, None, Some, IfErr, IfOk, option_map, slice_get};
 ghost use Rattle.std.specs.List.{list_all};
+ghost use Rattle.bpl_model.specs.Module.{Proc as procedure};
+ghost use Rattle.bpl_model.specs.NoGoto.{BodyHasNoGoto};
 ghost use Rattle.bpl_goto.specs.Forward.{AllGoForward};
+ghost use Rattle.vc_build.specs.Goals.{goals_at, goals_by_passes};
 ghost use Rattle.vc_build.specs.Large.{large};
 ghost use Rattle.vc_build.specs.Exceeds.{IsFaultOf};
+ghost use Rattle.smoke_report.specs.Pointed.{AreOf, with_points};
 ghost use Rattle.smoke_report.specs.Smoke.{is_point, is_mark_of, is_shown, is_shown_or_another, point_goals, is_unreachable};
 
 use crate::program_point::ProgramPoint;
-use bpl_goto::remove_gotos;
-use bpl_model::{GoalKind, Mark, Module};
-use bpl_smoke::laws::with_point_goes_forward;
-use bpl_smoke::with_point;
+use bpl_model::number::sum;
+use bpl_model::{GoalKind, Links, Mark, Module, Parts, Proc};
 use clause_search::search::answer;
 use logic_core::Sequence;
 use report_text::is_proof;
 use std::alloc::{AllocError, Global};
-use vc_build::{BuildFault, Goal, build};
+use vc_build::procedure::add_goals;
+use vc_build::tally::Tally;
+use vc_build::{BuildFault, Goal};
 
 // Whether it is the kind of the point of this number.
 fn is_point(number: u64, kind: GoalKind) -> bool
@@ -75,37 +79,83 @@ fn are_shown(
     Ok(true)
 }
 
-// The goals of the point's procedure with the point put in.
+// The goals of the procedure, within the limits.
+fn goals_over(alloc: Global, links: &Links<'_>, proc: &Proc) -> Result<Sequence<Goal>, BuildFault>
+    requires there { Contains links.now.procs proc.now }
+    requires no_goto { BodyHasNoGoto proc.now.body }
+    ensures goals { IfOk result (λ gs. gs ≡ goals_by_passes links.now proc.now) }
+    ensures within { IfOk result (λ gs. large gs ≡ None) }
+    ensures fault { IfErr result (IsFaultOf (goals_by_passes links.now proc.now)) }
+{
+    let mut tally = Tally::new(alloc);
+    add_goals(alloc, &mut tally, links, proc)?;
+    Ok(tally.into_goals())
+}
+
+// The procedure of this number, if there is one.
+fn procedure_at(parts: &Parts, p: usize) -> Option<&Proc>
+    ensures { option_map (λ q. q.now) result ≡ slice_get parts.now.procs p }
+{
+    parts.procs.get(p)
+}
+
+// The goals of the procedure of this number, in which no `goto` stands.
+fn goals_at(alloc: Global, links: &Links<'_>, p: usize) -> Result<Sequence<Goal>, BuildFault>
+    requires { (q : procedure) → slice_get links.now.procs p ≡ Some q → BodyHasNoGoto q.body }
+    ensures goals { IfOk result (λ gs. gs ≡ goals_at links.now p) }
+    ensures within { IfOk result (λ gs. large gs ≡ None) }
+    ensures fault { IfErr result (IsFaultOf (goals_at links.now p)) }
+{
+    match procedure_at(links.parts(), p) {
+        Some(proc) => goals_over(alloc, links, proc),
+        None => Ok(Sequence::new(alloc)),
+    }
+}
+
+// The goals of a point's procedure with the point put in: the procedure stands behind those of the
+// module, at the point's place among these points.
 fn point_goals(
     alloc: Global,
     module: &Module,
+    points: &[ProgramPoint],
+    links: &Links<'_>,
+    at: usize,
     point: &ProgramPoint,
 ) -> Result<Sequence<Goal>, BuildFault>
-    requires { AllGoForward «module».now }
+    requires forward { AllGoForward «module».now }
+    requires of { AreOf «module».now.procs points.now }
+    requires links { links.now ≡ with_points «module».now points.now }
+    requires there { slice_get points.now at ≡ Some point.now }
     ensures goals { IfOk result (λ gs. gs ≡ point_goals «module».now point.now) }
     ensures within { IfOk result (λ gs. large gs ≡ None) }
     ensures fault { IfErr result (IsFaultOf (point_goals «module».now point.now)) }
 {
-    with_point_goes_forward();
-    let changed = with_point(alloc, module, point.proc, point.number)?;
-    let plain = remove_gotos(alloc, &changed)?;
-    build(alloc, &plain, point.proc)
+    let own = module.parts().procs.len();
+    let p = sum(own as u64, at as u64)?;
+    goals_at(alloc, links, p as usize)
 }
 
 /// Whether the search shows, in so many turns, that no execution reaches the point: it finds a proof of
 /// the goal with the point's mark, where the point is put into its procedure. Where that procedure then
-/// has too many goals, or too long ones, the fault says so.
+/// has too many goals, or too long ones, the fault says so. The point stands at this place among points
+/// whose procedures stand behind those of the module.
 pub fn is_unreachable(
     alloc: Global,
     module: &Module,
+    points: &[ProgramPoint],
+    links: &Links<'_>,
+    at: usize,
     point: &ProgramPoint,
     turns: u64,
 ) -> Result<bool, BuildFault>
-    requires { AllGoForward «module».now }
+    requires forward { AllGoForward «module».now }
+    requires of { AreOf «module».now.procs points.now }
+    requires links { links.now ≡ with_points «module».now points.now }
+    requires there { slice_get points.now at ≡ Some point.now }
     ensures shown { IfOk result (λ u. u ≡ is_unreachable turns «module».now point.now) }
     ensures within { IfOk result (λ u. large (point_goals «module».now point.now) ≡ None) }
     ensures fault { IfErr result (IsFaultOf (point_goals «module».now point.now)) }
 {
-    let goals = point_goals(alloc, module, point)?;
+    let goals = point_goals(alloc, module, points, links, at, point)?;
     Ok(are_shown(alloc, point, goals.as_slice(), turns)?)
 }
