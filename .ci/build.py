@@ -60,6 +60,7 @@ def copy_crate(name, to):
         root.write_text(TESTS.sub("", text).replace("\n\n\n", "\n\n").rstrip() + "\n", encoding="utf-8")
         for tests in TESTS.findall(text):
             root.with_name(tests + ".rt").unlink()
+            shutil.rmtree(os.path.join(to, "proofs", tests), ignore_errors=True)
 
 
 class Build:
