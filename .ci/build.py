@@ -1,7 +1,7 @@
 """Proves and builds bplserve with the Rattle kit's command `rt`, which must be on the PATH.
 
 Crates are proved beside each other, each by an `rt ci CRATE` of its own, over a copy of the sources without what that
-would prove besides, wrong bodies and tests. The kit keeps what is proved, so a build that was stopped goes on.
+would prove besides, wrong bodies and crates of tests. The kit keeps what is proved, so a build that was stopped goes on.
 """
 import glob
 import os
@@ -23,7 +23,6 @@ USUAL_COST = "0.6", "1500"  # processor minutes and megabytes of a crate that be
 MEMORY, MEMORY_EACH = 8000, 2000  # megabytes for all proofs, or for each processor where that is more
 LONG = 3  # a proof of so many minutes gets several processors where all else would wait for it
 DISK = 12000  # megabytes of free disk, below which the kit may not keep all
-TESTS = re.compile(r"#\[cfg\(test\)\]\nmod (\w+);\n")
 
 
 def tell(line):
@@ -53,14 +52,8 @@ def below(name, stands_on, order):
 
 
 def copy_crate(name, to):
-    """Copies a crate without its wrong bodies, its tests and what was built of it."""
+    """Copies a crate without its wrong bodies and what was built of it."""
     shutil.copytree(os.path.join(TOP, "crates", name), to, ignore=shutil.ignore_patterns("out", "must-fail"))
-    for root in Path(to, "src").glob("lib.rt"):
-        text = root.read_text(encoding="utf-8")
-        root.write_text(TESTS.sub("", text).replace("\n\n\n", "\n\n").rstrip() + "\n", encoding="utf-8")
-        for tests in TESTS.findall(text):
-            root.with_name(tests + ".rt").unlink()
-            shutil.rmtree(os.path.join(to, "proofs", tests), ignore_errors=True)
 
 
 class Build:

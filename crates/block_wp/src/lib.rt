@@ -12,8 +12,6 @@ mod formulas;
 mod goal;
 mod reached;
 mod successors;
-#[cfg(test)]
-mod tests;
 
 // What the equations keep.
 pub mod laws;

@@ -14,8 +14,6 @@ mod options;
 // The words.
 mod command_line;
 pub mod reading;
-#[cfg(test)]
-mod tests;
 
 pub use command::{Command, Mode};
 pub use fault::Usage;

@@ -24,15 +24,7 @@ mod command;
 mod writing;
 
 // That an input has one answer.
-#[cfg(test)]
-mod beside;
 pub mod laws;
-#[cfg(test)]
-mod searches;
-#[cfg(test)]
-mod sessions;
-#[cfg(test)]
-mod tests;
 
 pub use command::{run, run_alone};
 pub use command_words::{Command, Mode, Usage, read_words};

@@ -22,8 +22,6 @@ mod heads;
 mod loops;
 mod plain;
 mod reading;
-#[cfg(test)]
-mod tests;
 
 pub use block::{Block, Invariant, LoopHead};
 pub use command::Command;

@@ -16,6 +16,3 @@ mod waits;
 
 pub use posted::Posted;
 pub use shared::{Pass, Receipt, SharedBoard};
-
-#[cfg(test)]
-mod tests;

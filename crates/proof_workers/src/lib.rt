@@ -13,6 +13,3 @@ pub use gate::{Gate, OpenGate};
 pub use prover::Prover;
 pub use round::work_once;
 pub use worker::{Ended, Worked, work};
-
-#[cfg(test)]
-mod tests;

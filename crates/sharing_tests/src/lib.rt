@@ -1,5 +1,5 @@
-//! Tests of boards, of workers and of sessions over lines, in a crate of their own, so that the crates
-//! that they test are proved once.
+//! Tests of reads and lines, of the lock, of caches, boards and workers, and of sessions over lines, in a crate of their
+//! own, so that the crates that they test are proved once.
 #![tactic(auto)]
 
 #[cfg(test)]

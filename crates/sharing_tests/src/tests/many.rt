@@ -158,8 +158,12 @@ fn by_four<R: Threads + Wait + Sync>(
     first.wrapping_add(second)
 }
 
-// Waits until every goal has an answer, and closes the board: how many have one.
-fn close_when_done<R: Wait>(rt: &R, board: &SharedBoard<Settled>, mut opener: Pass<Settled>) -> u64
+/// Waits until every goal has an answer, and closes the board: how many have one.
+pub fn close_when_done<R: Wait>(
+    rt: &R,
+    board: &SharedBoard<Settled>,
+    mut opener: Pass<Settled>,
+) -> u64
     requires { IsPassOf board.now opener × (number opener ≡ 0) }
 {
     for _ in rt.forever() {

@@ -1,46 +1,11 @@
-//! A cache by example.
-ghost use Rattle.std.specs.Prelude.{⊤};
-ghost use Rattle.std.specs.Arc.{arc_value};
-
-use crate::Cache;
+// A cache by example.
+use super::questions::{Asked, Settled};
 use bv_base::{Answered, Question};
+use proof_cache::Cache;
 use std::alloc::Global;
 use std::process::Abort;
 use std::sync::Arc;
 use std::test::Fail;
-
-/// A question that is its key.
-#[derive(Drop)]
-struct Asked {
-    key: Vec<u8>,
-}
-
-impl Question for Asked {
-    ghost key = { λ q. q.key.items };
-
-    fn key(&self) -> &[u8] {
-        &self.key
-    }
-}
-
-/// A question, and whether it was proved.
-#[derive(Drop)]
-struct Settled {
-    question: Arc<Asked, Global>,
-    proved: bool,
-}
-
-impl Answered for Settled {
-    type Q = Asked;
-
-    ghost asked = { λ s. arc_value s.question };
-
-    ghost right = { λ _. ⊤ };
-
-    fn question(&self) -> &Arc<Asked, Global> {
-        &self.question
-    }
-}
 
 fn found(cache: &Cache<Settled>, key: &[u8]) -> Option<bool> {
     match cache.find(key) {

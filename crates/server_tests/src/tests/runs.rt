@@ -1,8 +1,8 @@
 // Whole runs over input and output in memory; what is expected is written by hand from the rules.
 ghost use Rattle.std.specs.Prelude.{◌<◌, ◌≤◌};
 
-use crate::{Status, run};
 use bv_base::{MemSink, MemSource, SureSource};
+use edit_server::{Status, run};
 use proof_workers::OpenGate;
 use std::alloc::{AllocError, Global};
 use std::sync::Wait;
@@ -10,7 +10,7 @@ use std::test::Fail;
 use std::thread::Threads;
 
 /// These words, as a list.
-fn words_of(alloc: Global, texts: &[&str]) -> Result<Vec<String>, AllocError> {
+pub fn words_of(alloc: Global, texts: &[&str]) -> Result<Vec<String>, AllocError> {
     let mut words = Vec::new(alloc);
     for text in texts {
         words.push(String::from_str(alloc, *text)?)?;
@@ -207,7 +207,7 @@ fn an_input_may_have_16_777_216_bytes(rt: HostRuntime) -> Result<(), Fail> {
 }
 
 /// The one call that fails.
-fn failing(alloc: Global, number: u64) -> Result<Vec<u64>, AllocError> {
+pub fn failing(alloc: Global, number: u64) -> Result<Vec<u64>, AllocError> {
     let mut fails = Vec::new(alloc);
     fails.push(number)?;
     Ok(fails)

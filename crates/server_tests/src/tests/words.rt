@@ -1,15 +1,7 @@
 // Words that are read where memory is ample, and words that are none.
-use crate::{Command, Mode, Usage, read_words};
-use std::alloc::{AllocError, Global};
+use super::runs::words_of;
+use edit_server::{Command, Mode, Usage, read_words};
 use std::test::Fail;
-
-fn words_of(alloc: Global, texts: &[&str]) -> Result<Vec<String>, AllocError> {
-    let mut words = Vec::new(alloc);
-    for text in texts {
-        words.push(String::from_str(alloc, *text)?)?;
-    }
-    Ok(words)
-}
 
 #[test]
 fn words_are_read(rt: HostRuntime) -> Result<(), Fail> {

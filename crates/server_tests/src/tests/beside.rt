@@ -1,6 +1,7 @@
 // Commands beside workers; what is expected is written by hand from the rules.
-use crate::{Status, run};
+use super::runs::words_of;
 use bv_base::{MemSink, MemSource};
+use edit_server::{Status, run};
 use proof_workers::{Gate, OpenGate};
 use std::alloc::AllocError;
 use std::sync::Wait;
@@ -16,10 +17,7 @@ fn writes<R: AllocGlobal + Threads + Wait + Sync, G: Gate + Sync>(
     input: &str,
     output: &str,
 ) -> Result<bool, AllocError> {
-    let mut list = Vec::new(rt.alloc());
-    for word in words {
-        list.push(String::from_str(rt.alloc(), *word)?)?;
-    }
+    let list = words_of(rt.alloc(), words)?;
     let bytes = Vec::from_slice(rt.alloc(), input.as_bytes())?;
     let mut source = MemSource::new(bytes, 64, Vec::new(rt.alloc()));
     let mut sink = MemSink::new(rt.alloc(), 64, Vec::new(rt.alloc()));

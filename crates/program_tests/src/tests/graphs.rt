@@ -1,8 +1,8 @@
-//! Copies, and whether graphs are plain whose edges alone decide.
+// Copies, and whether graphs are plain whose edges alone decide.
 ghost use Rattle.std.specs.Prelude.{◌≡◌, []};
 
-use crate::{Block, Command, GoalKind, Graph, LoopHead, Mark};
 use bv_base::place::Place;
+use flow_core::{Block, Command, GoalKind, Graph, LoopHead, Mark};
 use logic_core::{Node, Sequence, Term};
 use std::alloc::{AllocError, Global};
 use std::test::Fail;

@@ -1,79 +1,25 @@
-ghost use Rattle.std.specs.Prelude.{◌≡◌, List, [], map, IfOk};
-ghost use Rattle.std.specs.Arc.{arc_value};
+// A board that is shared, call by call: the place of each call, and a claim that outlives two opens.
+ghost use Rattle.std.specs.Prelude.{◌≡◌};
 ghost use Rattle.turn_lock.specs.Lock.{number};
 ghost use Rattle.board_core.specs.Handed.{ticket};
 ghost use Rattle.obligation_board.specs.Calls.{Holds, claims_of};
 ghost use Rattle.obligation_board.specs.Passes.{IsPassOf, StaysPassOf};
 
-use crate::{Pass, Receipt, SharedBoard};
-use board_core::{Claim, Claimed, Opened, Snapshot};
-use bv_base::{Answered, Question};
-use std::alloc::{AllocError, Global};
+use super::questions::{Asked, Settled, answer, questions};
+use board_core::{Claim, Claimed, Snapshot};
+use obligation_board::{Pass, Receipt, SharedBoard};
+use std::alloc::Global;
 use std::process::Abort;
 use std::sync::{Arc, Wait};
 use std::test::Fail;
 
-/// A question that is one number.
-#[derive(Drop)]
-struct Asked {
-    key: [u8; 1],
-}
-
-impl Question for Asked {
-    ghost key = { λ q. q.key };
-
-    fn key(&self) -> &[u8] {
-        &self.key
-    }
-}
-
-/// Whether it was proved.
-#[derive(Drop)]
-struct Verdict {
-    asked: Arc<Asked, Global>,
-    proved: bool,
-}
-
-impl Answered for Verdict {
-    type Q = Asked;
-
-    ghost asked = { λ v. arc_value v.asked };
-
-    ghost right = { λ _. Unit {0} };
-
-    fn question(&self) -> &Arc<Asked, Global> {
-        &self.asked
-    }
-}
-
-type Board = SharedBoard<Verdict>;
-
-fn question_of(alloc: Global, key: u8) -> Result<Arc<Asked, Global>, AllocError> {
-    match Arc::new(alloc, Asked { key: [key] }) {
-        Ok(asked) => Ok(asked),
-        Err(_) => Err(AllocError),
-    }
-}
-
-fn answer_to(
-    alloc: Global,
-    asked: &Arc<Asked, Global>,
-    proved: bool,
-) -> Result<Arc<Verdict, Global>, AllocError>
-    ensures { IfOk result (λ v. arc_value (arc_value v).asked ≡ arc_value asked.now) }
-{
-    let asked = asked.clone()?;
-    match Arc::new(alloc, Verdict { asked, proved }) {
-        Ok(verdict) => Ok(verdict),
-        Err(_) => Err(AllocError),
-    }
-}
+type Board = SharedBoard<Settled>;
 
 // Opens the questions, and returns the place, the version and how many have an answer.
 fn open<R: Wait + Abort>(
     rt: &R,
     board: &Board,
-    opener: &mut Pass<Verdict>,
+    opener: &mut Pass<Settled>,
     items: Vec<Arc<Asked, Global>>,
 ) -> (u64, u64, u64)
     requires own { IsPassOf board.now opener.old }
@@ -88,11 +34,11 @@ fn open<R: Wait + Abort>(
 fn claimed<R: Wait + Abort>(
     rt: &R,
     board: &Board,
-    pass: &mut Pass<Verdict>,
-) -> (u64, Claim<Verdict>)
+    pass: &mut Pass<Settled>,
+) -> (u64, Claim<Settled>)
     requires { IsPassOf board.now pass.old }
     ensures pass { StaysPassOf board.now pass.old pass.new }
-    ensures held { Holds pass.new (ticket (λ q. q.key) result.1) }
+    ensures held { Holds pass.new (ticket (λ q. q.key.items) result.1) }
 {
     let Receipt { place, reply } = board.claim(rt, pass).expect(rt, "there is memory");
     match reply {
@@ -103,7 +49,7 @@ fn claimed<R: Wait + Abort>(
 }
 
 // Asks for work where there is none, and says whether the board is closed.
-fn is_closed<R: Wait + Abort>(rt: &R, board: &Board, pass: &mut Pass<Verdict>) -> bool
+fn is_closed<R: Wait + Abort>(rt: &R, board: &Board, pass: &mut Pass<Settled>) -> bool
     requires { IsPassOf board.now pass.old }
     ensures { StaysPassOf board.now pass.old pass.new × (claims_of pass.new ≡ claims_of pass.old) }
 {
@@ -120,16 +66,13 @@ fn is_closed<R: Wait + Abort>(rt: &R, board: &Board, pass: &mut Pass<Verdict>) -
 #[test]
 fn a_claim_outlives_two_opens(rt: HostRuntime) -> Result<(), Fail> {
     let alloc = rt.alloc();
-    let (board, mut pass) = SharedBoard::<Verdict>::new(alloc)?;
-    let one = question_of(alloc, 1)?;
-    let again = vec![in alloc; one.clone()?]?;
-    let other = vec![in alloc; question_of(alloc, 2)?]?;
-    assert_eq!(rt;
-        open(&rt, &board, &mut pass, vec![in alloc; one]?),
-        (0, 1, 0)
-    );
+    let (board, mut pass) = SharedBoard::<Settled>::new(alloc)?;
+    let one = questions(alloc, &[1], 1)?;
+    let other = questions(alloc, &[2], 1)?;
+    let again = questions(alloc, &[1], 1)?;
+    assert_eq!(rt; open(&rt, &board, &mut pass, one), (0, 1, 0));
     let (_place, claim) = claimed(&rt, &board, &mut pass);
-    let answer = answer_to(alloc, claim.question(), true).expect(&rt, "there is memory");
+    let answer = answer(alloc, claim.question(), true).expect(&rt, "there is memory");
     assert_eq!(rt; open(&rt, &board, &mut pass, other), (2, 2, 0));
     assert_eq!(rt; open(&rt, &board, &mut pass, again), (3, 3, 0));
     assert!(rt; !is_closed(&rt, &board, &mut pass));

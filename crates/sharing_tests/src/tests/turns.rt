@@ -1,14 +1,15 @@
+// Four threads at one lock: what each pushes stands in its own order.
 ghost use Rattle.std.specs.Prelude.{◌≡◌, ◌+◌, ◌*◌, ◌<◌, ℕ, List, [], ◌∷◌, ◌++◌, length, filter_map, option_to_list, Option, Some, None, if◌then◌else◌};
 ghost use Rattle.turn_lock.specs.History.{StartsWith};
 ghost use Rattle.turn_lock.specs.Lock.{IsFree, IsHolding, IsSamePass, and_then, lock_id, mine, number, seen};
 
-use crate::{Pass, Replayed, Says, Turn, TurnLock};
 use std::alloc::Global;
 use std::marker::Brand;
 use std::sync::Wait;
 use std::test::Fail;
 use std::thread;
 use std::thread::Threads;
+use turn_lock::{Pass, Replayed, Says, Turn, TurnLock};
 
 /// What was pushed. An entry is a number, or nothing where there was no memory for it.
 #[derive(Drop)]

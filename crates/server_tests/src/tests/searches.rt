@@ -1,6 +1,6 @@
 // Searches of the goals of small procedures, with so many turns, worked out by hand from the rules.
-use crate::{Status, run};
 use bv_base::{MemSink, MemSource};
+use edit_server::{Status, run};
 use proof_workers::OpenGate;
 use std::alloc::AllocError;
 use std::sync::Wait;

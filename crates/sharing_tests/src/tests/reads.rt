@@ -1,7 +1,7 @@
 // Whole reads, lines and writes with ample memory, over memory and over std, and steps in a ledger.
 ghost use Rattle.std.specs.Prelude.{◌≡◌, ◌<◌};
 
-use crate::{
+use bv_base::{
     Line, LineBuffer, LineFault, MemSink, MemSource, StdSink, StdSource, Steps, next_line,
     read_all, write_all,
 };

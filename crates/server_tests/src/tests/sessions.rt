@@ -1,8 +1,9 @@
 // Whole sessions over input and output in memory; what is expected is written by hand from the rules.
-use crate::{Status, run};
+use super::runs::failing;
 use bv_base::{MemSink, MemSource};
+use edit_server::{Status, run};
 use proof_workers::OpenGate;
-use std::alloc::{AllocError, Global};
+use std::alloc::AllocError;
 use std::sync::Wait;
 use std::test::Fail;
 use std::thread::Threads;
@@ -33,13 +34,6 @@ fn serve<R: AllocGlobal + Threads + Wait + Sync>(
     sink.reserve(1000)?;
     let ended = run(rt, words.as_slice(), &mut source, &mut sink, &OpenGate);
     Ok((ended, Vec::from_slice(rt.alloc(), sink.bytes())?))
-}
-
-/// The one call that fails.
-fn failing(alloc: Global, number: u64) -> Result<Vec<u64>, AllocError> {
-    let mut fails = Vec::new(alloc);
-    fails.push(number)?;
-    Ok(fails)
 }
 
 /// Whether each read of these, where it fails, leaves these bytes written.

@@ -1,6 +1,7 @@
-//! The equations of an early return's postcondition, from its graph on:
-//! `r := 0; if (b) { return; } r := 1;` with `ensures r == 1`, where b is variable 0 and r is 1.
-use crate::equations;
+// The equations of an early return's postcondition, from its graph on:
+// `r := 0; if (b) { return; } r := 1;` with `ensures r == 1`, where b is variable 0 and r is 1.
+use super::terms::{equal, var};
+use block_wp::equations;
 use bv_base::place::Place;
 use flow_core::{Block, Command, GoalKind, Graph, Mark};
 use logic_core::{Node, Sequence, Sort, SortKind, Term};
@@ -8,17 +9,8 @@ use passive_form::passify;
 use std::alloc::{AllocError, Global};
 use std::test::Fail;
 
-fn var(number: u64) -> Term {
-    Term::new(Node::Free(number))
-}
-
-fn equal(alloc: Global, variable: u64, term: Term) -> Result<Term, AllocError> {
-    let left = Box::new(alloc, var(variable))?;
-    Ok(Term::new(Node::Eq(left, Box::new(alloc, term)?)))
-}
-
 fn is_number(alloc: Global, variable: u64, number: i128) -> Result<Term, AllocError> {
-    equal(alloc, variable, Term::new(Node::Num(number)))
+    equal(alloc, var(variable), Term::new(Node::Num(number)))
 }
 
 fn not(alloc: Global, term: Term) -> Result<Term, AllocError> {
@@ -85,7 +77,7 @@ fn early_return(rt: HostRuntime) -> Result<(), Fail> {
     let last = &defs[0];
     assert!(rt; last.body.equals(&checked));
     let taken = not(alloc, var(0))?;
-    let joins = not(alloc, equal(alloc, 5, var(2))?)?;
+    let joins = not(alloc, equal(alloc, var(5), var(2))?)?;
     let early = Term::new(Node::Or(vec![in alloc; taken, joins, call(alloc, 0)]?));
     let leads_early = &defs[4];
     assert!(rt; leads_early.body.equals(&early));
