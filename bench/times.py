@@ -65,14 +65,7 @@ fn main(rt: HostRuntime) -> io::Result<()> {
 
 def workspace(folder):
     """A copy of the crates, with the measuring program."""
-    own = measured.workspace(folder, NAME, "bv_base bpl_ast bpl_parse bpl_resolve", PROGRAM)
-    # how the trees of expressions are dropped, as in language_tests
-    drops = os.path.join("proofs", "+bpl_ast-expr-drop")
-    os.makedirs(os.path.join(own, drops))
-    with open(os.path.join(measured.TOP, "crates", "language_tests", drops, "Answers.antt")) as answers, \
-            open(os.path.join(own, drops, "Answers.antt"), "w") as own_answers:
-        own_answers.write(answers.read().replace("language_tests", NAME))
-    return own
+    return measured.workspace(folder, NAME, "bv_base bpl_ast bpl_parse bpl_resolve", PROGRAM)
 
 
 def main(words):
