@@ -77,13 +77,15 @@ class Build:
         self.waiting = sorted(self.crates, key=lambda c: -self.chain[c]) if is_kept else [NAME]
         self.lanes = self.processors if is_kept else 1
         self.proved, self.running, self.jobs = set(), {}, []
+        self.planned = self.spent = 0.0  # minutes of the crates that this run proved, by plan and by the clock
 
     def left(self):
-        """The minutes that are left, as the crates usually cost."""
+        """The minutes that are left, as the crates usually cost, on processors as quick as these were."""
         lacking = [c for c in self.crates if c not in self.proved]
-        done = {c: (time.monotonic() - begun) / 60 for c, begun in list(self.running.values())}
+        slow = self.spent / self.planned if self.planned > 1 else 1
+        done = {c: (time.monotonic() - begun) / 60 / slow for c, begun in list(self.running.values())}
         costs = sum(max(0, self.minutes[c] - done.get(c, 0)) for c in lacking)
-        return max([1, costs / self.processors] + [self.chain[c] - done.get(c, 0) for c in lacking])
+        return slow * max([1, costs / self.processors] + [self.chain[c] - done.get(c, 0) for c in lacking])
 
     def next_crate(self):
         """The crate to begin now: that with the longest chain of others above."""
@@ -100,7 +102,7 @@ class Build:
         # a second job of one proof would begin a prover for each function, and take twice as long for each
         jobs = 1 if self.is_kept else max(1, min(self.processors, int(self.memory // MEMORY_EACH)))
         environment = {**os.environ, "TMPDIR": temporary, "RT_JOBS": str(jobs), "CI": ""}
-        said, told = [], None
+        said, told, begun = [], None, time.monotonic()
         with subprocess.Popen(["rt", "ci", name], cwd=self.folder, env=environment, stdin=subprocess.DEVNULL,
                               stdout=subprocess.PIPE, stderr=subprocess.STDOUT, text=True, errors="replace") as job:
             self.jobs.append(job)
@@ -112,6 +114,9 @@ class Build:
                         if told[1] == NAME:
                             job.send_signal(signal.SIGSTOP)  # so that it doesn't remove what it built
                             self.take(glob.glob(f"{temporary}/rt-copy-{job.pid}-*/repo/crates/{NAME}/out/{NAME}")[0])
+                        if told[1] == name and told[2] == "proved":
+                            self.planned += self.minutes[name]
+                            self.spent += (time.monotonic() - begun) / 60
                         self.note(told[1])
                     if told and (told[1] == name or told[2] == "NOT PROVED"):
                         break
