@@ -1,5 +1,5 @@
 use Rattle.std.proofs.Common.{◌+◌, ◌≤◌}
-use Rattle.sharing_tests.proofs.tests.trimming.settle_each.Given as goal
+use Rattle.server_tests.proofs.tests.trimming.settle_each.Given as goal
 
 -- each goal is one claim
 abbrev pub invariant-loop-i : goal.invariant-loop-i
