@@ -2,11 +2,11 @@
 use Rattle.std.proofs.Common.{◌≡◌, ◌∙◌, refl, sym, ap, ℕ, ◌+◌, ◌<◌, ◌≤◌, ℤ, Option, Some, None, option_map, List, [], ◌∷◌, ◌++◌, length, get_or, take, drop}
 use Rattle.std.proofs.lemmas.List.{at_drop_more, at_drop_all, take_more}
 use Rattle.std.specs.declared.cmp.Ordering.TheVariants.{Less, Equal, Greater}
-use Rattle.logic_core.specs.Tree.{Tree, Parts, no_parts, part}
+use Rattle.logic_terms.specs.Tree.{Tree, Parts, no_parts, part}
 use Rattle.logic_core.specs.Order.{order}
 use Rattle.logic_core.specs.View.{parts_of}
 use Rattle.logic_core.specs.Before.{before, part_before}
-use Rattle.logic_core.specs.Wide.{checked_add}
+use Rattle.logic_terms.specs.Wide.{checked_add}
 use Rattle.logic_core.specs.Sum.{with_part, add_atom}
 use Rattle.logic_core.proofs.Made.{before_push}
 

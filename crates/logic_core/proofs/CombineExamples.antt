@@ -1,6 +1,6 @@
 -- Sums of linear forms that were computed.
 use Rattle.std.specs.Prelude.{◌≡◌, refl, ◌^◌, ◌-◌, pos, negsuc, Some, None}
-use Rattle.logic_core.specs.Tree.{num, free, linear, equal, at_most, negation, no_parts, part}
+use Rattle.logic_terms.specs.Tree.{num, free, linear, equal, at_most, negation, no_parts, part}
 use Rattle.logic_core.specs.Order.{first}
 use Rattle.logic_core.specs.Sum.{Linear}
 use Rattle.logic_core.specs.Combine.{linear_of, combined, lead, at_least_zero}

@@ -1,6 +1,6 @@
 -- Of an And or an Or with several parts, and of one that takes its parts in.
 use Rattle.std.proofs.Common.{◌≡◌, refl, ap, ◌<◌, true, false, None, List, [], ◌∷◌, ◌++◌, length, arith}
-use Rattle.logic_core.specs.Tree.{Tree, truth, all, some, Trees, tree}
+use Rattle.logic_terms.specs.Tree.{Tree, truth, all, some, Trees, tree}
 use Rattle.logic_core.specs.View.{trees_of}
 use Rattle.logic_core.specs.Before.{before, tree_before}
 use Rattle.logic_core.specs.declared.junction.Connective.{Connective}

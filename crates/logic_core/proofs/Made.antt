@@ -2,10 +2,10 @@
 use Rattle.std.proofs.Common.{◌≡◌, ◌∙◌, refl, sym, ap, ℕ, ◌+◌, ◌<◌, ◌≤◌, ℤ, Vec, Option, Some, None, option_map, List, [], ◌∷◌, ◌++◌, length, get_or, drop}
 use Rattle.std.proofs.lemmas.List.{at_drop_more, at_drop_all}
 use Rattle.std.specs.declared.alloc.Global.{Global}
-use Rattle.logic_core.specs.Tree.{Tree, no_trees, tree, no_parts, part, no_patterns, pattern}
+use Rattle.logic_terms.specs.Tree.{Tree, no_trees, tree, no_parts, part, no_patterns, pattern}
 use Rattle.logic_core.specs.View.{trees_of, parts_of, patterns_of, each_items}
 use Rattle.logic_core.specs.Before.{before, tree_before, part_before, pattern_before}
-use Rattle.logic_core.specs.Wide.{◌>>=◌}
+use Rattle.logic_terms.specs.Wide.{◌>>=◌}
 
 -- in front of nothing
 pub trees_before_none : (ts : List Tree) → before tree_before ts no_trees ≡ trees_of ts

@@ -1,7 +1,7 @@
 -- Parts join a sum one after another.
 use Rattle.std.proofs.Common.{◌≡◌, refl, ℤ, Some, None, option_map}
-use Rattle.logic_core.specs.Tree.{Tree, Parts, part}
-use Rattle.logic_core.specs.Wide.{checked_mul, ◌>>=◌}
+use Rattle.logic_terms.specs.Tree.{Tree, Parts, part}
+use Rattle.logic_terms.specs.Wide.{checked_mul, ◌>>=◌}
 use Rattle.logic_core.specs.Sum.{Linear, add_atom, add_part, add_parts}
 
 -- the first part, and then the rest

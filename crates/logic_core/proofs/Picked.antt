@@ -1,6 +1,6 @@
 -- What a test picks occurs, and what stands for a node replaces it as a whole.
 use Rattle.std.specs.Prelude.{◌≡◌, refl, ℕ, Bool, true, Option, Some, List}
-use Rattle.logic_core.specs.Tree.{Kind, Tree, num, truth, free, bound, linear, mul, read, write, choose, call, negation, all, some, equal, at_most, for_all, exists}
+use Rattle.logic_terms.specs.Tree.{Kind, Tree, num, truth, free, bound, linear, mul, read, write, choose, call, negation, all, some, equal, at_most, for_all, exists}
 use Rattle.logic_core.specs.Traversed.{traversed}
 use Rattle.logic_core.specs.Subterm.{has}
 

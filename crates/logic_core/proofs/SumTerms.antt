@@ -3,7 +3,7 @@ use Rattle.std.proofs.Common.{◌≡◌, refl, ◌<◌, ◌&&◌, ℤ, pos, fals
 use Rattle.std.proofs.lemmas.Bool.{cases_Bool}
 use Rattle.std.proofs.lemmas.Bool.Decides.{Decides-int_eq}
 use Rattle.std.specs.Ordering.{int_eq}
-use Rattle.logic_core.specs.Tree.{Tree, linear}
+use Rattle.logic_terms.specs.Tree.{Tree, linear}
 use Rattle.logic_core.specs.View.{parts_of}
 use Rattle.logic_core.specs.Sum.{sum_term}
 

@@ -4,7 +4,7 @@ use Rattle.std.proofs.lemmas.List.{take-append-drop, set_split}
 use Rattle.std.proofs.lemmas.Bool.{cases_Bool}
 use Rattle.std.proofs.lemmas.Bool.Decides.{Decides-int_eq}
 use Rattle.std.specs.Ordering.{int_eq}
-use Rattle.logic_core.specs.Tree.{Tree, part}
+use Rattle.logic_terms.specs.Tree.{Tree, part}
 use Rattle.logic_core.specs.View.{parts_of}
 use Rattle.logic_core.specs.Before.{before, part_before}
 use Rattle.logic_core.specs.Sum.{with_part}

@@ -1,7 +1,7 @@
 -- Items in front of what a definition gives.
 use Rattle.std.specs.Prelude.{ℤ, Vec, List, [], ◌∷◌}
 use Rattle.std.specs.declared.alloc.Global.{Global}
-use Rattle.logic_core.specs.Tree.{Tree, Trees, tree, Parts, part, Patterns, pattern}
+use Rattle.logic_terms.specs.Tree.{Tree, Trees, tree, Parts, part, Patterns, pattern}
 use Rattle.logic_core.specs.View.{trees_of}
 
 -- the items of the list, in their order

@@ -1,7 +1,7 @@
 -- Terms with other numbers for their free variables and for the definitions that they call.
 use Rattle.std.specs.Prelude.{ℕ, Option, Some, None, List, slice_index_or}
-use Rattle.logic_core.specs.Tree.{Tree, num, truth, free, bound, linear, mul, read, write, choose, call, negation, all, some, equal, at_most, for_all, exists, Trees, no_trees, tree, Parts, no_parts, part, Patterns, no_patterns, pattern}
-use Rattle.logic_core.specs.Def.{Def}
+use Rattle.logic_terms.specs.Tree.{Tree, num, truth, free, bound, linear, mul, read, write, choose, call, negation, all, some, equal, at_most, for_all, exists, Trees, no_trees, tree, Parts, no_parts, part, Patterns, no_patterns, pattern}
+use Rattle.logic_terms.specs.Def.{Def}
 use Rattle.logic_core.specs.Traversed.{traversed, traversed_each, traversed_parts, traversed_patterns, as_deep}
 
 abbrev pub for_free : (ℕ → ℕ) → ℕ → Tree → Option Tree

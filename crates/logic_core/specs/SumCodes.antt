@@ -1,8 +1,8 @@
 -- The code of a sum under way, by which proofs tell two apart: that of its parts and its constant.
 use Rattle.std.specs.Prelude.{ℤ, refl}
 use Rattle.std.specs.Coded.{Coded, code_by, coded×, coded_ℤ}
-use Rattle.logic_core.specs.Tree.{Parts}
-use Rattle.logic_core.specs.Codes.{parts_code, parts_inj}
+use Rattle.logic_terms.specs.Tree.{Parts}
+use Rattle.logic_terms.specs.Codes.{parts_code, parts_inj}
 use Rattle.logic_core.specs.Sum.{Linear}
 
 abbrev pub coded_parts : Coded Parts

@@ -1,6 +1,6 @@
 -- One walk over a term: where something stands for a node, it replaces the node as a whole and is not looked at again; elsewhere the walk goes on into the parts.
 use Rattle.std.specs.Prelude.{ℕ, ◌+◌, Option, unwrap_or, List, length}
-use Rattle.logic_core.specs.Tree.{Kind, Tree, num, truth, free, bound, linear, mul, read, write, choose, call, negation, all, some, equal, at_most, for_all, exists, Trees, no_trees, tree, Parts, no_parts, part, Patterns, no_patterns, pattern}
+use Rattle.logic_terms.specs.Tree.{Kind, Tree, num, truth, free, bound, linear, mul, read, write, choose, call, negation, all, some, equal, at_most, for_all, exists, Trees, no_trees, tree, Parts, no_parts, part, Patterns, no_patterns, pattern}
 
 -- what stands for a node at a depth, how deep a binder's body lies, and the numbers that called definitions get
 module _ (stands : ℕ → Tree → Option Tree) (under : ℕ → List Kind → ℕ) (number : ℕ → ℕ) where

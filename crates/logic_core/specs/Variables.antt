@@ -1,7 +1,7 @@
 -- The free variables of a term and the definitions that it calls, a term with other variables, and numbers in the order of their first occurrences.
 use Rattle.std.specs.Prelude.{ℕ, nat_eq, List, [], ◌∷◌, ◌++◌, fold, unwrap_or, if◌then◌else◌}
 use Rattle.std.specs.List.{list_any, position_from}
-use Rattle.logic_core.specs.Tree.{Tree, num, truth, free, bound, linear, mul, read, write, choose, call, negation, all, some, equal, at_most, for_all, exists, Trees, no_trees, tree, Parts, no_parts, part, Patterns, no_patterns, pattern}
+use Rattle.logic_terms.specs.Tree.{Tree, num, truth, free, bound, linear, mul, read, write, choose, call, negation, all, some, equal, at_most, for_all, exists, Trees, no_trees, tree, Parts, no_parts, part, Patterns, no_patterns, pattern}
 use Rattle.logic_core.specs.Renamed.{both_renamed, each_both_renamed, parts_both_renamed, patterns_both_renamed}
 
 -- what variables and definitions give, each as often as it stands there, in the order of the text: a definition before its arguments, and triggers before a binder's body

@@ -1,8 +1,8 @@
 -- When an obligation is well sorted.
 use Rattle.std.specs.Prelude.{◌≡◌, IsTrue, Some, List, [], All}
-use Rattle.logic_core.specs.Tree.{Kind, boolean, Tree}
-use Rattle.logic_core.specs.Def.{Def, Obligation}
-use Rattle.logic_core.specs.Sorts.{sort_of, bodies_sorted}
+use Rattle.logic_terms.specs.Tree.{Kind, boolean, Tree}
+use Rattle.logic_terms.specs.Def.{Def, Obligation}
+use Rattle.logic_terms.specs.Sorts.{sort_of, bodies_sorted}
 
 -- a closed, well-sorted term of Bool over these variables and definitions
 abbrev pub IsFormula : List Kind → List Def → Tree → Type 0

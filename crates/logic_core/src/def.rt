@@ -1,6 +1,6 @@
 // Definitions, and signatures, over which terms stand.
 ghost use Rattle.std.specs.Prelude.{◌≡◌, [], ◌∷◌, ◌++◌, IsTrue, IfOk, OnOk, OnErr};
-ghost use Rattle.logic_core.specs.Sorts.{bodies_sorted};
+ghost use Rattle.logic_terms.specs.Sorts.{bodies_sorted};
 
 use crate::copy::copy_sorts;
 use crate::sequence::Sequence;
@@ -37,7 +37,7 @@ impl Drop for Def {
 }
 
 impl Model for Def {
-    ghost use Rattle.logic_core.specs.Def.{Def as definition};
+    ghost use Rattle.logic_terms.specs.Def.{Def as definition};
     ghost use Rattle.logic_core.specs.DefCodes.{coded_def};
 
     ghost Value = { definition };
@@ -80,14 +80,14 @@ impl Drop for Signature {
 
 impl Model for Signature {
     ghost use Rattle.std.specs.Prelude.{[], IsTrue};
-    ghost use Rattle.logic_core.specs.Def.{Signature as signature};
+    ghost use Rattle.logic_terms.specs.Def.{Signature as signature};
     ghost use Rattle.logic_core.specs.DefCodes.{coded_signature};
 
     ghost Value = { signature };
 
     ghost coded = { coded_signature };
 
-    ghost use Rattle.logic_core.specs.Sorts.{bodies_sorted};
+    ghost use Rattle.logic_terms.specs.Sorts.{bodies_sorted};
 
     ghost view = { λ a. record { vars = a.vars; defs = a.defs } };
 

@@ -2,7 +2,7 @@
 // drops, beside the other one the whole is that value, one part alone is the result, and no part
 // is the neutral value.
 ghost use Rattle.std.specs.Prelude.{◌≡◌, [], ◌∷◌, ◌++◌, None, IfOk, IfErr};
-ghost use Rattle.logic_core.specs.Tree.{Trees};
+ghost use Rattle.logic_terms.specs.Tree.{Trees};
 ghost use Rattle.logic_core.specs.View.{trees_of};
 ghost use Rattle.logic_core.specs.Before.{before, tree_before};
 ghost use Rattle.logic_core.specs.Junction.{is_truth, has_truth, neutral, joined, as_joined, with_operand, operands, joined_or_alone, junction, is_zero};

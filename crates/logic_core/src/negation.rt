@@ -1,7 +1,7 @@
 // The normal Not of a normal formula: Nots are moved in to the atoms by De Morgan's laws. Over the
 // integers, where 0 <= d doesn't hold, 0 <= -d - 1 does.
 ghost use Rattle.std.specs.Prelude.{◌≡◌, Some, IfOk};
-ghost use Rattle.logic_core.specs.Tree.{negation, at_most};
+ghost use Rattle.logic_terms.specs.Tree.{negation, at_most};
 ghost use Rattle.logic_core.specs.View.{trees_of};
 ghost use Rattle.logic_core.specs.Gives.{Gives, GivesAs};
 ghost use Rattle.logic_core.specs.Junction.{negated, negated_each};

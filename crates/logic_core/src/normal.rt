@@ -14,8 +14,9 @@
 // - A quantifier whose body is a truth value is that truth value.
 // Coefficients and constants have 128 bits. Where one on the way leaves them there is no normal
 // form, even if it would have cancelled later.
-ghost use Rattle.std.specs.Prelude.{◌≡◌, ◌++◌, [], reverse, option_map, IfOk};
-ghost use Rattle.logic_core.specs.Tree.{equal, for_all, exists};
+ghost use Rattle.std.specs.Prelude.{◌≡◌, ◌++◌, [], reverse, option_map, IfOk, if◌then◌else◌};
+ghost use Rattle.logic_terms.specs.Tree.{equal, at_most, choose, for_all, exists};
+ghost use Rattle.logic_terms.specs.Same.{same_term};
 ghost use Rattle.logic_core.specs.View.{trees_of, parts_of, patterns_of, each_items};
 ghost use Rattle.logic_core.specs.Gives.{Gives, GivesAs};
 ghost use Rattle.logic_core.specs.Normal.{choice, quantified, has_negative_lead, equals_zero, zero_at_most, equivalence_with, equivalence, equation_of, equation, inequality, normal, normal_each, normal_sum, normal_patterns};
@@ -39,17 +40,24 @@ fn choice(alloc: Global, c: Term, a: Term, b: Term) -> Result<Term, AllocError>
         Node::Truth(true) => Ok(a),
         Node::Truth(false) => Ok(b),
         node => {
-            if a.equals(&b) {
-                return Ok(a);
-            }
             let c = Term::new(node);
-            Ok(Term::new(Node::If(
-                Box::new(alloc, c)?,
-                Box::new(alloc, a)?,
-                Box::new(alloc, b)?,
-            )))
+            choice_by(alloc, c, a, b)
         }
     }
+}
+
+// The If of these very parts, or a branch where both are equal.
+fn choice_by(alloc: Global, c: Term, a: Term, b: Term) -> Result<Term, AllocError>
+    ensures { IfOk result (λ t. t ≡ (if same_term a b then a else choose c a b)) }
+{
+    if a.equals(&b) {
+        return Ok(a);
+    }
+    Ok(Term::new(Node::If(
+        Box::new(alloc, c)?,
+        Box::new(alloc, a)?,
+        Box::new(alloc, b)?,
+    )))
 }
 
 // The Eq of these very sides.
@@ -99,10 +107,17 @@ pub fn zero_at_most(alloc: Global, d: Term) -> Result<Term, AllocError>
     match d.into_node() {
         Node::Num(n) => Ok(Term::new(Node::Truth(0 <= n))),
         node => {
-            let zero = Box::new(alloc, Term::new(Node::Num(0)))?;
-            Ok(Term::new(Node::Le(zero, Box::new(alloc, Term::new(node))?)))
+            let d = Term::new(node);
+            at_most(alloc, Term::new(Node::Num(0)), d)
         }
     }
+}
+
+// The Le of these very sides.
+fn at_most(alloc: Global, a: Term, b: Term) -> Result<Term, AllocError>
+    ensures { IfOk result (λ t. t ≡ at_most a b) }
+{
+    Ok(Term::new(Node::Le(Box::new(alloc, a)?, Box::new(alloc, b)?)))
 }
 
 // Eq of Bool, where the first side is no truth value: beside one it is the first side or its Not.

@@ -1,7 +1,7 @@
 // Whether a term occurs in another.
 ghost use Rattle.std.specs.Prelude.{◌≡◌};
 ghost use Rattle.logic_core.specs.View.{trees_of, parts_of, patterns_of, each_items};
-ghost use Rattle.logic_core.specs.Same.{same_term};
+ghost use Rattle.logic_terms.specs.Same.{same_term};
 ghost use Rattle.logic_core.specs.Subterm.{occurs, has_any, has_part, has_pattern};
 
 use crate::term::{Node, Term};

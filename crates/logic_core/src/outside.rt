@@ -3,7 +3,7 @@
 ghost use Rattle.std.specs.Prelude.{◌≡◌};
 ghost use Rattle.std.specs.List.{list_any};
 ghost use Rattle.logic_core.specs.View.{trees_of, parts_of};
-ghost use Rattle.logic_core.specs.Same.{same_term};
+ghost use Rattle.logic_terms.specs.Same.{same_term};
 ghost use Rattle.logic_core.specs.Subterm.{outside, outside_each, outside_parts};
 
 use crate::term::{Node, Term};

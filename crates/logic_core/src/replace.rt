@@ -1,6 +1,6 @@
 // Terms with every occurrence of a term replaced. The result need not be in normal form.
 ghost use Rattle.std.specs.Prelude.{◌≡◌, IfOk};
-ghost use Rattle.logic_core.specs.Same.{same_term};
+ghost use Rattle.logic_terms.specs.Same.{same_term};
 ghost use Rattle.logic_core.specs.Traversed.{as_deep, kept};
 ghost use Rattle.logic_core.specs.Replace.{for_picked};
 ghost use Rattle.logic_core.specs.Subterm.{replaced};

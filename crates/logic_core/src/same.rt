@@ -1,7 +1,8 @@
 // Whether two sorts or two terms are the same: the same constructs with the same numbers.
-ghost use Rattle.std.specs.Prelude.{◌≡◌};
+ghost use Rattle.std.specs.Prelude.{◌≡◌, ◌&&◌, nat_eq};
+ghost use Rattle.std.specs.Ordering.{int_eq};
 ghost use Rattle.logic_core.specs.View.{trees_of, parts_of, patterns_of, each_items};
-ghost use Rattle.logic_core.specs.Same.{same_kind, same_kinds, same_term, same_trees, same_parts, same_patterns};
+ghost use Rattle.logic_terms.specs.Same.{same_kind, same_kinds, same_term, same_trees, same_parts, same_patterns};
 
 use crate::sort::{Sort, SortKind};
 use crate::term::{Node, Term};
@@ -42,21 +43,21 @@ impl Term {
             Node::Truth(b) => *b == other.node.flag(),
             Node::Free(v) | Node::Bound(v) => *v == other.node.index(),
             Node::Sum(parts, rest) => match other.node.sum() {
-                Some((others, other_rest)) => equal_parts(parts, others) && *rest == other_rest,
+                Some((others, other_rest)) => equal_sums(parts, *rest, others, other_rest),
                 None => false,
             },
             Node::Mul(a, b) | Node::Read(a, b) | Node::Eq(a, b) | Node::Le(a, b) => {
                 match other.node.two() {
-                    Some((c, d)) => a.equals(c) && b.equals(d),
+                    Some((c, d)) => equal_two(a, b, c, d),
                     None => false,
                 }
             }
             Node::Write(a, b, c) | Node::If(a, b, c) => match other.node.three() {
-                Some((d, e, f)) => a.equals(d) && b.equals(e) && c.equals(f),
+                Some((d, e, f)) => equal_three(a, b, c, d, e, f),
                 None => false,
             },
             Node::Call(f, terms) => match other.node.many() {
-                Some(others) => *f == other.node.index() && equal_terms(terms, others),
+                Some(others) => equal_calls(*f, terms, other.node.index(), others),
                 None => false,
             },
             Node::Not(a) => match other.node.one() {
@@ -71,14 +72,56 @@ impl Term {
                 match other.node.quantified() {
                     Some((other_sorts, other_patterns, other_body)) => {
                         equal_sorts(sorts, other_sorts)
-                            && equal_patterns(patterns, other_patterns)
-                            && body.equals(other_body)
+                            && equal_bound(patterns, body, other_patterns, other_body)
                     }
                     None => false,
                 }
             }
         }
     }
+}
+
+// Each pair is the same. Choices within an arm for many constructs are functions of their own, since a proof goes through
+// each of its ways for each construct.
+#[cycle(same)]
+fn equal_two(a: &Term, b: &Term, c: &Term, d: &Term) -> bool
+    ensures { result ≡ (same_term a.now c.now && same_term b.now d.now) }
+{
+    a.equals(c) && b.equals(d)
+}
+
+#[cycle(same)]
+fn equal_three(a: &Term, b: &Term, c: &Term, d: &Term, e: &Term, f: &Term) -> bool
+    ensures { result ≡ (same_term a.now d.now && (same_term b.now e.now && same_term c.now f.now)) }
+{
+    a.equals(d) && equal_two(b, c, e, f)
+}
+
+#[cycle(same)]
+fn equal_sums(parts: &[(i128, Term)], rest: i128, others: &[(i128, Term)], other_rest: i128) -> bool
+    ensures { result ≡ (same_parts (parts_of parts.now) (parts_of others.now) && int_eq rest other_rest) }
+{
+    equal_parts(parts, others) && rest == other_rest
+}
+
+#[cycle(same)]
+fn equal_calls(f: u64, terms: &[Term], g: u64, others: &[Term]) -> bool
+    ensures { result ≡ (nat_eq f g && same_trees (trees_of terms.now) (trees_of others.now)) }
+{
+    f == g && equal_terms(terms, others)
+}
+
+// The patterns and the body of a quantifier.
+#[cycle(same)]
+fn equal_bound(
+    patterns: &[Vec<Term>],
+    body: &Term,
+    other_patterns: &[Vec<Term>],
+    other_body: &Term,
+) -> bool
+    ensures { result ≡ (same_patterns (patterns_of (each_items patterns.now)) (patterns_of (each_items other_patterns.now)) && same_term body.now other_body.now) }
+{
+    equal_patterns(patterns, other_patterns) && body.equals(other_body)
 }
 
 #[cycle(same)]

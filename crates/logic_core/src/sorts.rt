@@ -2,10 +2,10 @@
 // for, a Call has the definition's parameters, both branches of an If and both sides of an Eq have
 // one sort, and triggers are well sorted, of any sorts.
 ghost use Rattle.std.specs.Prelude.{◌≡◌, ◌++◌, ◌&&◌, reverse, IfOk, slice_get, Some};
-ghost use Rattle.logic_core.specs.Tree.{int, boolean};
+ghost use Rattle.logic_terms.specs.Tree.{int, boolean};
 ghost use Rattle.logic_core.specs.View.{trees_of, parts_of, patterns_of, each_items};
-ghost use Rattle.logic_core.specs.Wide.{when};
-ghost use Rattle.logic_core.specs.Sorts.{is, range, sort_of, are, are_formulas, are_ints, have_sorts, have_sorts_in};
+ghost use Rattle.logic_terms.specs.Wide.{when};
+ghost use Rattle.logic_terms.specs.Sorts.{is, range, sort_of, are, are_formulas, are_ints, have_sorts, have_sorts_in};
 
 use crate::copy::copy_sorts;
 use crate::def::{Def, Signature};

@@ -2,10 +2,10 @@
 // to right: a Sum in a part is scaled and its parts are taken, a number goes to the constant, equal
 // atoms join, and an atom whose coefficient becomes zero drops. Atoms stand in falling order.
 ghost use Rattle.std.specs.Prelude.{◌≡◌, ◌≤◌, ◌<◌, ◌+◌, ℤ, pos, take, drop, vec_len, slice_index_or, option_map, IfOk, IfErr};
-ghost use Rattle.logic_core.specs.Tree.{Tree, linear};
+ghost use Rattle.logic_terms.specs.Tree.{Tree, linear};
 ghost use Rattle.logic_core.specs.View.{parts_of};
 ghost use Rattle.logic_core.specs.Before.{before, part_before};
-ghost use Rattle.logic_core.specs.Wide.{checked_add};
+ghost use Rattle.logic_terms.specs.Wide.{checked_add};
 ghost use Rattle.logic_core.specs.Gives.{Gives, GivesAs};
 ghost use Rattle.logic_core.specs.declared.fault.NormalFault.TheVariants.{Wide};
 ghost use Rattle.logic_core.specs.Sum.{constant, with_part, add_atom, add_number, add_part, add_parts, add_term, term_of, affine, difference, in_order, product, product_with};

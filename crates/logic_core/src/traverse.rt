@@ -1,7 +1,7 @@
 // One walk over a term: what stands for a node replaces it as a whole and is not looked at again;
 // elsewhere the walk goes on into the parts.
 ghost use Rattle.std.specs.Prelude.{◌≡◌, ℕ, Option, List, IfOk};
-ghost use Rattle.logic_core.specs.Tree.{Kind, Tree};
+ghost use Rattle.logic_terms.specs.Tree.{Kind, Tree};
 ghost use Rattle.logic_core.specs.View.{trees_of, parts_of, patterns_of, each_items};
 ghost use Rattle.logic_core.specs.Traversed.{traversed, traversed_each, traversed_parts, traversed_patterns};
 

@@ -2,7 +2,7 @@
 ghost use Rattle.std.specs.Prelude.{◌≡◌, IfErr};
 ghost use Rattle.logic_core.specs.Gives.{Gives};
 ghost use Rattle.logic_core.specs.declared.fault.NormalFault.TheVariants.{Wide};
-ghost use Rattle.logic_core.specs.Wide.{checked_add, checked_mul};
+ghost use Rattle.logic_terms.specs.Wide.{checked_add, checked_mul};
 
 use crate::fault::NormalFault;
 

@@ -4,4 +4,3 @@ pub mod MovesMade
 pub mod NewVariables
 pub mod Pairs
 pub mod Rewritten
-pub mod Unoriented

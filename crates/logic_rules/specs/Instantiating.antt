@@ -8,7 +8,7 @@ use Rattle.logic_core.specs.Same.{same_term, same_trees}
 use Rattle.logic_core.specs.View.{trees_of}
 use Rattle.logic_core.specs.Substitute.{substitute}
 use Rattle.logic_core.specs.Subterm.{outside}
-use Rattle.trigger_match.specs.Match.{tuples}
+use Rattle.quantifier_triggers.specs.Match.{tuples}
 use Rattle.proof_core.specs.Proof.{by_instantiate}
 use Rattle.tableau_branch.specs.Branch.{Fact, Mark, Branch, normal_in, Attempt, none, unless_wide}
 use Rattle.tableau_branch.specs.Change.{begun, appended_one, added}

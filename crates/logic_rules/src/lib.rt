@@ -1,13 +1,7 @@
-//! The rules of the search for connectives, equations, definitions and quantifiers: close, flatten,
-//! skolem, rewrite, unfold, split and instantiate. A rule is tried on a branch: it gives the branch back as it
-//! was, exactly where it can't be applied, or the move that its definition gives.
+//! The rules of the search for connectives, equations, definitions and quantifiers, defined: close, flatten,
+//! skolem, rewrite, unfold, split and instantiate. One that is rarely tried, skolem, is written here: it gives
+//! the branch back as it was, exactly where it can't be applied, or the move that its definition gives.
 #![tactic(auto)]
 
-mod branch_forms;
-pub mod closing;
-pub mod flattening;
-pub mod instantiating;
-pub mod rewriting;
+pub mod branch_forms;
 pub mod skolem;
-pub mod splitting;
-pub mod unfolding;

@@ -2,7 +2,7 @@
 use Rattle.std.specs.Prelude.{◌≡◌, refl, pos, true, false, List, [], ◌∷◌}
 use Rattle.logic_core.specs.Tree.{Kind, int, boolean, map, Tree, num, truth, free, bound, mul, read, write, choose, call, Trees, no_trees, tree}
 use Rattle.logic_core.specs.Def.{Def}
-use Rattle.trigger_match.specs.Match.{tuples}
+use Rattle.quantifier_triggers.specs.Match.{tuples}
 
 abbrev x : Tree
 x = free 0

@@ -1,6 +1,6 @@
 use Rattle.std.proofs.Common.{◌∙◌, refl, sym, ap, Some, arith}
 use Rattle.std.proofs.lemmas.Grind.{common_steps}
-use Rattle.logic_core.specs.Tree.{no_trees, no_patterns}
+use Rattle.logic_terms.specs.Tree.{no_trees, no_patterns}
 use Rattle.logic_core.specs.View.{trees_of, patterns_of, each_items}
 use Rattle.logic_core.specs.Before.{tree_before, pattern_before}
 use Rattle.logic_core.specs.Normal.{normal_each, normal_patterns}

@@ -1,6 +1,6 @@
 use Rattle.std.proofs.Common.{refl, arith}
 use Rattle.logic_core.specs.View.{trees_of, parts_of, patterns_of, each_items}
-use Rattle.logic_core.specs.Same.{same_trees, same_parts, same_patterns}
+use Rattle.logic_terms.specs.Same.{same_trees, same_parts, same_patterns}
 use Rattle.logic_core.proofs.Ends.{same_at}
 use Rattle.logic_core.proofs.+same.Goals as goal
 

@@ -1,6 +1,6 @@
 use Rattle.std.proofs.Common.{refl, arith}
 use Rattle.logic_core.specs.View.{trees_of}
-use Rattle.logic_core.specs.Sorts.{are}
+use Rattle.logic_terms.specs.Sorts.{are}
 use Rattle.logic_core.proofs.Ends.{same_at}
 use Rattle.logic_core.proofs.+sorts.Goals as goal
 

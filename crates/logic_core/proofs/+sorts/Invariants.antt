@@ -1,7 +1,7 @@
 use Rattle.std.proofs.Common.{◌≡◌, ◌+◌, ◌*◌, ◌≤◌, drop}
-use Rattle.logic_core.specs.Tree.{nodes, trees_nodes, parts_nodes, patterns_nodes}
+use Rattle.logic_terms.specs.Tree.{nodes, trees_nodes, parts_nodes, patterns_nodes}
 use Rattle.logic_core.specs.View.{trees_of, parts_of, patterns_of, each_items}
-use Rattle.logic_core.specs.Sorts.{are, are_formulas, are_ints, have_sorts, have_sorts_in}
+use Rattle.logic_terms.specs.Sorts.{are, are_formulas, are_ints, have_sorts, have_sorts_in}
 use Rattle.logic_core.proofs.+sorts.Given as goal
 
 abbrev pub decreases-term::Term::sort_over : goal.decreases-term::Term::sort_over

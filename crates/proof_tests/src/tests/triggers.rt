@@ -1,8 +1,8 @@
 // The tuple that a trigger finds.
 use super::build::{M, X, bound, integer, read, variable};
 use super::obligations::signature;
+use quantifier_triggers::matches;
 use std::test::Fail;
-use trigger_match::matches;
 
 #[test]
 fn a_trigger_finds_its_term(rt: HostRuntime) -> Result<(), Fail> {

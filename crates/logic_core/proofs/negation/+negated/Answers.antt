@@ -1,6 +1,6 @@
 use Rattle.std.proofs.Common.{◌∙◌, ap, refl, Some, arith}
 use Rattle.std.proofs.lemmas.Grind.{common_steps}
-use Rattle.logic_core.specs.Tree.{no_trees}
+use Rattle.logic_terms.specs.Tree.{no_trees}
 use Rattle.logic_core.specs.View.{trees_of}
 use Rattle.logic_core.specs.Before.{tree_before}
 use Rattle.logic_core.specs.Junction.{negated_each}

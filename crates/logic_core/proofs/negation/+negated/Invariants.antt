@@ -1,5 +1,5 @@
 use Rattle.std.proofs.Common.{◌≡◌, ◌+◌, ◌*◌, ◌≤◌, option_map, drop}
-use Rattle.logic_core.specs.Tree.{nodes, trees_nodes}
+use Rattle.logic_terms.specs.Tree.{nodes, trees_nodes}
 use Rattle.logic_core.specs.View.{trees_of}
 use Rattle.logic_core.specs.Before.{before, tree_before}
 use Rattle.logic_core.specs.Junction.{negated_each}

@@ -1,5 +1,5 @@
 use Rattle.std.proofs.Common.{refl, arith}
-use Rattle.logic_core.specs.Same.{same_kinds}
+use Rattle.logic_terms.specs.Same.{same_kinds}
 use Rattle.logic_core.proofs.Ends.{same_at}
 use Rattle.logic_core.proofs.same.equal_sorts.Goals as goal
 

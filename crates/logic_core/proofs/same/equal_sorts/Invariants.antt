@@ -1,5 +1,5 @@
 use Rattle.std.proofs.Common.{◌≡◌, drop}
-use Rattle.logic_core.specs.Same.{same_kinds}
+use Rattle.logic_terms.specs.Same.{same_kinds}
 use Rattle.logic_core.proofs.same.equal_sorts.Given as goal
 
 abbrev pub invariant-loop-i : goal.invariant-loop-i

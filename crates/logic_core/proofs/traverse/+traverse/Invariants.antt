@@ -1,5 +1,5 @@
 use Rattle.std.proofs.Common.{◌≡◌, ◌+◌, ◌*◌, ◌≤◌, drop}
-use Rattle.logic_core.specs.Tree.{nodes, trees_nodes, parts_nodes, patterns_nodes}
+use Rattle.logic_terms.specs.Tree.{nodes, trees_nodes, parts_nodes, patterns_nodes}
 use Rattle.logic_core.specs.View.{trees_of, parts_of, patterns_of, each_items}
 use Rattle.logic_core.specs.Traversed.{traversed_each, traversed_parts, traversed_patterns}
 use Rattle.logic_core.specs.Before.{before, tree_before, part_before, pattern_before}

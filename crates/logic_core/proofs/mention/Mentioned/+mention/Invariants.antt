@@ -1,5 +1,5 @@
 use Rattle.std.proofs.Common.{◌≡◌, ◌+◌, ◌*◌, ◌≤◌, ◌++◌, drop}
-use Rattle.logic_core.specs.Tree.{nodes, trees_nodes, parts_nodes, patterns_nodes}
+use Rattle.logic_terms.specs.Tree.{nodes, trees_nodes, parts_nodes, patterns_nodes}
 use Rattle.logic_core.specs.View.{trees_of, parts_of, patterns_of, each_items}
 use Rattle.logic_core.specs.Variables.{variables_of_each, variables_of_parts, variables_of_patterns, calls_of_each, calls_of_parts, calls_of_patterns}
 use Rattle.logic_core.proofs.mention.Mentioned.+mention.Given as goal

@@ -4,7 +4,7 @@ use Rattle.std.specs.Vec.Iter.{into_iter_items}
 use Rattle.std.proofs.lemmas.Int.{to_z-of_z}
 use Rattle.std.proofs.lemmas.List.{nil_from_length}
 use Rattle.logic_core.specs.View.{parts_of}
-use Rattle.logic_core.specs.Wide.{◌>>=◌}
+use Rattle.logic_terms.specs.Wide.{◌>>=◌}
 use Rattle.logic_core.specs.Sum.{add_parts}
 use Rattle.logic_core.proofs.Refused.{gives_err}
 use Rattle.logic_core.proofs.PartsAdded.{add_parts_first}

@@ -1,7 +1,7 @@
 use Rattle.std.proofs.Common.{◌≡◌, ◌∙◌, sym, ap, FitsSigned, rules}
 use Rattle.std.specs.Int.{w128}
 use Rattle.std.proofs.lemmas.Int.{to_z-of_z}
-use Rattle.logic_core.specs.Tree.{linear}
+use Rattle.logic_terms.specs.Tree.{linear}
 use Rattle.logic_core.specs.View.{parts_of}
 use Rattle.logic_core.specs.TermView.{tree_of}
 use Rattle.logic_core.proofs.sum.Linear.add_term.Goals as goal

@@ -1,5 +1,5 @@
 use Rattle.std.proofs.Common.{◌≡◌, true, sym}
-use Rattle.logic_core.specs.Same.{same_term}
+use Rattle.logic_terms.specs.Same.{same_term}
 use Rattle.logic_core.proofs.Picked.{picked_has}
 use Rattle.logic_core.proofs.term.Term.+occurs.Goals as goal
 

@@ -1,7 +1,7 @@
 use Rattle.std.proofs.Common.{◌≡◌, ◌+◌, ◌*◌, ◌≤◌, drop}
-use Rattle.logic_core.specs.Tree.{nodes, trees_nodes, parts_nodes, patterns_nodes}
+use Rattle.logic_terms.specs.Tree.{nodes, trees_nodes, parts_nodes, patterns_nodes}
 use Rattle.logic_core.specs.View.{trees_of, parts_of, patterns_of, each_items}
-use Rattle.logic_core.specs.Same.{same_term}
+use Rattle.logic_terms.specs.Same.{same_term}
 use Rattle.logic_core.specs.Subterm.{has_any, has_part, has_pattern}
 use Rattle.logic_core.proofs.term.Term.+occurs.Given as goal
 

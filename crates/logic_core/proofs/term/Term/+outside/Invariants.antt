@@ -1,8 +1,8 @@
 use Rattle.std.proofs.Common.{◌≡◌, ◌+◌, ◌*◌, ◌≤◌, drop}
 use Rattle.std.specs.List.{list_any}
-use Rattle.logic_core.specs.Tree.{nodes, trees_nodes, parts_nodes}
+use Rattle.logic_terms.specs.Tree.{nodes, trees_nodes, parts_nodes}
 use Rattle.logic_core.specs.View.{trees_of, parts_of}
-use Rattle.logic_core.specs.Same.{same_term}
+use Rattle.logic_terms.specs.Same.{same_term}
 use Rattle.logic_core.specs.Subterm.{outside_each, outside_parts}
 use Rattle.logic_core.proofs.term.Term.+outside.Given as goal
 
