@@ -1,8 +1,3 @@
-pub mod Hashing
-pub mod Listing
-pub mod Linking
-pub mod PlacesKept
-pub mod Headed
-pub mod OnceNumbered
-pub mod LeadsTried
-pub mod NoForAll
+pub mod ByShape
+pub mod FirstAt
+pub mod Running

@@ -1,8 +1,2 @@
-pub mod Hashed
-pub mod Slotted
-pub mod Listed
-pub mod Linked
-pub mod Placed
-pub mod Heads
-pub mod Leads
-pub mod ForAlls
+pub mod Ended
+pub mod Rare

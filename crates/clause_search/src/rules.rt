@@ -1,21 +1,31 @@
 // The rules in the order in which a step tries them.
-ghost use Rattle.tableau_branch.specs.Applied.{Tries, Attempts};
-ghost use Rattle.tableau.specs.Search.{step};
+ghost use Rattle.std.specs.Prelude.{◌≡◌, OnOk};
+ghost use Rattle.numbered_branches.specs.Applied.{TriesAt, AttemptsAt};
+ghost use Rattle.numbered_branches.specs.Branches.{IsBranchOver, branch_at};
+ghost use Rattle.numbered_terms.specs.Stored.{Grows};
 ghost use Rattle.tableau.specs.Rules.{rule_of};
-ghost use Rattle.tableau_branch.specs.View.{move_of};
+ghost use Rattle.tableau.specs.Search.{step};
+ghost use Rattle.term_bank.specs.Numbered.{Begins};
 
-use crate::closing::close;
-use crate::combining::combine;
-use crate::instantiating::instantiate;
-use crate::occurrences::Occurrences;
-use crate::rewriting::rewrite;
-use logic_core::def::Def;
+use crate::rare::{condition, differ, skolem};
 use logic_core::fault::NormalFault;
-use std::alloc::Global;
+use numbered_branches::branch::Branch;
+use numbered_branches::played::{Attempt, Move};
+use numbered_facts::Store;
+use numbered_instances::candidates::Instances;
+use numbered_instances::instantiating::instantiate;
+use numbered_instances::rewriting::rewrite;
+use numbered_instances::shared::Shared;
+use numbered_logic::closing::close;
+use numbered_logic::flattening::flatten;
+use numbered_logic::splitting::split;
+use numbered_logic::unfolding::unfold;
+use numbered_theory::back::back;
+use numbered_theory::combining::combine;
+use numbered_theory::past::past;
+use numbered_theory::trichotomy::trichotomy;
+use std::alloc::{AllocError, Global};
 use tableau::rules::Rule;
-use tableau_branch::branch::Branch;
-use tableau_branch::played::{Attempt, Move};
-use term_bank::Bank;
 
 /// The order in which a step tries them.
 const ORDER: [Rule; 13] = [
@@ -34,44 +44,87 @@ const ORDER: [Rule; 13] = [
     Rule::Instantiate,
 ];
 
+/// What the rules list anew at each step, whose room is kept.
+#[derive(Drop)]
+pub struct Tables {
+    shared: Shared,
+    instances: Instances,
+}
+
+impl Tables {
+    /// Nothing is listed.
+    pub fn new(alloc: Global) -> Tables {
+        Tables {
+            shared: Shared::new(alloc),
+            instances: Instances::new(alloc),
+        }
+    }
+}
+
 /// What the rule makes of the branch. Wide exactly where applying it leaves 128 bits.
 fn try_rule(
+    store: &mut Store,
+    tables: &mut Tables,
     rule: Rule,
-    alloc: Global,
-    defs: &[Def],
-    bank: &mut Bank,
-    occurrences: &mut Occurrences,
     branch: Branch,
 ) -> Result<Attempt, NormalFault>
-    ensures { Tries branch result (rule_of defs.now rule branch) }
+    requires branch { IsBranchOver store.old.terms branch }
+    requires vars { store.old.vars ≡ branch.vars }
+    ensures grows { Grows store.old store.new }
+    ensures tries { TriesAt store.new.terms (branch_at store.old.terms branch) result (rule_of store.old.defs rule (branch_at store.old.terms branch)) }
 {
     match rule {
-        Rule::Close => Ok(close(alloc, branch)?),
-        Rule::Rewrite => rewrite(alloc, defs, occurrences, branch),
-        Rule::Combine => combine(alloc, defs, branch),
-        Rule::Instantiate => instantiate(alloc, defs, bank, branch),
-        _ => rule.try_on(alloc, defs, branch),
+        Rule::Skolem => skolem(store, branch),
+        Rule::Condition => condition(store, branch),
+        Rule::Differ => differ(store, branch),
+        Rule::Close => close(store, branch),
+        Rule::Flatten => flatten(store, branch),
+        Rule::Split => split(store, branch),
+        Rule::Unfold => unfold(store, branch),
+        Rule::Back => back(store, branch),
+        Rule::Combine => combine(store, branch),
+        Rule::Trichotomy => trichotomy(store, branch),
+        Rule::Past => past(store, branch),
+        Rule::Rewrite => rewrite(store, &mut tables.shared, branch),
+        Rule::Instantiate => instantiate(store, &mut tables.instances, branch),
     }
 }
 
 /// Applies the first rule that can be applied. None exactly where there is none, and Wide exactly
 /// where applying it leaves 128 bits.
-#[tactic(auto, unfolding(tableau::specs::Search::step))]
-pub fn step(
-    alloc: Global,
-    defs: &[Def],
-    bank: &mut Bank,
-    occurrences: &mut Occurrences,
+#[tactic(auto, using(numbered_facts::proofs::Growing::same), unfolding(tableau::specs::Search::step))]
+fn first_rule(
+    store: &mut Store,
+    tables: &mut Tables,
     branch: Branch,
 ) -> Result<Option<Move>, NormalFault>
-    ensures { Attempts move_of result (step defs.now branch) }
+    requires branch { IsBranchOver store.old.terms branch }
+    requires vars { store.old.vars ≡ branch.vars }
+    ensures grows { Grows store.old store.new }
+    ensures attempts { AttemptsAt store.new.terms result (step store.old.defs (branch_at store.old.terms branch)) }
 {
     let mut branch = branch;
     for rule in ORDER {
-        match try_rule(rule, alloc, defs, bank, occurrences, branch)? {
+        match try_rule(store, tables, rule, branch)? {
             Attempt::Gives(step) => return Ok(Some(step)),
             Attempt::Passes(same) => branch = same,
         }
     }
     Ok(None)
+}
+
+/// Applies the first rule that can be applied. None exactly where there is none, and Wide exactly
+/// where applying it leaves 128 bits.
+pub fn step(
+    store: &mut Store,
+    tables: &mut Tables,
+    branch: Branch,
+) -> Result<Option<Move>, NormalFault>
+    requires { IsBranchOver store.old.terms branch }
+    ensures terms { Begins store.old.terms store.new.terms }
+    ensures defs { OnOk result (store.new.defs ≡ store.old.defs) }
+    ensures attempts { AttemptsAt store.new.terms result (step store.old.defs (branch_at store.old.terms branch)) }
+{
+    store.over(&branch.vars)?;
+    first_rule(store, tables, branch)
 }

@@ -1,39 +1,38 @@
 // The run of a search on a stack of branches.
-ghost use Rattle.std.specs.Prelude.{◌≡◌, [], ◌∷◌, IfOk};
+ghost use Rattle.std.specs.Prelude.{◌≡◌, [], ◌∷◌, length, IfOk};
+ghost use Rattle.numbered_branches.specs.Branches.{IsBranchOver, branch_at};
 ghost use Rattle.tableau.specs.Search.{run};
-ghost use Rattle.tableau.specs.RunView.{run_of};
+ghost use Rattle.term_bank.specs.Numbered.{Begins};
+ghost use Rattle.clause_search.specs.Ended.{IsRunBelow, run_at};
 
-use crate::occurrences::Occurrences;
-use crate::rules::step;
-use logic_core::def::Def;
+use crate::ended::Run;
+use crate::rules::{Tables, step};
 use logic_core::fault::NormalFault;
-use std::alloc::{AllocError, Global};
-use tableau::ended::{Run, Verdict};
-use tableau_branch::branch::Branch;
-use tableau_branch::played::Move;
-use term_bank::Bank;
+use numbered_branches::branch::Branch;
+use numbered_branches::played::Move;
+use numbered_facts::Store;
+use std::alloc::AllocError;
+use tableau::ended::Verdict;
 
 /// Lets a step go.
 fn discard(_step: Move) {}
 
-/// Searches from one branch with these tables: a step at a time on the branch on top of the stack, as
-/// long as its cost is paid by the turns that are left.
-fn run_with(
-    alloc: Global,
-    defs: &[Def],
-    bank: &mut Bank,
-    occurrences: &mut Occurrences,
-    turns: u64,
-    first: Branch,
-) -> Result<Run, AllocError>
-    ensures { IfOk result (λ r. run_of r ≡ run defs.now turns turns (first ∷ [])) }
+/// Searches from one branch: a step at a time on the branch on top of the stack, as long as its
+/// cost is paid by the turns that are left.
+pub fn run(store: &mut Store, turns: u64, first: Branch) -> Result<Run, AllocError>
+    requires { IsBranchOver store.old.terms first }
+    ensures terms { Begins store.old.terms store.new.terms }
+    ensures below { IfOk result (IsRunBelow (length store.new.terms)) }
+    ensures run { IfOk result (λ r. run_at store.new.terms r ≡ run store.old.defs turns turns (branch_at store.old.terms first ∷ [])) }
 {
+    let alloc = store.alloc();
+    let mut tables = Tables::new(alloc);
     let mut left = turns;
     let mut moves = Vec::new(alloc);
     let mut stack = Vec::new(alloc);
     stack.push(first)?;
     while let Some(branch) = stack.pop() {
-        match step(alloc, defs, bank, occurrences, branch) {
+        match step(store, &mut tables, branch) {
             Ok(Some(step)) => {
                 let cost = step.cost();
                 if left < cost {
@@ -65,14 +64,4 @@ fn run_with(
         verdict: Verdict::Proved,
         moves,
     })
-}
-
-/// Searches from one branch: a step at a time on the branch on top of the stack, as long as its
-/// cost is paid by the turns that are left.
-pub fn run(alloc: Global, defs: &[Def], turns: u64, first: Branch) -> Result<Run, AllocError>
-    ensures { IfOk result (λ r. run_of r ≡ run defs.now turns turns (first ∷ [])) }
-{
-    let mut bank = Bank::new(alloc);
-    let mut occurrences = Occurrences::new(alloc);
-    run_with(alloc, defs, &mut bank, &mut occurrences, turns, first)
 }

@@ -1,6 +1,7 @@
 // The goals of programs, asked of both searches.
 use clause_search::search::search;
 use obligation_text::Asked;
+use plain_search::search::search_plain;
 use program_opening::goals::SharedGoal;
 use program_opening::{Opened, ProcGoals, open};
 use programs::PROGRAMS;
@@ -9,7 +10,6 @@ use std::process::Abort;
 use std::sync::Arc;
 use std::test::Fail;
 use tableau::ended::Verdict;
-use tableau::search::search_plain;
 use tableau::settled::Settled;
 
 mod programs;

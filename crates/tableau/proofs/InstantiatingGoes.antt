@@ -8,8 +8,8 @@ use Rattle.logic_core.specs.View.{trees_of}
 use Rattle.logic_core.specs.Sorts.{are}
 use Rattle.logic_core.specs.Substitute.{substitute}
 use Rattle.logic_laws.proofs.Options.{bind_some}
-use Rattle.trigger_match.specs.Match.{tuples}
-use Rattle.trigger_match.proofs.TupleSorts.{tuples_sorted}
+use Rattle.quantifier_triggers.specs.Match.{tuples}
+use Rattle.quantifier_triggers.proofs.TupleSorts.{tuples_sorted}
 use Rattle.proof_core.specs.Proof.{by_instantiate}
 use Rattle.proof_core.specs.Context.{Context, fact, with_fact, appended}
 use Rattle.proof_core.specs.Steps.{after_step}

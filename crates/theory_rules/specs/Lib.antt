@@ -1,7 +1,6 @@
 pub mod Back
 pub mod ChosenBoth
 pub mod Codes
-pub mod CombinedView
 pub mod Combining
 pub mod Condition
 pub mod Counting

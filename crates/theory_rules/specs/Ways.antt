@@ -1,5 +1,5 @@
 -- The rule trichotomy by its two parts: the first number that isn't decided, with its three ways, and the three branches.
-use Rattle.std.specs.Prelude.{true, false, Option, List, [], ◌∷◌, if◌then◌else◌}
+use Rattle.std.specs.Prelude.{true, false, Option, List, if◌then◌else◌}
 use Rattle.std.specs.List.{list_any}
 use Rattle.logic_core.specs.Tree.{Tree}
 use Rattle.logic_core.specs.Def.{Def}
@@ -7,10 +7,6 @@ use Rattle.tableau_branch.specs.Branch.{Branch, At, Attempt, none, gives, each, 
 use Rattle.tableau_branch.specs.Move.{Move}
 use Rattle.theory_rules.specs.Trichotomy.{undecided, is_not, decided_by, is_known_way, ways}
 use Rattle.theory_rules.specs.ReadsBack.{after_attempt}
-use Rattle.theory_rules.specs.declared.trichotomy.Ways.{Ways}
-
-abbrev pub ways_of : Ways → List Tree
-ways_of w = w.below ∷ w.zero ∷ w.above ∷ []
 
 -- the branch in which the number is below, or above, zero
 abbrev pub outer_of : Branch → At Tree → Branch

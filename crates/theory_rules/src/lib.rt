@@ -1,12 +1,8 @@
-//! The rules of the search for integers, maps and conditions: back, combine, trichotomy, condition, past and
-//! differ. A rule is tried on a branch: it gives the branch back as it was, exactly where it can't be
-//! applied, or the move that its definition gives.
+//! The rules of the search for integers, maps and conditions, defined: back, combine, trichotomy, condition,
+//! past and differ. Those that are rarely tried, condition and differ, are written here: a rule gives the
+//! branch back as it was, exactly where it can't be applied, or the move that its definition gives.
 #![tactic(auto)]
 
-pub mod back;
-pub mod combining;
 pub mod condition;
+pub mod counting;
 pub mod differ;
-pub mod entries;
-pub mod past;
-pub mod trichotomy;

@@ -1,23 +1,22 @@
-use Rattle.tableau_branch.specs.View.{move_of}
-use Rattle.theory_rules.proofs.Tried.{attempts_err}
-use Rattle.tableau.specs.Rules.{rule_of}
+use Rattle.std.proofs.Common.{◌∙◌, ap, sym, subst, List}
+use Rattle.logic_core.specs.Tree.{Tree}
+use Rattle.term_bank.specs.Numbered.{Begins}
 use Rattle.tableau.specs.Search.{step}
-use Rattle.tableau.specs.declared.rules.Rule.TheVariants as rule
-use Rattle.tableau.proofs.FirstRule.{order, rule_leaves, rule_gives, rule_passes}
+use Rattle.numbered_terms.specs.Stored.{Numbered}
+use Rattle.numbered_branches.specs.Applied.{AttemptsAt}
+use Rattle.numbered_branches.specs.Branches.{NumberedBranch, IsBranchOver, branch_at}
+use Rattle.clause_search.proofs.FirstAt.{on_ok}
 use Rattle.clause_search.proofs.rules.step.Goals as goal
 
-pub returns-in_err-step : goal.returns-in_err-step
-returns-in_err-step c = attempts_err move_of c.from_residual.result c.in_err-step.field-0.0 (step c.args.defs.now c.args.branch) c.from_residual.ensures.1 (λ wide.
-    rule_leaves (rule_of c.args.defs.now) order c.loop-rule.rule-index rule.Close c.args.branch c.loop-rule.branch (step c.args.defs.now c.args.branch)
-    c.loop-rule-test.true c.loop-rule.invariant.ahead c.loop-rule.invariant.same (c.in_err-step.ensures wide))
+pub first_rule-requires : goal.first_rule-requires
+first_rule-requires c = let e = c.in_ok-over.ensures.vars in
+    record { branch = subst (λ (n : Numbered). IsBranchOver n.terms c.args.branch) (sym e) c.requires; vars = ap (λ (n : Numbered). n.vars) e ∙ c.deref.ensures.value ∙ ap (λ (x : NumberedBranch). x.vars) c.branch.view_is }
 
-pub returns-in-Gives : goal.returns-in-Gives
-returns-in-Gives c =
-    rule_gives (rule_of c.args.defs.now) order c.loop-rule.rule-index rule.Close c.args.branch c.loop-rule.branch (step c.args.defs.now c.args.branch)
-    c.loop-rule-test.true c.loop-rule.invariant.ahead c.loop-rule.invariant.same c.in_ok-step.field-0 c.in-Gives.step c.in-Gives.is c.in_ok-step.ensures
+pub returns-clause-terms : goal.returns-clause-terms
+returns-clause-terms c = subst (λ (ts : List Tree). Begins ts c.first_rule.new.store.terms) c.over.ensures.terms c.first_rule.ensures.grows.terms
 
-pub loop-rule-preserved : goal.loop-rule-preserved
-loop-rule-preserved c =
-    let on = rule_passes (rule_of c.args.defs.now) order c.loop-rule.rule-index rule.Close c.args.branch c.loop-rule.branch (step c.args.defs.now c.args.branch)
-    c.loop-rule-test.true c.loop-rule.invariant.ahead c.loop-rule.invariant.same c.in_ok-step.field-0 c.in-Passes.same c.in-Passes.is c.in_ok-step.ensures in
-    record { ahead = on.0; same = on.1 }
+pub returns-clause-defs : goal.returns-clause-defs
+returns-clause-defs c = on_ok c.first_rule.result (c.first_rule.ensures.grows.defs ∙ ap (λ (n : Numbered). n.defs) c.in_ok-over.ensures.vars)
+
+pub returns-clause-attempts : goal.returns-clause-attempts
+returns-clause-attempts c = subst (λ (n : Numbered). AttemptsAt c.first_rule.new.store.terms c.first_rule.result (step n.defs (branch_at n.terms c.args.branch))) c.in_ok-over.ensures.vars c.first_rule.ensures.attempts

@@ -1,7 +1,0 @@
-use Rattle.std.proofs.Common.{◌≡◌, drop}
-use Rattle.std.specs.List.{list_any}
-use Rattle.tableau_branch.specs.Replacing.{rewrites}
-use Rattle.clause_search.proofs.rewriting.rewrites_one.Given as goal
-
-abbrev pub invariant-loop-other : goal.invariant-loop-other
-invariant-loop-other l = list_any (rewrites l.number l.left) (drop l.other-index l.facts) ≡ list_any (rewrites l.number l.left) l.facts

@@ -1,0 +1,41 @@
+-- Shapes of facts to which rules that are rare can be applied.
+use Rattle.std.specs.Prelude.{Bool, true, false, is_some, Option, Some, List, [], find}
+use Rattle.logic_core.specs.Tree.{Kind, map, Tree, negation, equal}
+use Rattle.logic_core.specs.Def.{Def}
+use Rattle.logic_core.specs.Sorts.{sort_of}
+use Rattle.logic_core.specs.Subterm.{outside}
+use Rattle.tableau_branch.specs.Branch.{Branch, Attempt}
+use Rattle.tableau_branch.specs.Move.{Move}
+use Rattle.tableau_branch.specs.Shapes.{is_choice}
+use Rattle.logic_rules.specs.Skolem.{body_of_exists, skolem}
+use Rattle.theory_rules.specs.Condition.{condition}
+use Rattle.theory_rules.specs.Differ.{differ}
+use Rattle.clause_search.specs.declared.by_trees.Rare.{Rare}
+use Rattle.clause_search.specs.declared.by_trees.Rare.TheVariants as rare
+
+abbrev pub is_exists : Tree → Bool
+is_exists t = is_some (body_of_exists t)
+
+-- an If stands in it, outside quantifiers
+abbrev pub has_choice : Tree → Bool
+has_choice t = is_some (find is_choice (outside t))
+
+abbrev pub is_map : Option Kind → Bool
+is_map (Some (map k)) = true
+is_map k = false
+
+-- a Not Eq of maps
+module _ (vars : List Kind) (defs : List Def) where
+  abbrev pub are_maps : Tree → Bool
+  are_maps (equal x y) = is_map (sort_of vars defs [] x)
+  are_maps t = false
+
+  abbrev pub are_unequal_maps : Tree → Bool
+  are_unequal_maps (negation t) = are_maps t
+  are_unequal_maps t = false
+
+-- the rules
+abbrev pub rare_of : List Def → Rare → Branch → Attempt Move
+rare_of defs rare.Skolem = skolem defs
+rare_of defs rare.Condition = condition defs
+rare_of defs rare.Differ = differ defs

@@ -1,0 +1,12 @@
+pub mod Among
+pub mod Appending
+pub mod Carried
+pub mod Changing
+pub mod EachOnce
+pub mod Growing
+pub mod Listing
+pub mod Moving
+pub mod OneBranch
+pub mod Replaced
+pub mod Standing
+pub mod Steps

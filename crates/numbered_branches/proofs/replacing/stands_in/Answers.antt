@@ -1,0 +1,14 @@
+use Rattle.std.proofs.Common.{◌∙◌, ap, subst, nat_eq}
+use Rattle.std.specs.List.{list_any}
+use Rattle.term_bank.specs.Numbered.{at}
+use Rattle.numbered_terms.specs.Stored.{AreStored}
+use Rattle.numbered_branches.proofs.Growing.{stays, below}
+use Rattle.numbered_branches.proofs.Among.{stands_among}
+use Rattle.numbered_branches.proofs.replacing.stands_in.Goals as goal
+
+pub returns-clause-stands : goal.returns-clause-stands
+returns-clause-stands c =
+    let n = c.args.store.now in let m = c.ground.new.self in
+    let g = c.in_ok-ids.ensures.grows in
+    let stored = subst AreStored c.terms.ensures c.are_stored.ensures in
+    c.is_among.ensures ∙ ap (list_any (nat_eq c.args.part)) c.deref.ensures.value ∙ stands_among m.terms stored c.args.part c.in_ok-ids.ids.items (at n.terms c.args.part) (at n.terms c.args.fact) (below n m c.args.part g c.requires.part) (stays n m c.args.part g c.requires.part) c.requires.application c.in_ok-ids.ensures.gives

@@ -1,0 +1,11 @@
+pub mod Applied
+pub mod Branches
+pub mod Codes
+pub mod Counts
+pub mod Moves
+pub mod NumberedChange
+pub mod Replacing
+pub mod Seen
+pub mod Standing
+pub mod StepView
+pub mod View

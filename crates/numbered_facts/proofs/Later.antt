@@ -1,0 +1,65 @@
+-- What is kept of terms stays right in a longer store.
+use Rattle.std.proofs.Common.{sym, ap, subst, ◌∙◌, ℕ, Vec, ◌<◌, ◌&&◌, Option, Some, None, List, [], length, filter, arith}
+use Rattle.std.specs.Prelude.{find}
+use Rattle.std.specs.declared.alloc.Global.{Global}
+use Rattle.logic_core.specs.Tree.{Kind, Tree}
+use Rattle.logic_core.specs.Def.{Def}
+use Rattle.logic_core.specs.Junction.{negated}
+use Rattle.logic_core.specs.Subterm.{occurs, outside}
+use Rattle.tableau_branch.specs.Oriented.{is_application, left_side}
+use Rattle.tableau_branch.specs.Shapes.{is_call, is_choice, is_access}
+use Rattle.logic_rules.specs.Instantiating.{each_once}
+use Rattle.term_bank.specs.Numbered.{at, Begins}
+use Rattle.term_bank.proofs.Numbers.{begins_at}
+use Rattle.numbered_terms.proofs.Walking.{still_below}
+use Rattle.numbered_forms.proofs.LongerStores.{terms_stay, numbers_stay}
+use Rattle.numbered_forms.proofs.NormalParts.{forms_later}
+use Rattle.numbered_facts.specs.Answers.{StandsFor, AreAt}
+use Rattle.numbered_facts.specs.Atoms.{is_atom}
+use Rattle.numbered_facts.specs.Memos.{AreKept, IsNegation, IsLeft, AreAtoms, IsStanding, AreMemos}
+use Rattle.numbered_facts.specs.declared.standing.Standing.{Standing}
+
+module _ (ts us : List Tree) (b : Begins ts us) where
+  pub stands_later : (o : Option ℕ) (t : Option Tree) → StandsFor ts o t → StandsFor us o t
+  stands_later None t h = h
+  stands_later (Some i) t h = (still_below ts us i b h.0, h.1 ∙ ap Some (sym (begins_at ts us i b h.0)))
+
+  pub are_later : (is : List ℕ) (ws : List Tree) → AreAt ts is ws → AreAt us is ws
+  are_later is ws h = (numbers_stay ts us b is h.0, terms_stay ts us b is h.0 ∙ h.1)
+
+  pub negations_later : (ns : List (ℕ × Option ℕ)) → AreKept (IsNegation ts) ns → AreKept (IsNegation us) ns
+  negations_later ns h = λ i o e. let r = h i o e in
+      (still_below ts us i b r.0, subst (λ t. StandsFor us o (negated t)) (sym (begins_at ts us i b r.0)) (stands_later o (negated (at ts i)) r.1))
+
+  pub atoms_later : (as' : List (ℕ × Vec ℕ Global)) → AreKept (AreAtoms ts) as' → AreKept (AreAtoms us) as'
+  atoms_later as' h = λ i v e. let r = h i v e in record {
+    whole = still_below ts us i b r.whole;
+    within = r.within;
+    once = r.once;
+    are = λ j l. let w : j < length ts = omega (arith, l, r.whole) in
+        let one = sym (begins_at ts us j b w) in let whole = sym (begins_at ts us i b r.whole) in
+        r.are j l ∙ (λ k. is_atom (one k) && occurs (one k) (whole k));
+  }
+
+  pub standing_later : (ss : List (ℕ × Standing)) → AreKept (IsStanding ts) ss → AreKept (IsStanding us) ss
+  standing_later ss h = λ i s e. let r = h i s e in let same = sym (begins_at ts us i b r.whole) in record {
+    whole = still_below ts us i b r.whole;
+    ground = subst (λ t. AreAt us s.ground.items (each_once [] (filter is_application (outside t)))) same (are_later s.ground.items (each_once [] (filter is_application (outside (at ts i)))) r.ground);
+    call = subst (λ t. StandsFor us s.call (find is_call (outside t))) same (stands_later s.call (find is_call (outside (at ts i))) r.call);
+    choice = subst (λ t. StandsFor us s.choice (find is_choice (outside t))) same (stands_later s.choice (find is_choice (outside (at ts i))) r.choice);
+    access = subst (λ t. StandsFor us s.access (find is_access (outside t))) same (stands_later s.access (find is_access (outside (at ts i))) r.access);
+  }
+
+pub lefts_later : (ts us : List Tree) (vars : List Kind) (defs : List Def) (b : Begins ts us) (ls : List (ℕ × Option ℕ)) → AreKept (IsLeft (record { terms = ts; vars = vars; defs = defs })) ls → AreKept (IsLeft (record { terms = us; vars = vars; defs = defs })) ls
+lefts_later ts us vars defs b ls h = λ i o e. let r = h i o e in
+    (still_below ts us i b r.0, subst (λ t. StandsFor us o (left_side vars defs t)) (sym (begins_at ts us i b r.0)) (stands_later ts us b o (left_side vars defs (at ts i)) r.1))
+
+module _ (ts us : List Tree) (vars : List Kind) (defs : List Def) (fs : List (ℕ × ℕ)) (ls ns : List (ℕ × Option ℕ)) (as' : List (ℕ × Vec ℕ Global)) (ss : List (ℕ × Standing)) (b : Begins ts us) where
+  pub memos_later : AreMemos (record { terms = ts; vars = vars; defs = defs }) fs ls ns as' ss → AreMemos (record { terms = us; vars = vars; defs = defs }) fs ls ns as' ss
+  memos_later h = record {
+    forms = forms_later vars defs ts us fs b h.forms;
+    lefts = lefts_later ts us vars defs b ls h.lefts;
+    negations = negations_later ts us b ns h.negations;
+    atoms = atoms_later ts us b as' h.atoms;
+    standing = standing_later ts us b ss h.standing;
+  }

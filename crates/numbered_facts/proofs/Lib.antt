@@ -1,0 +1,11 @@
+pub mod Growing
+pub mod Later
+pub mod EachOnce
+mod Quotients
+mod Occurrences
+mod AtomsIn
+mod OutsideWalk
+mod Found
+mod LeftSides
+mod SameSorts
+mod Coefficients

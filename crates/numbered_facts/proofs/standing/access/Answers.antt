@@ -1,0 +1,10 @@
+use Rattle.std.proofs.Common.{sym, nat_eq}
+use Rattle.std.specs.Map.{lookup}
+use Rattle.numbered_facts.proofs.Found.{not_none}
+use Rattle.numbered_facts.proofs.standing.access.Goals as goal
+
+pub returns-in-Some : goal.returns-in-Some
+returns-in-Some c = (c.requires.right c.args.id c.in-Some.standing.now (sym c.in-Some.ensures)).access
+
+pub returns-in-None : goal.returns-in-None
+returns-in-None c = absurd (not_none (lookup (nat_eq c.args.id) c.args.memo.now.entries) c.requires.there c.in-None.ensures)

@@ -1,0 +1,13 @@
+use Rattle.std.proofs.Common.{subst, IfOk}
+use Rattle.logic_core.specs.Subterm.{replaced}
+use Rattle.term_bank.specs.Numbered.{at}
+use Rattle.numbered_terms.specs.At.{IsAt}
+use Rattle.numbered_terms.specs.Stored.{Numbered}
+use Rattle.numbered_facts.proofs.Later.{memos_later}
+use Rattle.numbered_facts.proofs.store.Store.replaced.Goals as goal
+
+pub invariant_of-self : goal.invariant_of-self
+invariant_of-self c = memos_later c.self.inside.terms c.replaced.new.terms c.self.inside.vars.items c.self.inside.defs.items c.self.inside.forms.entries c.self.inside.lefts.entries c.self.inside.negations.entries c.self.inside.atoms.entries c.self.inside.standing.entries c.replaced.ensures.grows c.self.invariant
+
+pub returns-clause-gives : goal.returns-clause-gives
+returns-clause-gives c = subst (λ (n : Numbered). IfOk c.replaced.result (λ i. IsAt c.replaced.new.terms i (replaced (at n.terms c.args.old) (at n.terms c.args.new) (at n.terms c.args.id)))) c.self.view_is c.replaced.ensures.gives

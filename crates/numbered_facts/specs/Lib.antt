@@ -1,0 +1,7 @@
+pub mod Answers
+pub mod Codes
+pub mod Atoms
+pub mod Memos
+pub mod Tightening
+pub mod Inside
+pub mod Saying

@@ -1,0 +1,53 @@
+-- What a store keeps of terms, by number.
+use Rattle.std.specs.Prelude.{◌≡◌, ℕ, Vec, ◌+◌, ◌<◌, ◌≤◌, nat_eq, ◌&&◌, Option, Some, List, [], length, filter, find}
+use Rattle.std.specs.List.{list_any, AllByRecursion}
+use Rattle.std.specs.Map.{lookup}
+use Rattle.std.specs.declared.alloc.Global.{Global}
+use Rattle.logic_core.specs.Tree.{Tree}
+use Rattle.logic_core.specs.Junction.{negated}
+use Rattle.logic_core.specs.Subterm.{occurs, outside}
+use Rattle.tableau_branch.specs.Oriented.{is_application, left_side}
+use Rattle.tableau_branch.specs.Shapes.{is_call, is_choice, is_access}
+use Rattle.logic_rules.specs.Instantiating.{each_once}
+use Rattle.term_bank.specs.Numbered.{at}
+use Rattle.numbered_terms.specs.Stored.{Numbered}
+use Rattle.numbered_forms.specs.Forms.{AreForms}
+use Rattle.numbered_facts.specs.Answers.{StandsFor, AreAt}
+use Rattle.numbered_facts.specs.Atoms.{is_atom, AreOnce}
+use Rattle.numbered_facts.specs.declared.standing.Standing.{Standing}
+
+-- what is kept of numbers is right
+abbrev pub AreKept : {A : Type 0} → (ℕ → A → Type 0) → List (ℕ × A) → Type 0
+AreKept {A} Right kept = (i : ℕ) (a : A) → lookup (nat_eq i) kept ≡ Some a → Right i a
+
+module _ (ts : List Tree) where
+  -- a normal Not, where there is one
+  abbrev pub IsNegation : ℕ → Option ℕ → Type 0
+  IsNegation i o = (i < length ts) × StandsFor ts o (negated (at ts i))
+
+  -- the atoms in a term, whose numbers are no higher than its own
+  pub record AreAtoms (i : ℕ) (v : Vec ℕ Global) : Type 0 where
+    pub whole : i < length ts
+    pub within : AllByRecursion (λ j. j < i + 1) v.items
+    pub once : AreOnce v.items
+    pub are : (j : ℕ) → j ≤ i → list_any (nat_eq j) v.items ≡ (is_atom (at ts j) && occurs (at ts j) (at ts i))
+
+  -- what stands in a term outside quantifiers
+  pub record IsStanding (i : ℕ) (s : Standing) : Type 0 where
+    pub whole : i < length ts
+    pub ground : AreAt ts s.ground.items (each_once [] (filter is_application (outside (at ts i))))
+    pub call : StandsFor ts s.call (find is_call (outside (at ts i)))
+    pub choice : StandsFor ts s.choice (find is_choice (outside (at ts i)))
+    pub access : StandsFor ts s.access (find is_access (outside (at ts i)))
+
+-- the left side of a fact, where there is one
+abbrev pub IsLeft : Numbered → ℕ → Option ℕ → Type 0
+IsLeft n i o = (i < length n.terms) × StandsFor n.terms o (left_side n.vars n.defs (at n.terms i))
+
+-- all that a store keeps
+pub record AreMemos (n : Numbered) (fs : List (ℕ × ℕ)) (ls ns : List (ℕ × Option ℕ)) (as' : List (ℕ × Vec ℕ Global)) (ss : List (ℕ × Standing)) : Type 0 where
+  pub forms : AreForms n.vars n.defs n.terms fs
+  pub lefts : AreKept (IsLeft n) ls
+  pub negations : AreKept (IsNegation n.terms) ns
+  pub atoms : AreKept (AreAtoms n.terms) as'
+  pub standing : AreKept (IsStanding n.terms) ss

@@ -1,0 +1,96 @@
+// What occurs in terms, and what stands in them outside quantifiers.
+ghost use Rattle.std.specs.Prelude.{◌≡◌, ◌<◌, [], length, filter, find, IfOk};
+ghost use Rattle.logic_core.specs.Subterm.{occurs, outside};
+ghost use Rattle.tableau_branch.specs.Oriented.{is_application};
+ghost use Rattle.tableau_branch.specs.Shapes.{is_call, is_choice, is_access};
+ghost use Rattle.logic_rules.specs.Instantiating.{each_once};
+ghost use Rattle.term_bank.specs.Numbered.{at};
+ghost use Rattle.numbered_terms.specs.Stored.{Grows};
+ghost use Rattle.numbered_facts.specs.Answers.{StandsFor, AreAt};
+ghost use Rattle.numbered_facts.specs.Atoms.{is_atom, AreAtomsIn};
+
+use crate::atoms::{atoms, part_occurs};
+use crate::standing::{access, call, choice, ground, stand};
+use crate::store::Store;
+use numbered_terms::Terms;
+use std::alloc::AllocError;
+use term_bank::{Node, TermId};
+
+/// Whether the term of this number is an atom: what may be the left side of a fact whose parts have sorts.
+pub fn is_atom(terms: &Terms, id: TermId) -> bool
+    requires { id < length terms.now }
+    ensures { result ≡ is_atom (at terms.now id) }
+{
+    match terms.node(id) {
+        Node::Free(_) | Node::Mul(_, _) | Node::Read(_, _) => true,
+        Node::Write(_, _, _) | Node::If(_, _, _) | Node::Call(_, _) => true,
+        _ => false,
+    }
+}
+
+impl Store {
+    /// The atoms that occur in a term, inside quantifiers and triggers too, each once.
+    #[tactic(auto, using(crate::proofs::Growing::same))]
+    pub fn atoms(&mut self, id: TermId) -> Result<Vec<TermId>, AllocError>
+        requires { id < length self.old.terms }
+        ensures grows { Grows self.old self.new }
+        ensures atoms { IfOk result (λ v. AreAtomsIn self.new.terms id v.items) }
+    {
+        atoms(&self.terms, &mut self.atoms, id)
+    }
+
+    /// Whether the first term occurs in the second, inside quantifiers and triggers too.
+    #[tactic(auto, using(crate::proofs::Growing::same))]
+    pub fn occurs(&mut self, part: TermId, id: TermId) -> Result<bool, AllocError>
+        requires part { part < length self.old.terms }
+        requires id { id < length self.old.terms }
+        ensures grows { Grows self.old self.new }
+        ensures gives { IfOk result (λ b. b ≡ occurs (at self.old.terms part) (at self.old.terms id)) }
+    {
+        part_occurs(&self.terms, &mut self.atoms, part, id)
+    }
+
+    /// The Reads and Calls in a term outside quantifiers, in preorder, each once.
+    #[tactic(auto, using(crate::proofs::Growing::same))]
+    pub fn ground(&mut self, id: TermId) -> Result<Vec<TermId>, AllocError>
+        requires { id < length self.old.terms }
+        ensures grows { Grows self.old self.new }
+        ensures gives { IfOk result (λ v. AreAt self.new.terms v.items (each_once [] (filter is_application (outside (at self.old.terms id))))) }
+    {
+        stand(&self.terms, &mut self.standing, id)?;
+        ground(&self.terms, &self.standing, id)
+    }
+
+    /// The first Call in a term outside quantifiers, in preorder.
+    #[tactic(auto, using(crate::proofs::Growing::same))]
+    pub fn call(&mut self, id: TermId) -> Result<Option<TermId>, AllocError>
+        requires { id < length self.old.terms }
+        ensures grows { Grows self.old self.new }
+        ensures gives { IfOk result (λ o. StandsFor self.new.terms o (find is_call (outside (at self.old.terms id)))) }
+    {
+        stand(&self.terms, &mut self.standing, id)?;
+        Ok(call(&self.terms, &self.standing, id))
+    }
+
+    /// The first If in a term outside quantifiers, in preorder.
+    #[tactic(auto, using(crate::proofs::Growing::same))]
+    pub fn choice(&mut self, id: TermId) -> Result<Option<TermId>, AllocError>
+        requires { id < length self.old.terms }
+        ensures grows { Grows self.old self.new }
+        ensures gives { IfOk result (λ o. StandsFor self.new.terms o (find is_choice (outside (at self.old.terms id)))) }
+    {
+        stand(&self.terms, &mut self.standing, id)?;
+        Ok(choice(&self.terms, &self.standing, id))
+    }
+
+    /// The first Read of a Write in a term outside quantifiers, in preorder.
+    #[tactic(auto, using(crate::proofs::Growing::same))]
+    pub fn access(&mut self, id: TermId) -> Result<Option<TermId>, AllocError>
+        requires { id < length self.old.terms }
+        ensures grows { Grows self.old self.new }
+        ensures gives { IfOk result (λ o. StandsFor self.new.terms o (find is_access (outside (at self.old.terms id)))) }
+    {
+        stand(&self.terms, &mut self.standing, id)?;
+        Ok(access(&self.terms, &self.standing, id))
+    }
+}

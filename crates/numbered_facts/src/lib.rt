@@ -1,0 +1,27 @@
+//! What the rules of the search ask of facts by number: a store of terms with the sorts of the variables
+//! and the definitions, their normal forms, and what they find in a fact. What was found of a number is
+//! kept, and found again at once.
+#![tactic(auto)]
+
+// What is found once, and kept.
+mod atoms;
+mod left;
+mod lefts;
+mod memo;
+mod negations;
+mod numbers;
+mod occurring;
+mod saying;
+mod standing;
+mod tightening;
+
+// The store.
+pub mod store;
+
+// What it gives of terms.
+pub mod forms;
+pub mod inside;
+pub mod linear;
+pub mod sides;
+
+pub use store::Store;

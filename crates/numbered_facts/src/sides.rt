@@ -1,0 +1,50 @@
+// Left sides of facts, what facts say of terms, and the sorts of terms.
+ghost use Rattle.std.specs.Prelude.{◌≡◌, ◌<◌, [], length, IfOk};
+ghost use Rattle.logic_core.specs.Sorts.{sort_of};
+ghost use Rattle.proof_core.specs.Says.{says};
+ghost use Rattle.tableau_branch.specs.Oriented.{left_side};
+ghost use Rattle.term_bank.specs.Numbered.{at};
+ghost use Rattle.numbered_terms.specs.Stored.{Grows};
+ghost use Rattle.numbered_facts.specs.Answers.{StandsFor};
+
+use crate::lefts::left;
+use crate::saying::says;
+use crate::store::Store;
+use logic_core::Sort;
+use numbered_forms::sorts::sort_of;
+use std::alloc::AllocError;
+use term_bank::TermId;
+
+impl Store {
+    /// The left side of a fact, by what the fact says that it is equal to. None exactly where the fact
+    /// isn't oriented.
+    #[tactic(auto, using(crate::proofs::Growing::same))]
+    pub fn left_side(&mut self, fact: TermId) -> Result<Option<TermId>, AllocError>
+        requires { fact < length self.old.terms }
+        ensures grows { Grows self.old self.new }
+        ensures gives { IfOk result (λ o. StandsFor self.new.terms o (left_side self.old.vars self.old.defs (at self.old.terms fact))) }
+    {
+        left(&self.terms, &mut self.lefts, &self.vars, &self.defs, fact)
+    }
+
+    /// What the fact says that the term is equal to. None exactly where it says nothing of it, or a number
+    /// leaves 128 bits.
+    pub fn says(&mut self, fact: TermId, term: TermId) -> Result<Option<TermId>, AllocError>
+        requires fact { fact < length self.old.terms }
+        requires term { term < length self.old.terms }
+        ensures grows { Grows self.old self.new }
+        ensures gives { IfOk result (λ o. StandsFor self.new.terms o (says (at self.old.terms fact) (at self.old.terms term))) }
+    {
+        says(&mut self.terms, fact, term)
+    }
+
+    /// The sort of a closed term, where it is well sorted.
+    #[tactic(auto, using(crate::proofs::Growing::same))]
+    pub fn sort(&mut self, id: TermId) -> Result<Option<Sort>, AllocError>
+        requires { id < length self.old.terms }
+        ensures grows { Grows self.old self.new }
+        ensures gives { IfOk result (λ o. o ≡ sort_of self.old.vars self.old.defs [] (at self.old.terms id)) }
+    {
+        sort_of(&self.terms, &self.vars, &self.defs, &[], id)
+    }
+}

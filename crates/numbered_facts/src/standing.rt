@@ -1,0 +1,337 @@
+// What stands in terms outside quantifiers, found once.
+ghost use Rattle.std.specs.Prelude.{◌≡◌, ◌<◌, ◌≤◌, [], true, length, map, filter, find, is_some, nat_eq, IfOk, OnOk, OnErr};
+ghost use Rattle.std.specs.List.{flat_map, AllByRecursion};
+ghost use Rattle.std.specs.Map.{lookup};
+ghost use Rattle.std.specs.Option.{option_copied};
+ghost use Rattle.logic_core.specs.Subterm.{outside, is_quantifier};
+ghost use Rattle.logic_core.specs.Tree.{read};
+ghost use Rattle.tableau_branch.specs.Oriented.{is_application};
+ghost use Rattle.tableau_branch.specs.Shapes.{is_call, is_choice, is_access, has_shape};
+ghost use Rattle.logic_rules.specs.Instantiating.{each_once};
+ghost use Rattle.indexmap.specs.IndexMap.{insert_entry};
+ghost use Rattle.term_bank.specs.Numbered.{at};
+ghost use Rattle.numbered_facts.specs.Answers.{StandsFor, AreAt};
+ghost use Rattle.numbered_facts.specs.Inside.{inner, AreOutside};
+ghost use Rattle.numbered_facts.specs.Memos.{AreKept, IsStanding};
+
+use crate::numbers::{add, is_in, list, push_where};
+use indexmap::{IndexMap, IndexSet};
+use numbered_terms::Terms;
+use numbered_terms::renumber::{copy_numbers, numbers};
+use std::alloc::AllocError;
+use tableau_branch::outside::Shape;
+use term_bank::{Node, TermId};
+
+/// Of a term: the Reads and Calls in it outside quantifiers, in preorder, each once; the first Call, the
+/// first If and the first Read of a Write.
+#[derive(Drop)]
+pub(crate) struct Standing {
+    pub(crate) ground: Vec<TermId>,
+    pub(crate) call: Option<TermId>,
+    pub(crate) choice: Option<TermId>,
+    pub(crate) access: Option<TermId>,
+}
+
+/// Whether the term is a quantifier.
+pub(crate) fn is_quantifier(terms: &Terms, id: TermId) -> bool
+    requires { id < length terms.now }
+    ensures { result ≡ is_quantifier (at terms.now id) }
+{
+    match terms.node(id) {
+        Node::ForAll(_, _, _) | Node::Exists(_, _, _) => true,
+        _ => false,
+    }
+}
+
+// Finds a term, and then the terms in it outside quantifiers, in preorder. `done` has the terms whose
+// walk is over.
+#[cycle(standing)]
+fn stand_in(
+    terms: &Terms,
+    done: &mut IndexSet<usize>,
+    found: &mut IndexSet<usize>,
+    id: TermId,
+) -> Result<(), AllocError>
+    requires id { id < length terms.now }
+    requires within { AllByRecursion (λ j. j < length terms.now) found.old.keys }
+    requires whole { AreOutside terms.now done.old.keys found.old.keys }
+    ensures within { OnOk result (AllByRecursion (λ j. j < length terms.now) found.new.keys) }
+    ensures whole { OnOk result (AreOutside terms.now done.new.keys found.new.keys) }
+    ensures found { OnOk result (map (at terms.now) found.new.keys ≡ each_once (map (at terms.now) found.old.keys) (outside (at terms.now id))) }
+{
+    terms.are_stored();
+    if is_in(done, id) {
+        return Ok(());
+    }
+    add(found, id)?;
+    stand_inside(terms, done, found, id)?;
+    add(done, id)
+}
+
+// Finds the terms in a term outside quantifiers.
+#[cycle(standing)]
+fn stand_inside(
+    terms: &Terms,
+    done: &mut IndexSet<usize>,
+    found: &mut IndexSet<usize>,
+    id: TermId,
+) -> Result<(), AllocError>
+    requires id { id < length terms.now }
+    requires within { AllByRecursion (λ j. j < length terms.now) found.old.keys }
+    requires whole { AreOutside terms.now done.old.keys found.old.keys }
+    ensures within { OnOk result (AllByRecursion (λ j. j < length terms.now) found.new.keys) }
+    ensures whole { OnOk result (AreOutside terms.now done.new.keys found.new.keys) }
+    ensures found { OnOk result (map (at terms.now) found.new.keys ≡ each_once (map (at terms.now) found.old.keys) (inner (at terms.now id))) }
+{
+    if is_quantifier(terms, id) {
+        return Ok(());
+    }
+    let parts = numbers(terms.alloc(), terms.node(id))?;
+    stand_each(terms, done, found, id.number, &parts)
+}
+
+// Finds terms of numbers below this one, and those in them outside quantifiers.
+#[cycle(standing)]
+fn stand_each(
+    terms: &Terms,
+    done: &mut IndexSet<usize>,
+    found: &mut IndexSet<usize>,
+    below: usize,
+    ids: &[TermId],
+) -> Result<(), AllocError>
+    requires below { below ≤ length terms.now }
+    requires lower { AllByRecursion (λ j. j < below) ids.now }
+    requires within { AllByRecursion (λ j. j < length terms.now) found.old.keys }
+    requires whole { AreOutside terms.now done.old.keys found.old.keys }
+    ensures within { OnOk result (AllByRecursion (λ j. j < length terms.now) found.new.keys) }
+    ensures whole { OnOk result (AreOutside terms.now done.new.keys found.new.keys) }
+    ensures found { OnOk result (map (at terms.now) found.new.keys ≡ each_once (map (at terms.now) found.old.keys) (flat_map (λ i. outside (at terms.now i)) ids.now)) }
+{
+    for id in ids {
+        stand_in(terms, done, found, *id)?;
+    }
+    Ok(())
+}
+
+// The terms in a term outside quantifiers, in preorder, each once.
+fn outside(terms: &Terms, id: TermId) -> Result<Vec<TermId>, AllocError>
+    requires { id < length terms.now }
+    ensures { IfOk result (λ v. AreAt terms.now v.items (each_once [] (outside (at terms.now id)))) }
+{
+    let mut done = IndexSet::new(terms.alloc());
+    let mut found = IndexSet::new(terms.alloc());
+    stand_in(terms, &mut done, &mut found, id)?;
+    list(terms.alloc(), found.as_slice())
+}
+
+// Whether the term is a Read or a Call.
+fn is_application(terms: &Terms, id: TermId) -> bool
+    requires { id < length terms.now }
+    ensures { result ≡ is_application (at terms.now id) }
+{
+    match terms.node(id) {
+        Node::Read(_, _) | Node::Call(_, _) => true,
+        _ => false,
+    }
+}
+
+// The Reads and Calls among terms.
+fn applications(terms: &Terms, ids: &[TermId]) -> Result<Vec<TermId>, AllocError>
+    requires { AllByRecursion (λ j. j < length terms.now) ids.now }
+    ensures { IfOk result (λ v. v.items ≡ filter (λ i. is_application (at terms.now i)) ids.now) }
+{
+    let mut found = Vec::new(terms.alloc());
+    for id in ids {
+        push_where(&mut found, *id, is_application(terms, *id))?;
+    }
+    Ok(found)
+}
+
+// Whether the term is a Call.
+fn is_call(terms: &Terms, id: TermId) -> bool
+    requires { id < length terms.now }
+    ensures { result ≡ is_call (at terms.now id) }
+{
+    match terms.node(id) {
+        Node::Call(_, _) => true,
+        _ => false,
+    }
+}
+
+// Whether the term is an If.
+fn is_choice(terms: &Terms, id: TermId) -> bool
+    requires { id < length terms.now }
+    ensures { result ≡ is_choice (at terms.now id) }
+{
+    match terms.node(id) {
+        Node::If(_, _, _) => true,
+        _ => false,
+    }
+}
+
+// Whether a Read of this map is one of a Write.
+fn is_written(terms: &Terms, map: TermId, index: TermId) -> bool
+    requires { map < length terms.now }
+    ensures { result ≡ is_access (read (at terms.now map) (at terms.now index)) }
+{
+    match terms.node(map) {
+        Node::Write(_, _, _) => true,
+        _ => false,
+    }
+}
+
+// Whether the term is a Read of a Write.
+fn is_access(terms: &Terms, id: TermId) -> bool
+    requires { id < length terms.now }
+    ensures { result ≡ is_access (at terms.now id) }
+{
+    match terms.node(id) {
+        Node::Read(map, index) => is_written(terms, *map, *index),
+        _ => false,
+    }
+}
+
+// Whether the term has the shape.
+fn has_shape(terms: &Terms, shape: Shape, id: TermId) -> bool
+    requires { id < length terms.now }
+    ensures { result ≡ has_shape shape (at terms.now id) }
+{
+    match shape {
+        Shape::Call => is_call(terms, id),
+        Shape::Choice => is_choice(terms, id),
+        Shape::Access => is_access(terms, id),
+        Shape::Application => is_application(terms, id),
+    }
+}
+
+// The first of the terms that has the shape.
+fn first_of(terms: &Terms, shape: Shape, ids: &[TermId]) -> Option<TermId>
+    requires { AllByRecursion (λ j. j < length terms.now) ids.now }
+    ensures { StandsFor terms.now result (find (has_shape shape) (map (at terms.now) ids.now)) }
+{
+    for id in ids {
+        if has_shape(terms, shape, *id) {
+            return Some(*id);
+        }
+    }
+    None
+}
+
+// What stands in a term outside quantifiers.
+fn standing_of(terms: &Terms, id: TermId) -> Result<Standing, AllocError>
+    requires { id < length terms.now }
+    ensures { IfOk result (IsStanding terms.now id) }
+{
+    let found = outside(terms, id)?;
+    let ground = applications(terms, &found)?;
+    let call = first_of(terms, Shape::Call, &found);
+    let choice = first_of(terms, Shape::Choice, &found);
+    let access = first_of(terms, Shape::Access, &found);
+    Ok(Standing {
+        ground,
+        call,
+        choice,
+        access,
+    })
+}
+
+// From now on this is kept of the number.
+fn keep_standing(
+    memo: &mut IndexMap<usize, Standing>,
+    id: TermId,
+    standing: Standing,
+) -> Result<(), AllocError>
+    ensures ok { OnOk result (memo.new.entries ≡ insert_entry nat_eq memo.old.entries id standing) }
+    ensures memory { OnErr result (memo.new.entries ≡ memo.old.entries) }
+{
+    memo.insert(id.number, standing)?;
+    Ok(())
+}
+
+// What is kept of a number.
+fn standing_at(memo: &IndexMap<usize, Standing>, id: TermId) -> Option<&Standing>
+    ensures { option_copied result ≡ lookup (nat_eq id) memo.now.entries }
+{
+    memo.get(&id.number)
+}
+
+// Whether something is kept of the number.
+fn is_kept(memo: &IndexMap<usize, Standing>, id: TermId) -> bool
+    ensures { result ≡ is_some (lookup (nat_eq id) memo.now.entries) }
+{
+    memo.contains_key(&id.number)
+}
+
+/// What stands in the term outside quantifiers is kept.
+pub(crate) fn stand(
+    terms: &Terms,
+    memo: &mut IndexMap<usize, Standing>,
+    id: TermId,
+) -> Result<(), AllocError>
+    requires id { id < length terms.now }
+    requires right { AreKept (IsStanding terms.now) memo.old.entries }
+    ensures right { AreKept (IsStanding terms.now) memo.new.entries }
+    ensures there { OnOk result (is_some (lookup (nat_eq id) memo.new.entries) ≡ true) }
+{
+    if is_kept(memo, id) {
+        return Ok(());
+    }
+    let standing = standing_of(terms, id)?;
+    keep_standing(memo, id, standing)?;
+    Ok(())
+}
+
+/// The Reads and Calls in a term outside quantifiers, which are kept.
+pub(crate) fn ground(
+    terms: &Terms,
+    memo: &IndexMap<usize, Standing>,
+    id: TermId,
+) -> Result<Vec<TermId>, AllocError>
+    requires right { AreKept (IsStanding terms.now) memo.now.entries }
+    requires there { is_some (lookup (nat_eq id) memo.now.entries) ≡ true }
+    ensures { IfOk result (λ v. AreAt terms.now v.items (each_once [] (filter is_application (outside (at terms.now id))))) }
+{
+    match standing_at(memo, id) {
+        Some(standing) => copy_numbers(terms.alloc(), &standing.ground),
+        None => Ok(Vec::new(terms.alloc())),
+    }
+}
+
+/// The first Call in a term outside quantifiers, which is kept.
+pub(crate) fn call(terms: &Terms, memo: &IndexMap<usize, Standing>, id: TermId) -> Option<TermId>
+    requires right { AreKept (IsStanding terms.now) memo.now.entries }
+    requires there { is_some (lookup (nat_eq id) memo.now.entries) ≡ true }
+    ensures { StandsFor terms.now result (find is_call (outside (at terms.now id))) }
+{
+    let _count = terms.len();
+    match standing_at(memo, id) {
+        Some(standing) => standing.call,
+        None => None,
+    }
+}
+
+/// The first If in a term outside quantifiers, which is kept.
+pub(crate) fn choice(terms: &Terms, memo: &IndexMap<usize, Standing>, id: TermId) -> Option<TermId>
+    requires right { AreKept (IsStanding terms.now) memo.now.entries }
+    requires there { is_some (lookup (nat_eq id) memo.now.entries) ≡ true }
+    ensures { StandsFor terms.now result (find is_choice (outside (at terms.now id))) }
+{
+    let _count = terms.len();
+    match standing_at(memo, id) {
+        Some(standing) => standing.choice,
+        None => None,
+    }
+}
+
+/// The first Read of a Write in a term outside quantifiers, which is kept.
+pub(crate) fn access(terms: &Terms, memo: &IndexMap<usize, Standing>, id: TermId) -> Option<TermId>
+    requires right { AreKept (IsStanding terms.now) memo.now.entries }
+    requires there { is_some (lookup (nat_eq id) memo.now.entries) ≡ true }
+    ensures { StandsFor terms.now result (find is_access (outside (at terms.now id))) }
+{
+    let _count = terms.len();
+    match standing_at(memo, id) {
+        Some(standing) => standing.access,
+        None => None,
+    }
+}

@@ -1,0 +1,134 @@
+// The terms of a search by number, with the sorts of the variables and the definitions.
+ghost use Rattle.std.specs.Prelude.{◌≡◌, ◌<◌, length, IfOk, OnOk};
+ghost use Rattle.std.specs.List.{AllByRecursion};
+ghost use Rattle.term_bank.specs.Numbered.{at, Begins};
+ghost use Rattle.term_bank.specs.Node.{tree_over, numbers_in};
+ghost use Rattle.numbered_terms.specs.At.{IsAt};
+ghost use Rattle.numbered_terms.specs.Stored.{Grows};
+
+use crate::standing::Standing;
+use indexmap::IndexMap;
+use logic_core::copy::copy_sorts;
+use logic_core::same::equal_sorts;
+use logic_core::{Def, Sort, Term};
+use numbered_terms::Terms;
+use numbered_terms::number::number;
+use std::alloc::{AllocError, Global};
+use std::marker::Model;
+use term_bank::{Node, TermId};
+
+/// Terms by number over variables of these sorts and over definitions. A number that was given keeps
+/// its term.
+#[derive(Drop)]
+pub struct Store {
+    pub(crate) terms: Terms,
+    pub(crate) vars: Vec<Sort>,
+    pub(crate) defs: Vec<Def>,
+    pub(crate) forms: IndexMap<usize, TermId>,
+    pub(crate) lefts: IndexMap<usize, Option<TermId>>,
+    pub(crate) negations: IndexMap<usize, Option<TermId>>,
+    pub(crate) atoms: IndexMap<usize, Vec<TermId>>,
+    pub(crate) standing: IndexMap<usize, Standing>,
+}
+
+impl Model for Store {
+    ghost use Rattle.numbered_terms.specs.Stored.{Numbered};
+    ghost use Rattle.numbered_facts.specs.Codes.{coded_numbered};
+
+    ghost Value = { Numbered };
+
+    ghost coded = { coded_numbered };
+
+    ghost use Rattle.numbered_facts.specs.Memos.{AreMemos};
+
+    ghost view = { λ a. record { terms = a.terms; vars = a.vars.items; defs = a.defs.items } };
+
+    ghost invariant = { λ a. AreMemos (record { terms = a.terms; vars = a.vars.items; defs = a.defs.items }) a.forms.entries a.lefts.entries a.negations.entries a.atoms.entries a.standing.entries };
+}
+
+// The number of a term.
+fn number_at(terms: &mut Terms, term: &Term) -> Result<TermId, AllocError>
+    ensures grows { Begins terms.old terms.new }
+    ensures gives { IfOk result (λ i. IsAt terms.new i term.now) }
+{
+    let id = number(terms, term)?;
+    terms.are_stored();
+    Ok(id)
+}
+
+impl Store {
+    /// These terms, variables and definitions.
+    pub fn new(terms: Terms, vars: Vec<Sort>, defs: Vec<Def>) -> Store
+        ensures { result ≡ record { terms = terms; vars = vars.items; defs = defs.items } }
+    {
+        let alloc = terms.alloc();
+        Store {
+            terms,
+            vars,
+            defs,
+            forms: IndexMap::new(alloc),
+            lefts: IndexMap::new(alloc),
+            negations: IndexMap::new(alloc),
+            atoms: IndexMap::new(alloc),
+            standing: IndexMap::new(alloc),
+        }
+    }
+
+    /// The allocator that the store keeps.
+    pub fn alloc(&self) -> Global {
+        self.terms.alloc()
+    }
+
+    /// The terms.
+    pub fn terms(&self) -> &Terms
+        ensures { result.now ≡ self.now.terms }
+    {
+        &self.terms
+    }
+
+    /// The sorts of the variables.
+    pub fn vars(&self) -> &[Sort]
+        ensures { result.now ≡ self.now.vars }
+    {
+        &self.vars
+    }
+
+    /// The definitions.
+    pub fn defs(&self) -> &[Def]
+        ensures { result.now ≡ self.now.defs }
+    {
+        &self.defs
+    }
+
+    /// From now on the variables have these sorts.
+    pub fn over(&mut self, vars: &[Sort]) -> Result<(), AllocError>
+        ensures terms { self.new.terms ≡ self.old.terms }
+        ensures vars { OnOk result (self.new ≡ record self.old { vars = vars.now }) }
+    {
+        if equal_sorts(&self.vars, vars) {
+            return Ok(());
+        }
+        let copies = copy_sorts(self.terms.alloc(), vars)?;
+        self.forms = IndexMap::new(self.terms.alloc());
+        self.lefts = IndexMap::new(self.terms.alloc());
+        self.vars = copies;
+        Ok(())
+    }
+
+    /// The number of the node's term. A new term has the next number.
+    pub fn make(&mut self, node: Node) -> Result<TermId, AllocError>
+        requires { AllByRecursion (λ j. j < length self.old.terms) (numbers_in node) }
+        ensures grows { Grows self.old self.new }
+        ensures gives { IfOk result (λ i. IsAt self.new.terms i (tree_over (at self.old.terms) node)) }
+    {
+        self.terms.make(node)
+    }
+
+    /// The number of a term.
+    pub fn number(&mut self, term: &Term) -> Result<TermId, AllocError>
+        ensures grows { Grows self.old self.new }
+        ensures gives { IfOk result (λ i. IsAt self.new.terms i term.now) }
+    {
+        number_at(&mut self.terms, term)
+    }
+}

@@ -1,0 +1,17 @@
+pub mod Grounds
+pub mod TuplesBy
+pub mod FactTuples
+pub mod NewTuples
+pub mod SharedAtoms
+pub mod Alone
+pub mod WithinTerms
+pub mod LeftSides
+pub mod LeftFacts
+pub mod Instantiated
+pub mod Attempted
+pub mod RestRewritten
+pub mod ByFact
+pub mod FlagsKept
+pub mod FoundAt
+pub mod MatchedTuples
+pub mod Patterns

@@ -1,0 +1,14 @@
+pub mod Apart
+pub mod Attempts
+pub mod Bodies
+pub mod Calls
+pub mod CaseBranches
+pub mod Closed
+pub mod Denying
+pub mod Later
+pub mod Oldest
+pub mod Pairing
+pub mod Rules
+pub mod SeenCalls
+pub mod Several
+pub mod TwoCases

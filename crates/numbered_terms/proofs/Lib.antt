@@ -1,0 +1,12 @@
+pub mod Occurring
+pub mod Shapes
+pub mod Staying
+pub mod SortedReach
+pub mod Stores
+pub mod Renumbering
+pub mod WalkSteps
+pub mod Walking
+pub mod Measuring
+pub mod Items
+pub mod Replacing
+pub mod Rows

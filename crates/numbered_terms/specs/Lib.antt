@@ -1,0 +1,10 @@
+pub mod Stored
+pub mod StoredLaws
+pub mod Reach
+pub mod UnchangedLaws
+pub mod Shaped
+pub mod Store
+pub mod Renumbered
+pub mod At
+pub mod Measures
+pub mod Lists

@@ -1,0 +1,34 @@
+use Rattle.std.proofs.Common.{◌∙◌, sym, ap}
+use Rattle.tableau_branch.specs.Branch.{none}
+use Rattle.theory_rules.specs.ReadsBack.{back_in_parts}
+use Rattle.numbered_branches.specs.Applied.{TriesAt}
+use Rattle.numbered_branches.specs.Branches.{NumberedBranch, branch_at}
+use Rattle.numbered_branches.proofs.Changing.{branch_more}
+use Rattle.numbered_theory.specs.Reads.{read_at}
+use Rattle.numbered_theory.proofs.Found.{back_is, back_moves}
+use Rattle.numbered_theory.proofs.Loops.{from_err}
+use Rattle.numbered_theory.proofs.back.back_in_parts.Goals as goal
+
+pub returns-in_err-move_back-in-Some-clause-tries : goal.returns-in_err-move_back-in-Some-clause-tries
+returns-in_err-move_back-in-Some-clause-tries c =
+    let n = c.args.store.now in let m = c.oldest_read_back.new.store in let code = c.args.branch in
+    let is = c.deref.ensures.value ∙ ap (λ (b : NumberedBranch). b.facts) c.branch.view_is in
+    let found = rw c.in-Some.is at c.in_ok-found.ensures.reads in
+    let b = branch_at n.terms code in
+    from_err (λ x. TriesAt c.move_back.new.store.terms b x (back_in_parts n.defs b)) c.from_residual-in_err-move_back-in-Some.result c.in_err-move_back-in-Some.field-0.0 c.from_residual-in_err-move_back-in-Some.ensures.1
+    (λ d same wide. back_moves n code c.deref.result.now is m c.in_ok-found.ensures.grows c.requires.branch (read_at m.terms c.in-Some.found) _ c.requires.vars found.1 (c.in_err-move_back-in-Some.ensures.gives (sym same ∙ wide)))
+
+pub returns-in_ok-move_back-in-Some-clause-tries : goal.returns-in_ok-move_back-in-Some-clause-tries
+returns-in_ok-move_back-in-Some-clause-tries c =
+    let n = c.args.store.now in let m = c.oldest_read_back.new.store in let code = c.args.branch in
+    let is = c.deref.ensures.value ∙ ap (λ (b : NumberedBranch). b.facts) c.branch.view_is in
+    let found = rw c.in-Some.is at c.in_ok-found.ensures.reads in
+    let moved = c.in_ok-move_back-in-Some.ensures.gives in
+    (moved.0, back_moves n code c.deref.result.now is m c.in_ok-found.ensures.grows c.requires.branch (read_at m.terms c.in-Some.found) _ c.requires.vars found.1 moved.1)
+
+pub returns-in-None-clause-tries : goal.returns-in-None-clause-tries
+returns-in-None-clause-tries c =
+    let n = c.args.store.now in let m = c.oldest_read_back.new.store in let code = c.args.branch in
+    let is = c.deref.ensures.value ∙ ap (λ (b : NumberedBranch). b.facts) c.branch.view_is in
+    let found = rw c.in-None.is at c.in_ok-found.ensures.reads in
+    (branch_more n.terms m.terms c.in_ok-found.ensures.grows.terms code c.requires.branch, back_is n code c.deref.result.now is none c.requires.vars found)

@@ -1,0 +1,19 @@
+//! The rules of the search for integers and maps over the numbers of terms: combine, trichotomy, back and
+//! past. A rule is tried on a branch of numbers: it gives the branch back as it was, exactly where it can't
+//! be applied, or the move that its definition gives for what the numbers stand for.
+#![tactic(auto)]
+
+// Linear forms, the linear facts that are combined, and the ways of a number.
+pub mod entries;
+pub mod linear;
+pub mod ways;
+
+// Reads of Writes.
+pub mod reads;
+
+// The rules.
+pub mod back;
+pub mod combining;
+pub mod past;
+pub mod trichotomy;
+pub mod undecided;

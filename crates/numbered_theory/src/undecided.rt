@@ -1,0 +1,185 @@
+// Numbers that facts leave undecided, by number.
+ghost use Rattle.std.specs.Prelude.{◌≡◌, ◌<◌, ◌++◌, ℕ, [], length, map, option_map, IfOk, IfSome, OnOk};
+ghost use Rattle.std.specs.List.{cons_option, list_any, AllByRecursion};
+ghost use Rattle.logic_core.specs.Combine.{sum_of};
+ghost use Rattle.logic_core.specs.Tree.{at_most};
+ghost use Rattle.term_bank.specs.Numbered.{at};
+ghost use Rattle.numbered_terms.specs.Lists.{AtomsBelow};
+ghost use Rattle.numbered_forms.specs.Sums.{sum_at};
+ghost use Rattle.numbered_branches.specs.Branches.{fact_at, IsFactBelow};
+ghost use Rattle.theory_rules.specs.Trichotomy.{at_most_form, at_most_forms, is_opposite, equation_of_zero, undecided_by};
+ghost use Rattle.numbered_theory.specs.Places.{placed, ArePlacesAt};
+ghost use Rattle.numbered_theory.specs.Sums.{sums_at, undecided_places};
+
+use crate::entries::is_at_most;
+use crate::linear::{has_opposite_parts, rest};
+use numbered_branches::branch::Fact;
+use numbered_facts::linear::{linear_side, sum_of};
+use numbered_forms::negation::is_zero;
+use numbered_forms::sum::NumberedSum;
+use numbered_terms::Terms;
+use std::alloc::AllocError;
+use term_bank::{Node, TermId};
+use theory_rules::counting::same_number;
+
+/// A fact with its place in the branch, and what was found in it.
+#[derive(Clone, Copy)]
+pub struct Place {
+    pub at: usize,
+    pub fact: Fact,
+    pub what: TermId,
+}
+
+// d of a fact `Le(0, d)`.
+fn at_most_side(terms: &Terms, fact: TermId) -> Option<TermId>
+    requires { fact < length terms.now }
+    ensures is { (n : ℕ) → option_map (λ d. sum_of (at terms.now d)) result ≡ at_most_form (record { term = at terms.now fact; number = n }) }
+    ensures within { IfSome result (λ d. d < length terms.now) }
+{
+    if is_at_most(terms, fact) {
+        linear_side(terms, fact)
+    } else {
+        None
+    }
+}
+
+// The side, where there is one, behind the others.
+fn push_side(sides: &mut Vec<TermId>, side: Option<TermId>) -> Result<(), AllocError>
+    ensures { OnOk result (sides.new.items ≡ sides.old.items ++ cons_option side []) }
+{
+    match side {
+        Some(side) => {
+            sides.push(side)?;
+            Ok(())
+        }
+        None => Ok(()),
+    }
+}
+
+// The sides d of the facts `Le(0, d)`.
+fn at_most_sides(terms: &Terms, facts: &[Fact]) -> Result<Vec<TermId>, AllocError>
+    requires { AllByRecursion (IsFactBelow (length terms.now)) facts.now }
+    ensures are { IfOk result (λ v. sums_at terms.now v.items ≡ at_most_forms (map (fact_at terms.now) facts.now)) }
+    ensures within { IfOk result (λ v. AllByRecursion (λ d. d < length terms.now) v.items) }
+{
+    let mut sides = Vec::new(terms.alloc());
+    for fact in facts {
+        let side = at_most_side(terms, fact.term);
+        push_side(&mut sides, side)?;
+    }
+    Ok(sides)
+}
+
+// Whether the term as a sum is the opposite of the form.
+fn is_opposite(terms: &Terms, form: &NumberedSum, other: TermId) -> bool
+    requires form { AtomsBelow (length terms.now) form.now.parts.items }
+    requires other { other < length terms.now }
+    ensures { result ≡ is_opposite (sum_at terms.now form.now) (sum_of (at terms.now other)) }
+{
+    has_opposite_parts(terms, &form.parts, other)
+        && same_number(true, form.rest, rest(terms, other))
+}
+
+// Whether one of the terms as sums is the opposite of this form.
+fn has_opposite(terms: &Terms, sides: &[TermId], form: &NumberedSum) -> bool
+    requires sides { AllByRecursion (λ d. d < length terms.now) sides.now }
+    requires form { AtomsBelow (length terms.now) form.now.parts.items }
+    ensures { result ≡ list_any (is_opposite (sum_at terms.now form.now)) (sums_at terms.now sides.now) }
+{
+    for side in sides {
+        if is_opposite(terms, form, *side) {
+            return true;
+        }
+    }
+    false
+}
+
+// d of `Eq(d, 0)`.
+fn equation_of_zero(terms: &Terms, id: TermId) -> Option<TermId>
+    requires { id < length terms.now }
+    ensures is { option_map (λ d. at terms.now d) result ≡ equation_of_zero (at terms.now id) }
+    ensures within { IfSome result (λ d. d < length terms.now) }
+{
+    match terms.node(id) {
+        Node::Eq(d, zero) => {
+            if is_zero(terms, *zero) {
+                Some(*d)
+            } else {
+                None
+            }
+        }
+        _ => None,
+    }
+}
+
+// d of a fact `Le(0, d)` beside one whose form is opposite.
+fn undecided_inequality(
+    terms: &Terms,
+    sides: &[TermId],
+    low: TermId,
+    high: TermId,
+) -> Result<Option<TermId>, AllocError>
+    requires sides { AllByRecursion (λ d. d < length terms.now) sides.now }
+    requires low { low < length terms.now }
+    requires high { high < length terms.now }
+    ensures is { IfOk result (λ o. option_map (λ d. at terms.now d) o ≡ undecided_by (sums_at terms.now sides.now) (at_most (at terms.now low) (at terms.now high))) }
+    ensures within { IfOk result (λ o. IfSome o (λ d. d < length terms.now)) }
+{
+    if !is_zero(terms, low) {
+        return Ok(None);
+    }
+    let form = sum_of(terms, high)?;
+    if has_opposite(terms, sides, &form) {
+        Ok(Some(high))
+    } else {
+        Ok(None)
+    }
+}
+
+// d of a fact `Not Eq(d, 0)`, or of a fact `Le(0, d)` beside a fact `Le(0, -d)`, which has one of these
+// sides.
+fn undecided(terms: &Terms, sides: &[TermId], fact: TermId) -> Result<Option<TermId>, AllocError>
+    requires sides { AllByRecursion (λ d. d < length terms.now) sides.now }
+    requires fact { fact < length terms.now }
+    ensures is { IfOk result (λ o. option_map (λ d. at terms.now d) o ≡ undecided_by (sums_at terms.now sides.now) (at terms.now fact)) }
+    ensures within { IfOk result (λ o. IfSome o (λ d. d < length terms.now)) }
+{
+    match terms.node(fact) {
+        Node::Not(t) => Ok(equation_of_zero(terms, *t)),
+        Node::Le(low, high) => undecided_inequality(terms, sides, *low, *high),
+        _ => Ok(None),
+    }
+}
+
+// The place of a fact, where something was found in it, behind the others.
+fn push_place(
+    places: &mut Vec<Place>,
+    at: usize,
+    fact: &Fact,
+    what: Option<TermId>,
+) -> Result<(), AllocError>
+    ensures { OnOk result (places.new.items ≡ places.old.items ++ placed at fact.now what) }
+{
+    match what {
+        Some(what) => {
+            let fact = *fact;
+            places.push(Place { at, fact, what })?;
+            Ok(())
+        }
+        None => Ok(()),
+    }
+}
+
+/// The facts that leave a number undecided, oldest first.
+pub fn undecided_places(terms: &Terms, facts: &[Fact]) -> Result<Vec<Place>, AllocError>
+    requires { AllByRecursion (IsFactBelow (length terms.now)) facts.now }
+    ensures { IfOk result (λ v. ArePlacesAt terms.now v.items (undecided_places (map (fact_at terms.now) facts.now))) }
+{
+    let sides = at_most_sides(terms, facts)?;
+    let mut places = Vec::new(terms.alloc());
+    for (at, fact) in facts.iter().enumerate() {
+        let what = undecided(terms, &sides, fact.term)?;
+        push_place(&mut places, at, fact, what)?;
+    }
+    Ok(places)
+}

@@ -1,0 +1,2 @@
+pub mod CombinedView
+pub mod WaysView

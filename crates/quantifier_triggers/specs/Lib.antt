@@ -1,0 +1,5 @@
+pub mod Match
+pub mod MatchLaws
+pub mod Candidates
+pub mod Choice
+pub mod Kept

@@ -1,7 +1,0 @@
-use Rattle.std.proofs.Common.{◌≡◌, drop}
-use Rattle.std.specs.List.{list_any}
-use Rattle.theory_rules.specs.Counting.{has_no_greater}
-use Rattle.theory_rules.proofs.entries.any_no_greater.Given as goal
-
-abbrev pub invariant-loop-entry : goal.invariant-loop-entry
-invariant-loop-entry l = list_any (has_no_greater l.form) (drop l.entry-index l.entries) ≡ list_any (has_no_greater l.form) l.entries

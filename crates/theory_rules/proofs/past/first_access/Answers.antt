@@ -1,4 +1,0 @@
-use Rattle.theory_rules.proofs.past.first_access.Goals as goal
-
-pub returns : goal.returns
-returns c = rw c.term.ensures at c.first_outside.ensures

@@ -1,7 +1,0 @@
-use Rattle.std.proofs.Common.{◌≡◌, map, drop}
-use Rattle.std.specs.List.{list_all}
-use Rattle.trigger_choice.specs.Candidates.{is_simple}
-use Rattle.trigger_choice.proofs.candidates.are_simple.Given as goal
-
-abbrev pub invariant-loop-term : goal.invariant-loop-term
-invariant-loop-term l = list_all is_simple (map (λ x. x.now) (drop l.term-index l.terms)) ≡ list_all is_simple (map (λ x. x.now) l.terms)

@@ -1,7 +1,0 @@
-use Rattle.std.proofs.Common.{◌≡◌, drop}
-use Rattle.trigger_choice.specs.Choice.{any_new}
-use Rattle.trigger_choice.proofs.choice.adds.Given as goal
-
-abbrev pub invariant-loop-number : goal.invariant-loop-number
-invariant-loop-number l =
-    any_new l.variables l.covered (drop l.number-index l.numbers) ≡ any_new l.variables l.covered l.numbers

@@ -1,4 +1,0 @@
-mod MatchExamples
-pub mod Rooted
-pub mod MatchedParts
-pub mod TupleSorts

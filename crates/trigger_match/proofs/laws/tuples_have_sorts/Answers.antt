@@ -1,5 +1,0 @@
-use Rattle.trigger_match.proofs.TupleSorts.{tuples_sorted}
-use Rattle.trigger_match.proofs.laws.tuples_have_sorts.Goals as goal
-
-pub returns : goal.returns
-returns c = λ vars defs trigger sorts terms. tuples_sorted vars defs trigger sorts terms
