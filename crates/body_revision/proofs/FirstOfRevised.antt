@@ -9,7 +9,7 @@ use Rattle.bpl_scopes.specs.Fault.{first_fault}
 use Rattle.bpl_scopes.specs.Scopes.{Text, Table, table_of, Counts, counts_after, no_counts, texts_of, declared_names}
 use Rattle.bpl_faults.proofs.ListedNames.{nothing_behind}
 use Rattle.bpl_declaration_faults.specs.DeclFaults.{Before, before_with, body_names, decl_faults, faults_after, nothing_before, in_decl, first_from, fault_of}
-use Rattle.bpl_first_fault.proofs.SameBefore.{none_here}
+use Rattle.bpl_resolve.proofs.SameBefore.{none_here}
 use Rattle.body_revision.specs.Revised.{IsRevised}
 use Rattle.body_revision.specs.EarlierDecls.{names_of_decls, bodies_of_decls, turned, earlier_decls}
 use Rattle.body_revision.proofs.SameTable.{revised_first, same_table, same_counts}

@@ -3,7 +3,7 @@ use Rattle.std.proofs.Common.{◌≡◌, refl, sym, ap, ◌∙◌, ℕ, zero, su
 use Rattle.std.proofs.lemmas.Option.{slice_get-get_or}
 use Rattle.bpl_ast.specs.Statement.{DeclBody, constant, function, axiom_of, variables, synonym, procedure, implementation, Decl}
 use Rattle.bpl_scopes.specs.Scopes.{Text, Table, Counts}
-use Rattle.module_laws.specs.Elaborate.{or_else, own_body, implements, implementation_of, proc_of, procs_in}
+use Rattle.bpl_resolve.specs.Elaborate.{or_else, own_body, implements, implementation_of, proc_of, procs_in}
 use Rattle.body_revision.specs.Revised.{IsRevised}
 use Rattle.body_revision.specs.Procedures.{has_own_body}
 

@@ -8,7 +8,7 @@ use Rattle.bpl_ast.specs.Statement.{DeclBody, constant, function, axiom_of, vari
 use Rattle.bpl_model.specs.Module.{Proc, DeclText, with_procedure}
 use Rattle.bpl_scopes.specs.Functions.{function_in, in_number_order}
 use Rattle.bpl_scopes.specs.Scopes.{Text, Table, table_of, Counts, no_counts, counts_after, entity_of}
-use Rattle.module_laws.specs.Elaborate.{implements, implementation_of, consts_in, globals_in, axioms_in, function_def, procs_in, decl_text, typed_module, module_of}
+use Rattle.bpl_resolve.specs.Elaborate.{implements, implementation_of, consts_in, globals_in, axioms_in, function_def, procs_in, decl_text, typed_module, module_of}
 use Rattle.body_revision.specs.Revised.{IsRevised}
 use Rattle.body_revision.proofs.SameTable.{same_table, same_counts}
 use Rattle.body_revision.specs.Procedures.{is_procedure}

@@ -2,7 +2,7 @@
 use Rattle.std.specs.Prelude.{◌≡◌, ℕ, ◌<◌, List, length, slice_set}
 use Rattle.bpl_ast.specs.Statement.{Decl}
 use Rattle.bpl_model.specs.Module.{with_procedure}
-use Rattle.module_laws.specs.Elaborate.{module_of}
+use Rattle.bpl_resolve.specs.Elaborate.{module_of}
 use Rattle.body_revision.specs.declared.revised.Revision.{Revision}
 
 -- e takes the place `at` in ds: the module has one other procedure, with its texts, and is the same else

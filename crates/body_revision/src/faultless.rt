@@ -11,9 +11,9 @@ ghost use Rattle.body_revision.specs.Revised.{IsRevised};
 use crate::earlier::{declared_by, given_bodies_by};
 use bpl_ast::Decl;
 use bpl_declaration_faults::Before;
-use bpl_dependencies::Dependencies;
-use bpl_first_fault::program::fault_of_decl;
-use bpl_scopes::{Counts, Fault, Types, declare_all};
+use bpl_dependencies::{Declarations, Dependencies};
+use bpl_resolve::type_fault::fault_of_decl;
+use bpl_scopes::{Counts, Fault};
 use std::alloc::{AllocError, Global};
 
 // The first fault of a declaration before which these stand.
@@ -35,17 +35,22 @@ fn fault_behind<'a>(
 // Whether a declaration before which these of the program stand has no fault.
 fn is_faultless_at<'a>(
     alloc: Global,
-    decls: &'a [Decl],
+    declarations: &Declarations<'a>,
     at: usize,
     decl: &'a Decl,
 ) -> Result<bool, AllocError>
-    requires there { at < length decls.now }
-    ensures { IfOk result (λ b. b ≡ is_none (first_fault (decl_faults (table_of decls.now) (counts_after no_counts decls.now) (earlier_decls (take at decls.now)) decl.now.body))) }
+    requires there { at < length declarations.now }
+    ensures { IfOk result (λ b. b ≡ is_none (first_fault (decl_faults (table_of declarations.now) (counts_after no_counts declarations.now) (earlier_decls (take at declarations.now)) decl.now.body))) }
 {
-    let (table, counts) = declare_all(alloc, decls)?;
-    let types = Types::of(alloc, table)?;
-    let dependencies = Dependencies::of(alloc, types)?;
-    let fault = fault_behind(alloc, &dependencies, counts, &decls[..at], decl)?;
+    let decls = declarations.decls();
+    let dependencies = declarations.dependencies();
+    let fault = fault_behind(
+        alloc,
+        dependencies,
+        declarations.counts(),
+        &decls[..at],
+        decl,
+    )?;
     Ok(fault.is_none())
 }
 
@@ -54,15 +59,15 @@ fn is_faultless_at<'a>(
 /// The only error is want of memory.
 pub fn stays_faultless<'a>(
     alloc: Global,
-    decls: &'a [Decl],
+    declarations: &Declarations<'a>,
     at: usize,
     decl: &'a Decl,
 ) -> Result<bool, AllocError>
-    requires there { at < length decls.now }
-    requires faultless { fault_of decls.now ≡ None }
-    requires revised { (d : declaration) → slice_get decls.now at ≡ Some d → IsRevised d.body decl.now.body }
-    ensures exactly { IfOk result (λ b. b ≡ is_none (fault_of (slice_set decls.now at decl.now))) }
-    ensures faultless { IfOk result (λ b. IsTrue b → fault_of (slice_set decls.now at decl.now) ≡ None) }
+    requires there { at < length declarations.now }
+    requires faultless { fault_of declarations.now ≡ None }
+    requires revised { (d : declaration) → slice_get declarations.now at ≡ Some d → IsRevised d.body decl.now.body }
+    ensures exactly { IfOk result (λ b. b ≡ is_none (fault_of (slice_set declarations.now at decl.now))) }
+    ensures faultless { IfOk result (λ b. IsTrue b → fault_of (slice_set declarations.now at decl.now) ≡ None) }
 {
-    is_faultless_at(alloc, decls, at, decl)
+    is_faultless_at(alloc, declarations, at, decl)
 }

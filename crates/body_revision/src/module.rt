@@ -11,10 +11,10 @@ use crate::procedures::{count_procedures, own_procedure};
 use crate::revised::Revision;
 use bpl_ast::Decl;
 use bpl_declaration_faults::Declared;
-use bpl_dependencies::Dependencies;
+use bpl_dependencies::Declarations;
 use bpl_model::DeclaredProc;
 use bpl_resolve::texts::decl_text;
-use bpl_scopes::{Positions, Types, declare_all};
+use bpl_scopes::Positions;
 use std::alloc::{AllocError, Global};
 
 // What is new, over what is declared.
@@ -46,21 +46,19 @@ fn revision_over<'d, 'a>(
 /// it differs in the procedure's body alone. The only error is want of memory.
 pub fn revision<'a>(
     alloc: Global,
-    decls: &'a [Decl],
+    declarations: &Declarations<'a>,
     at: usize,
     decl: &'a Decl,
 ) -> Result<Revision, AllocError>
-    requires there { at < length decls.now }
-    requires revised { (d : declaration) → slice_get decls.now at ≡ Some d → IsRevised d.body decl.now.body }
-    ensures { IfOk result (IsRevision decls.now at decl.now) }
+    requires there { at < length declarations.now }
+    requires revised { (d : declaration) → slice_get declarations.now at ≡ Some d → IsRevised d.body decl.now.body }
+    ensures { IfOk result (IsRevision declarations.now at decl.now) }
 {
-    let (table, counts) = declare_all(alloc, decls)?;
-    let types = Types::of(alloc, table)?;
-    let dependencies = Dependencies::of(alloc, types)?;
+    let dependencies = declarations.dependencies();
     let order = dependencies.function_order(alloc)?;
     let declared = Declared {
         environment: dependencies.environment(),
-        counts,
+        counts: declarations.counts(),
     };
-    revision_over(alloc, &declared, &order, decls, at, decl)
+    revision_over(alloc, &declared, &order, declarations.decls(), at, decl)
 }

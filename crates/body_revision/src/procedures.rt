@@ -3,7 +3,7 @@ ghost use Rattle.std.specs.Prelude.{◌≡◌, [], ◌∷◌, count_by, IfOk, Is
 ghost use Rattle.bpl_ast.specs.DeclView.{body_of};
 ghost use Rattle.bpl_scopes.specs.CountsView.{counts_seen};
 ghost use Rattle.bpl_scopes.specs.Functions.{in_number_order};
-ghost use Rattle.module_laws.specs.Elaborate.{procs_in};
+ghost use Rattle.bpl_resolve.specs.Elaborate.{procs_in};
 ghost use Rattle.body_revision.specs.Procedures.{is_procedure, has_own_body};
 
 use bpl_ast::{Decl, DeclBody};

@@ -12,10 +12,3 @@ pub mod StmtView
 pub mod StmtFalls
 pub mod SpecView
 pub mod DeclView
-pub mod Glyph
-pub mod Level
-pub mod Parens
-pub mod Expression
-pub mod Lines
-pub mod Written
-pub mod PrintedPart

@@ -1,6 +1,5 @@
 //! The trees of Boogie programs: types, expressions, statements and declarations, each with the
-//! places in its declaration at which faults and goals point, and their canonical text. Contracts
-//! see the trees of `specs/`.
+//! places in its declaration at which faults and goals point. Contracts see the trees of `specs/`.
 #![tactic(auto)]
 
 // The trees, from names up.
@@ -17,24 +16,10 @@ pub mod copy_exprs;
 pub mod copy_names;
 pub mod copy_stmts;
 
-// The canonical text.
-mod level;
-mod line;
-mod page;
-mod parens;
-mod print_actions;
-pub mod print_decls;
-mod print_exprs;
-mod print_heads;
-mod print_stmts;
-mod print_types;
-mod sign;
-
 pub use bv_base::place::{Place, Span};
 pub use decl::{Argument, Body, Decl, DeclBody, Program, Signature, Spec, SpecForm};
 pub use expr::{Expr, ExprForm, Group, Index, Quantifier, Relation, Term, Trigger, Where};
 pub use name::{Name, TypeParams};
 pub use numeral::Numeral;
-pub use print_decls::{print, print_contract, print_expression, print_lines};
 pub use stmt::{Branch, Invariant, Stmt, StmtForm, Target};
 pub use types::{Type, TypeForm};

@@ -4,7 +4,7 @@ use Rattle.std.specs.List.{list_any}
 use Rattle.std.specs.Borrow.{Bor}
 use Rattle.std.proofs.lemmas.List.{append_assoc, reverse-append}
 use Rattle.std.proofs.lemmas.List.Folds.{list_any-append}
-use Rattle.logic_core.specs.Tree.{Kind}
+use Rattle.logic_terms.specs.Tree.{Kind}
 use Rattle.bpl_ast.specs.Place.{Name}
 use Rattle.bpl_ast.specs.ExprView.{groups_of, each_groups_of, clause_of}
 use Rattle.bpl_ast.specs.Tree.{Groups}

@@ -3,7 +3,7 @@ use Rattle.std.proofs.Common.{◌≡◌, refl, sym, ap, ◌∙◌, ℕ, ◌+◌,
 use Rattle.std.specs.Prelude.{Vec}
 use Rattle.std.proofs.lemmas.List.{append_assoc}
 use Rattle.std.specs.declared.alloc.Global.{Global}
-use Rattle.logic_core.specs.Tree.{Kind}
+use Rattle.logic_terms.specs.Tree.{Kind}
 use Rattle.bpl_ast.specs.Place.{Name, Ty}
 use Rattle.bpl_ast.specs.ExprView.{groups_of, each_groups_of}
 use Rattle.bpl_ast.specs.declared.expr.Group.{Group}

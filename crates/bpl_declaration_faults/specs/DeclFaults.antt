@@ -1,8 +1,8 @@
 -- The faults of each declaration, and the first fault of a program.
 use Rattle.std.specs.Prelude.{ℕ, ◌+◌, Bool, true, false, ◌&&◌, List, [], ◌∷◌, ◌++◌, flat_map, bytes_eq, Option, Some, None}
 use Rattle.bv_base.specs.declared.place.Place.{Place}
-use Rattle.logic_core.specs.Tree.{Kind}
-use Rattle.logic_core.specs.Same.{same_kind}
+use Rattle.logic_terms.specs.Tree.{Kind}
+use Rattle.logic_terms.specs.Same.{same_kind}
 use Rattle.bpl_ast.specs.Place.{Name, Params, Ty}
 use Rattle.bpl_ast.specs.Tree.{Expr, first_place, Groups}
 use Rattle.bpl_ast.specs.Statement.{Argument, Body, Spec, requires, ensures, modifies, Signature, DeclBody, constant, function, axiom_of, variables, synonym, procedure, implementation, Decl}

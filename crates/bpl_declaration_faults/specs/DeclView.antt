@@ -1,7 +1,7 @@
 -- What the code's variables and declarations stand for.
 use Rattle.std.specs.Prelude.{ℕ, ◌+◌, Bool, true, Option, Some, None, List, [], ◌∷◌, reverse}
-use Rattle.logic_core.specs.Tree.{Kind}
-use Rattle.logic_core.specs.Same.{same_kind}
+use Rattle.logic_terms.specs.Tree.{Kind}
+use Rattle.logic_terms.specs.Same.{same_kind}
 use Rattle.bpl_ast.specs.Place.{Name}
 use Rattle.bpl_scopes.specs.declared.part.Role.{Role}
 use Rattle.bpl_scopes.specs.Scopes.{Var}

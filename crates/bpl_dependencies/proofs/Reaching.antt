@@ -10,7 +10,7 @@ use Rattle.bpl_scopes.specs.Scopes.{Text, Table, Entry}
 use Rattle.bpl_scopes.specs.KnownSorts.{names_in}
 use Rattle.bpl_scopes.specs.Functions.{is_logical_within, is_logical, leads, leads_to_itself}
 use Rattle.bpl_scopes.specs.LogicalView.{logical_at}
-use Rattle.bpl_dependencies.specs.Reach.{next_of, reaches, flags_at, first_position, AreEdges, is_quantified_at, leads_at_once, leads_far}
+use Rattle.bpl_dependencies.specs.Reach.{next_of, reaches, flags_at, first_position, AreEdges, is_quantified_at, leads_at_once}
 use Rattle.bpl_dependencies.specs.Rounds.{leads_on, round_of, rounds_of, has_edge, edges_into}
 
 nothing_behind : {A : Type 0} (xs : List A) → xs ++ [] ≡ xs
@@ -70,7 +70,7 @@ round_all t p q fs each (e ∷ ts) (is ∷ es) h =
     let rest : map (map Some) es ≡ map (λ (c : Entry). map (first_position t) (next_of t c.name)) ts = cc in
     (λ j. (p e.name || each is (next_of t e.name) here j) ∷ round_all t p q fs each ts es rest j)
 
-pub rounds_reach : (t : Table) (p : Text → Bool) (es : List (List ℕ)) → AreEdges t es → (k : ℕ) → rounds_of [] (flags_at t p) es (suc k) ≡ flags_at t (reaches t p (suc k))
+pub rounds_reach : (t : Table) (p : Text → Bool) (es : List (List ℕ)) → AreEdges t es → (k : ℕ) → rounds_of (flags_at t p) es (suc k) ≡ flags_at t (reaches t p (suc k))
 rounds_reach t p es h zero = round_all t p (reaches t p 0) [] (λ is ns e. none_next is ns) t es h
 rounds_reach t p es h (suc k) = ap (round_of (flags_at t p) es) (rounds_reach t p es h k) ∙ round_all t p (reaches t p (suc k)) (flags_at t (reaches t p (suc k))) (any_next t (reaches t p (suc k))) t es h
 
@@ -78,40 +78,32 @@ flags_length : (t : Table) (p : Text → Bool) → length (flags_at t p) ≡ len
 flags_length [] p = refl
 flags_length (e ∷ t) p = omega (arith, flags_length t p)
 
-pub all_reached : (t : Table) (p : Text → Bool) (es : List (List ℕ)) → AreEdges t es → rounds_of [] (flags_at t p) es (length (flags_at t p)) ≡ flags_at t (reaches t p (length t))
+pub all_reached : (t : Table) (p : Text → Bool) (es : List (List ℕ)) → AreEdges t es → rounds_of (flags_at t p) es (length (flags_at t p)) ≡ flags_at t (reaches t p (length t))
 all_reached [] p es h = refl
-all_reached (e ∷ t) p es h = ap (rounds_of [] (flags_at (e ∷ t) p) es) (flags_length (e ∷ t) p) ∙ rounds_reach (e ∷ t) p es h (length t)
+all_reached (e ∷ t) p es h = ap (rounds_of (flags_at (e ∷ t) p) es) (flags_length (e ∷ t) p) ∙ rounds_reach (e ∷ t) p es h (length t)
 
 -- where no edges are left, nothing more comes
 pub ended : (before bs fs : List Bool) → before ++ round_of bs [] fs ≡ before
 ended before [] fs = nothing_behind before
 ended before (b ∷ bs) fs = nothing_behind before
 
--- all entries have a flag at first, and then those that lead on to one that has it
-far_rounds : (t : Table) (es : List (List ℕ)) → AreEdges t es → (k : ℕ) → rounds_of (flags_at t (λ n. true)) (flags_at t (λ n. false)) es k ≡ flags_at t (leads_far t k)
-far_rounds t es h zero = refl
-far_rounds t es h (suc k) = ap (round_of (flags_at t (λ n. false)) es) (far_rounds t es h k) ∙ round_all t (λ n. false) (leads_far t k) (flags_at t (leads_far t k)) (any_next t (leads_far t k)) t es h
-
-pub all_far : (t : Table) (es : List (List ℕ)) → AreEdges t es → rounds_of (flags_at t (λ n. true)) (flags_at t (λ n. false)) es (length (flags_at t (λ n. false))) ≡ flags_at t (leads_far t (length t))
-all_far t es h = ap (rounds_of (flags_at t (λ n. true)) (flags_at t (λ n. false)) es) (flags_length t (λ n. false)) ∙ far_rounds t es h (length t)
-
-abbrev ups : ℕ → ℕ → ℕ
+abbrev pub ups : ℕ → ℕ → ℕ
 ups zero k = k
 ups (suc d) k = suc (ups d k)
 
-ups_is : (d k : ℕ) → ups d k ≡ d + k
+pub ups_is : (d k : ℕ) → ups d k ≡ d + k
 ups_is zero k = omega arith
 ups_is (suc d) k = omega (arith, ups_is d k)
 
-stays : (from bs : List Bool) (es : List (List ℕ)) (k : ℕ) → rounds_of from bs es (suc k) ≡ rounds_of from bs es k → (d : ℕ) → rounds_of from bs es (ups d k) ≡ rounds_of from bs es k
-stays from bs es k h zero = refl
-stays from bs es k h (suc d) = ap (round_of bs es) (stays from bs es k h d) ∙ h
+stays : (bs : List Bool) (es : List (List ℕ)) (k : ℕ) → rounds_of bs es (suc k) ≡ rounds_of bs es k → (d : ℕ) → rounds_of bs es (ups d k) ≡ rounds_of bs es k
+stays bs es k h zero = refl
+stays bs es k h (suc d) = ap (round_of bs es) (stays bs es k h d) ∙ h
 
 -- once a round finds nothing new, no later one does
-pub settled : (from bs : List Bool) (es : List (List ℕ)) (k m : ℕ) → rounds_of from bs es (suc k) ≡ rounds_of from bs es k → k ≤ m → rounds_of from bs es k ≡ rounds_of from bs es m
-settled from bs es k m h below =
+pub settled : (bs : List Bool) (es : List (List ℕ)) (k m : ℕ) → rounds_of bs es (suc k) ≡ rounds_of bs es k → k ≤ m → rounds_of bs es k ≡ rounds_of bs es m
+settled bs es k m h below =
     let at : ups (m - k) k ≡ m = ups_is (m - k) k ∙ omega arith in
-    sym (stays from bs es k h (m - k)) ∙ ap (rounds_of from bs es) at
+    sym (stays bs es k h (m - k)) ∙ ap (rounds_of bs es) at
 
 logical_reaches : (t : Table) (k : ℕ) (n : Text) → reaches t (is_quantified_at t) k n ≡ is_logical_within t k n
 logical_reaches t zero n = refl
@@ -182,9 +174,5 @@ pub own_flag : (t : Table) (m : Text) (at : ℕ) → first_position t m ≡ Some
 own_flag t m at there = flag_there t (reaches t (leads_at_once t m) (length t)) at m (found_there m (names_in t) at there) ∙ ap Some (leads_back t m)
 
 -- logical functions in rounds from no flags on
-pub logical_from : (t : Table) (es : List (List ℕ)) (base : List Bool) → AreEdges t es → base ≡ flags_at t (is_quantified_at t) → rounds_of [] base es (length base) ≡ logical_at t
-logical_from t es base h e = ap (λ bs. rounds_of [] bs es (length bs)) e ∙ all_reached t (is_quantified_at t) es h ∙ logical_flags t
-
--- ways that go far in rounds from all flags on
-pub far_from : (t : Table) (es : List (List ℕ)) (all none : List Bool) → AreEdges t es → all ≡ flags_at t (λ n. true) → none ≡ flags_at t (λ n. false) → rounds_of all none es (length none) ≡ flags_at t (leads_far t (length t))
-far_from t es all none h a n = ap (λ bs. rounds_of bs none es (length none)) a ∙ ap (λ bs. rounds_of (flags_at t (λ m. true)) bs es (length bs)) n ∙ all_far t es h
+pub logical_from : (t : Table) (es : List (List ℕ)) (base : List Bool) → AreEdges t es → base ≡ flags_at t (is_quantified_at t) → rounds_of base es (length base) ≡ logical_at t
+logical_from t es base h e = ap (λ bs. rounds_of bs es (length bs)) e ∙ all_reached t (is_quantified_at t) es h ∙ logical_flags t

@@ -1,5 +1,5 @@
 -- What names lead to by their edges, as positions in the table.
-use Rattle.std.specs.Prelude.{◌≡◌, ℕ, zero, suc, Bool, true, false, ◌||◌, List, map, filter, Vec, bytes_eq, Option, Some, [], ◌∷◌}
+use Rattle.std.specs.Prelude.{◌≡◌, ℕ, zero, suc, Bool, false, ◌||◌, List, map, filter, Vec, bytes_eq, Option, Some, [], ◌∷◌}
 use Rattle.std.specs.declared.alloc.Global.{Global}
 use Rattle.std.specs.List.{list_any}
 use Rattle.bpl_scopes.specs.Positions.{first_at}
@@ -14,11 +14,6 @@ next_of t n = next_names t (entity_of t n)
 abbrev pub reaches : Table → (Text → Bool) → ℕ → Text → Bool
 reaches t p zero n = false
 reaches t p (suc k) n = p n || list_any (reaches t p k) (next_of t n)
-
--- some way from a name has k steps at least
-abbrev pub leads_far : Table → ℕ → Text → Bool
-leads_far t zero n = true
-leads_far t (suc k) n = list_any (leads_far t k) (next_of t n)
 
 abbrev pub flags_at : Table → (Text → Bool) → List Bool
 flags_at t p = map (λ (e : Entry). p e.name) t

@@ -1,12 +1,14 @@
 // Which names lead to themselves, and which functions are logical.
-ghost use Rattle.std.specs.Prelude.{◌≡◌, length, IfOk};
-ghost use Rattle.bpl_dependencies.specs.Reach.{edges_seen, AreEdges, flags_at, leads_far};
+ghost use Rattle.std.specs.Prelude.{◌≡◌, IfOk};
+ghost use Rattle.bpl_dependencies.specs.Reach.{edges_seen, AreEdges};
+ghost use Rattle.bpl_dependencies.specs.Ranks.{NeverFall};
 ghost use Rattle.bpl_scopes.specs.Functions.{leads_to_itself, in_number_order};
 
 use crate::edges::table_edges;
-use crate::flags::{far_flags, logical_flags};
+use crate::flags::logical_flags;
 use crate::numbers::number_functions;
-use crate::reach::{comes_back, is_set};
+use crate::ranks::{falls, rank_of, ranks};
+use crate::reach::{comes_back, row};
 use bpl_scopes::{Environment, Positions, Table, Types};
 use std::alloc::{AllocError, Global};
 use std::marker::Model;
@@ -16,11 +18,11 @@ use std::marker::Model;
 pub struct Dependencies<'a> {
     environment: Environment<'a>,
     edges: Vec<Vec<usize>>,
-    far: Vec<bool>,
+    ranks: Vec<usize>,
 }
 
 impl<'a> Model for Dependencies<'a> {
-    ghost use Rattle.std.specs.Prelude.{◌≡◌, List, length};
+    ghost use Rattle.std.specs.Prelude.{List};
     ghost use Rattle.bpl_scopes.specs.Scopes.{Entry as entry};
     ghost use Rattle.bpl_scopes.specs.EntryCodes.{coded_table};
 
@@ -28,47 +30,50 @@ impl<'a> Model for Dependencies<'a> {
 
     ghost coded = { coded_table };
 
-    ghost use Rattle.bpl_dependencies.specs.Reach.{edges_seen, AreEdges, flags_at, leads_far};
+    ghost use Rattle.bpl_dependencies.specs.Reach.{edges_seen, AreEdges};
+    ghost use Rattle.bpl_dependencies.specs.Ranks.{NeverFall};
 
     ghost view = { λ a. a.environment };
 
-    ghost invariant = { λ a. (AreEdges a.environment (edges_seen a.edges.items)) × (a.far.items ≡ flags_at a.environment (leads_far a.environment (length a.environment))) };
+    ghost invariant = { λ a. (AreEdges a.environment (edges_seen a.edges.items)) × NeverFall a.ranks.items (edges_seen a.edges.items) };
 }
 
-// Whether the name leads to itself. A name from which no way goes far doesn't.
-#[tactic(auto, using(crate::proofs::ComingBack::absent_leads, crate::proofs::ComingBack::no_far_way, crate::proofs::ComingBack::comes_back_is))]
+// Whether the name leads to itself. A name whose edges all lead to higher ranks doesn't.
+#[tactic(auto, using(crate::proofs::ComingBack::absent_leads, crate::proofs::ComingBack::higher_leads, crate::proofs::ComingBack::comes_back_is))]
 fn is_cyclic(
     alloc: Global,
     table: &Table,
     edges: &[Vec<usize>],
-    far: &[bool],
+    ranks: &[usize],
     name: &[u8],
 ) -> Result<bool, AllocError>
     requires edges { AreEdges table.now (edges_seen edges.now) }
-    requires far { far.now ≡ flags_at table.now (leads_far table.now (length table.now)) }
+    requires ranks { NeverFall ranks.now (edges_seen edges.now) }
     ensures { IfOk result (λ b. b ≡ leads_to_itself table.now name.now) }
 {
     let Some(at) = table.find(name) else {
         return Ok(false);
     };
-    if !is_set(far, at) {
-        return Ok(false);
+    if let Some(higher) = rank_of(ranks, at).checked_add(1) {
+        if !falls(ranks, higher, row(edges, at)) {
+            return Ok(false);
+        }
     }
     comes_back(alloc, edges, at)
 }
 
 impl<'a> Dependencies<'a> {
-    /// What a table's names lead to.
+    /// What a table's names lead to. The time is that of walks over the table.
     pub fn of(alloc: Global, types: Types<'a>) -> Result<Dependencies<'a>, AllocError>
         ensures { IfOk result (λ d. d ≡ types.entry) }
     {
         let edges = table_edges(alloc, types.table())?;
         let logical = logical_flags(alloc, types.table(), &edges)?;
-        let far = far_flags(alloc, types.table(), &edges)?;
+        let ranks = ranks(alloc, &edges)?;
         Ok(Dependencies {
             environment: Environment::new(types, logical),
             edges,
-            far,
+            ranks,
         })
     }
 
@@ -79,7 +84,8 @@ impl<'a> Dependencies<'a> {
         &self.environment
     }
 
-    /// Whether the name leads to itself.
+    /// Whether the name leads to itself. For a name that doesn't, the time is that of a look at the names
+    /// to which it leads.
     pub fn leads_to_itself(&self, alloc: Global, name: &[u8]) -> Result<bool, AllocError>
         ensures { IfOk result (λ b. b ≡ leads_to_itself self.now name.now) }
     {
@@ -87,7 +93,7 @@ impl<'a> Dependencies<'a> {
             alloc,
             self.environment.types().table(),
             &self.edges,
-            &self.far,
+            &self.ranks,
             name,
         )
     }

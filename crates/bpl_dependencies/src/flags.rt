@@ -1,9 +1,8 @@
-// Flags beside the entries of a table: which names are logical functions, and from which some way
-// goes on for as many steps as there are entries.
-ghost use Rattle.std.specs.Prelude.{◌≡◌, length, IfOk};
+// Which names are logical functions, as flags beside the entries of a table.
+ghost use Rattle.std.specs.Prelude.{◌≡◌, IfOk};
 ghost use Rattle.bpl_scopes.specs.LogicalView.{logical_at};
 ghost use Rattle.bpl_scopes.specs.TableView.{entries_seen};
-ghost use Rattle.bpl_dependencies.specs.Reach.{edges_seen, AreEdges, is_quantified_at, flags_at, leads_far};
+ghost use Rattle.bpl_dependencies.specs.Reach.{edges_seen, AreEdges, is_quantified_at, flags_at};
 
 use crate::quantified::is_quantified;
 use crate::reach::reached;
@@ -36,26 +35,10 @@ fn each_quantified(alloc: Global, table: &Table, entries: &[Entry]) -> Result<Ve
     Ok(flags)
 }
 
-fn each_is(alloc: Global, flag: bool, entries: &[Entry]) -> Result<Vec<bool>, AllocError>
-    ensures { IfOk result (λ v. v.items ≡ flags_at (entries_seen entries.now) (λ n. flag)) }
-{
-    let mut flags = Vec::new(alloc);
-    for _entry in entries {
-        flags.push(flag)?;
-    }
-    Ok(flags)
-}
-
 fn table_quantified(alloc: Global, table: &Table) -> Result<Vec<bool>, AllocError>
     ensures { IfOk result (λ v. v.items ≡ flags_at table.now (is_quantified_at table.now)) }
 {
     each_quantified(alloc, table, table.entries())
-}
-
-fn table_is(alloc: Global, flag: bool, table: &Table) -> Result<Vec<bool>, AllocError>
-    ensures { IfOk result (λ v. v.items ≡ flags_at table.now (λ n. flag)) }
-{
-    each_is(alloc, flag, table.entries())
 }
 
 /// Which entries' names are logical functions.
@@ -69,23 +52,6 @@ pub(crate) fn logical_flags(
     ensures { IfOk result (λ v. v.items ≡ logical_at table.now) }
 {
     let quantified = table_quantified(alloc, table)?;
-    let flags = reached(alloc, Vec::new(alloc), &quantified, edges)?;
-    Ok(flags)
-}
-
-/// From which entries' names some way goes on for as many steps as there are entries. A name that
-/// leads to itself is one of them.
-#[tactic(auto, using(crate::proofs::Reaching::far_from))]
-pub(crate) fn far_flags(
-    alloc: Global,
-    table: &Table,
-    edges: &[Vec<usize>],
-) -> Result<Vec<bool>, AllocError>
-    requires { AreEdges table.now (edges_seen edges.now) }
-    ensures { IfOk result (λ v. v.items ≡ flags_at table.now (leads_far table.now (length table.now))) }
-{
-    let all = table_is(alloc, true, table)?;
-    let none = table_is(alloc, false, table)?;
-    let flags = reached(alloc, all, &none, edges)?;
+    let flags = reached(alloc, &quantified, edges)?;
     Ok(flags)
 }

@@ -10,6 +10,7 @@ ghost use Rattle.bpl_dependencies.specs.NamesAt.{name_at, names_at, looked_name}
 ghost use Rattle.bpl_dependencies.specs.Reach.{edges_seen, AreEdges};
 
 use crate::edges::is_function_named;
+use crate::reach::row;
 use bpl_scopes::{Entry, Positions, Table};
 use std::alloc::AllocError;
 
@@ -32,10 +33,7 @@ fn edges_at(edges: &[Vec<usize>], at: Option<usize>) -> &[usize]
     ensures { result.now ≡ beside [] (edges_seen edges.now) at }
 {
     match at {
-        Some(at) => match edges.get(at) {
-            Some(found) => found,
-            None => &[],
-        },
+        Some(at) => row(edges, at),
         None => &[],
     }
 }

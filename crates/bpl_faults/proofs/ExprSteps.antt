@@ -1,9 +1,9 @@
 -- The faults of lists of expressions begin with those of the first, and the sorts too.
 use Rattle.std.proofs.Common.{◌≡◌, refl, sym, ap, ◌∙◌, Bool, true, false, ◌&&◌, List, [], ◌∷◌, ◌++◌, Option, Some, None}
-use Rattle.logic_core.proofs.Booleans.{and_assoc}
+use Rattle.logic_terms.proofs.Booleans.{and_assoc}
 use Rattle.bv_base.specs.declared.place.Place.{Place}
-use Rattle.logic_core.specs.Tree.{Kind, int}
-use Rattle.logic_core.specs.Sorts.{is}
+use Rattle.logic_terms.specs.Tree.{Kind, int}
+use Rattle.logic_terms.specs.Sorts.{is}
 use Rattle.bpl_ast.specs.Tree.{Expr, first_place}
 use Rattle.bpl_ast.specs.ExprView.{exprs_of, terms_of, indices_of, triggers_of}
 use Rattle.bpl_ast.specs.declared.expr.Term.{Term}

@@ -1,6 +1,6 @@
 -- Whether all names of groups have types with sorts.
 use Rattle.std.proofs.Common.{◌≡◌, refl, sym, ap, ◌∙◌, Bool, true, false, true≢false, ◌&&◌, is_some, List, [], ◌∷◌, ◌++◌, slice_get, Option, Some, None}
-use Rattle.logic_core.specs.Tree.{Kind}
+use Rattle.logic_terms.specs.Tree.{Kind}
 use Rattle.bpl_ast.specs.Place.{Name, Ty}
 use Rattle.bpl_ast.specs.ExprView.{groups_of}
 use Rattle.bpl_ast.specs.declared.expr.Group.{Group}

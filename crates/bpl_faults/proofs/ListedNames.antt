@@ -3,7 +3,7 @@ use Rattle.std.proofs.Common.{◌≡◌, refl, sym, ap, ◌∙◌, Bool, ◌||�
 use Rattle.std.specs.List.{list_any}
 use Rattle.std.proofs.lemmas.List.{append_assoc, reverse-append, map_push}
 use Rattle.std.proofs.lemmas.List.Folds.{list_any-append}
-use Rattle.logic_core.specs.Tree.{Kind}
+use Rattle.logic_terms.specs.Tree.{Kind}
 use Rattle.bpl_ast.specs.Place.{Name, Ty}
 use Rattle.bpl_ast.specs.ExprView.{groups_of}
 use Rattle.bpl_ast.specs.declared.expr.Group.{Group}

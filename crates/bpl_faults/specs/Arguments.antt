@@ -1,7 +1,7 @@
 -- An argument and its parameter, which is missing where there are more arguments than parameters.
 use Rattle.std.specs.Prelude.{Bool, false, List, ◌++◌, map, Option, Some, None}
 use Rattle.std.specs.Borrow.{Bor}
-use Rattle.logic_core.specs.Tree.{Kind}
+use Rattle.logic_terms.specs.Tree.{Kind}
 use Rattle.bpl_ast.specs.Place.{Name}
 use Rattle.bpl_ast.specs.Tree.{Expr, first_place}
 use Rattle.bpl_scopes.specs.declared.fault.Fault.{Fault}

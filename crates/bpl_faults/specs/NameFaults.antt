@@ -1,8 +1,8 @@
 -- The faults of a name in an expression, by what it stands for.
 use Rattle.std.specs.Prelude.{ℕ, Bool, true, false, ◌&&◌, not, nat_eq, List, [], ◌++◌, length, Option, Some, None}
 use Rattle.bv_base.specs.declared.place.Place.{Place}
-use Rattle.logic_core.specs.Tree.{Kind}
-use Rattle.logic_core.specs.Same.{same_kind}
+use Rattle.logic_terms.specs.Tree.{Kind}
+use Rattle.logic_terms.specs.Same.{same_kind}
 use Rattle.bpl_scopes.specs.declared.fault.TypeKind.TheVariants.{Unknown as unknown, Kind as wrong_kind, Sort as wrong_sort, Arity as arity, QuantifierHere as quantifier_here, OldHere as old_here}
 use Rattle.bpl_scopes.specs.declared.fault.Fault.{Fault}
 use Rattle.bpl_scopes.specs.Fault.{fault, unless, if_so}

@@ -1,6 +1,6 @@
 -- What the code's variables and scopes stand for.
 use Rattle.std.specs.Prelude.{◌≡◌, ℕ, List, map, Option, Some, None}
-use Rattle.logic_core.specs.Tree.{Kind}
+use Rattle.logic_terms.specs.Tree.{Kind}
 use Rattle.bpl_scopes.specs.declared.shape.Shape.{Shape}
 use Rattle.bpl_scopes.specs.Scopes.{Text, Var as variable, Scope as around, Meaning as sense, bound_to, stands_for, declared_as, nothing}
 use Rattle.bpl_scopes.specs.Shape.{kind_seen}

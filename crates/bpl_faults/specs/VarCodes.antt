@@ -1,8 +1,8 @@
 -- Codes of variables, by which proofs tell them apart.
 use Rattle.std.specs.Prelude.{◌≡◌, ℕ, zero, suc, List, Option, refl}
 use Rattle.std.specs.Coded.{Coded, code_by, coded×, coded_ℕ, coded_list, coded_option}
-use Rattle.logic_core.specs.Tree.{Kind}
-use Rattle.logic_core.specs.Codes.{coded_kind}
+use Rattle.logic_terms.specs.Tree.{Kind}
+use Rattle.logic_terms.specs.Codes.{coded_kind}
 use Rattle.bpl_scopes.specs.declared.part.Role.{Role}
 use Rattle.bpl_scopes.specs.declared.part.Role.TheVariants.{In, Out, Local}
 use Rattle.bpl_scopes.specs.Scopes.{Var}

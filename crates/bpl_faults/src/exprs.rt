@@ -1,8 +1,8 @@
 // The faults and the sort of an expression, in one walk.
 ghost use Rattle.std.specs.Prelude.{◌≡◌, ◌&&◌, false, Some, IfOk, OnOk};
-ghost use Rattle.logic_core.specs.Sorts.{is, choice_sort};
-ghost use Rattle.logic_core.specs.Wide.{when};
-ghost use Rattle.logic_core.specs.Tree.{int, boolean};
+ghost use Rattle.logic_terms.specs.Sorts.{is, choice_sort};
+ghost use Rattle.logic_terms.specs.Wide.{when};
+ghost use Rattle.logic_terms.specs.Tree.{int, boolean};
 ghost use Rattle.bpl_ast.specs.Tree.{variable, apply, choose, related, sums, indexed, quantified};
 ghost use Rattle.bpl_ast.specs.ExprView.{exprs_of, terms_of, indices_of, triggers_of, groups_of, relation_of, quantifier_of};
 ghost use Rattle.bpl_scopes.specs.Fault.{earlier, first_fault};

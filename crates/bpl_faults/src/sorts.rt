@@ -1,8 +1,8 @@
 // The sorts of constructs by those of their parts.
 ghost use Rattle.std.specs.Prelude.{◌≡◌, ◌&&◌, ◌++◌, List, Option, Some, IfOk};
-ghost use Rattle.logic_core.specs.Tree.{Kind, int, boolean};
-ghost use Rattle.logic_core.specs.Sorts.{is, read_sort, write_sort, choice_sort, equation_sort};
-ghost use Rattle.logic_core.specs.Wide.{when};
+ghost use Rattle.logic_terms.specs.Tree.{Kind, int, boolean};
+ghost use Rattle.logic_terms.specs.Sorts.{is, read_sort, write_sort, choice_sort, equation_sort};
+ghost use Rattle.logic_terms.specs.Wide.{when};
 ghost use Rattle.bpl_ast.specs.ExprView.{relation_of, groups_of};
 ghost use Rattle.bpl_scopes.specs.Fault.{earlier, first_fault};
 ghost use Rattle.bpl_scopes.specs.Scopes.{hidden_in, names_of, typed_names};

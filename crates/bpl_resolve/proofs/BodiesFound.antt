@@ -4,8 +4,8 @@ use Rattle.std.specs.Prelude.{bytes_eq, cond, option_map}
 use Rattle.bpl_ast.specs.Statement.{DeclBody, constant, function, axiom_of, variables, synonym, procedure, implementation, Decl}
 use Rattle.bpl_scopes.specs.Positions.{first_at}
 use Rattle.bpl_scopes.specs.Scopes.{Text, Table, Counts}
-use Rattle.module_laws.specs.Elaborate.{Implemented, or_else, own_body, implements, implementation_of, proc_of, procs_in}
-use Rattle.module_laws.proofs.Ways.{same_text, text_itself}
+use Rattle.bpl_resolve.specs.Elaborate.{Implemented, or_else, own_body, implements, implementation_of, proc_of, procs_in}
+use Rattle.bpl_resolve.proofs.Ways.{same_text, text_itself}
 use Rattle.bpl_resolve.specs.Implemented.{name_of_body, body_given, names_of_bodies, bodies_given, body_at, body_for, procs_with}
 
 turned : (m n : Text) → bytes_eq m n ≡ bytes_eq n m

@@ -7,9 +7,9 @@ use Rattle.bpl_scopes.specs.Fault.{is_among}
 use Rattle.bpl_scopes.specs.Positions.{first_at}
 use Rattle.bpl_scopes.specs.Scopes.{Text, Table, entity_of}
 use Rattle.bpl_scopes.specs.Functions.{leads, leads_to_itself, numbered, function_names, in_number_order}
-use Rattle.module_laws.proofs.Ways.{Member, member_any, any_member, same_text, text_itself, leads_step, leads_one, leads_up}
-use Rattle.module_laws.proofs.TypesKnown.{SynonymsFine}
-use Rattle.module_laws.proofs.FunctionOrder.{IsFunction, NextOf, either_side, next_functions, names_are}
+use Rattle.bpl_resolve.proofs.Ways.{Member, member_any, any_member, same_text, text_itself, leads_step, leads_one, leads_up}
+use Rattle.bpl_resolve.proofs.TypesKnown.{SynonymsFine}
+use Rattle.bpl_resolve.proofs.FunctionOrder.{IsFunction, NextOf, either_side, next_functions, names_are}
 
 -- each name stands first where it stands
 abbrev pub Distinct : List Text → Type 0

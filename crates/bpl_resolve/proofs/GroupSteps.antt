@@ -9,7 +9,7 @@ use Rattle.bpl_scopes.specs.Scopes.{Text, Scope}
 use Rattle.bpl_scopes.specs.Sorts.{sort_of_type}
 use Rattle.bpl_faults.proofs.ListedNames.{next_dropped}
 use Rattle.bpl_terms.specs.Terms.{sort_or_int}
-use Rattle.module_laws.specs.Elaborate.{clause_term}
+use Rattle.bpl_resolve.specs.Elaborate.{clause_term}
 use Rattle.bpl_resolve.specs.Locals.{locals_in, globals_of}
 
 module _ (s : Scope) where

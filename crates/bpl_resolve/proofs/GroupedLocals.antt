@@ -11,7 +11,7 @@ use Rattle.bpl_scopes.specs.Scopes.{Text, Table, Counts, Scope, typed_names, nam
 use Rattle.bpl_scopes.specs.Sorts.{sort_of_type}
 use Rattle.bpl_declaration_faults.specs.Variables.{vars_from, locals_of, names_in_body, in_vars, out_vars, local_vars, parameters, body_vars, scope_of}
 use Rattle.bpl_terms.specs.Terms.{sort_or_int}
-use Rattle.module_laws.specs.Elaborate.{clause_term, clause_terms, locals_with, globals_with}
+use Rattle.bpl_resolve.specs.Elaborate.{clause_term, clause_terms, locals_with, globals_with}
 use Rattle.bpl_resolve.specs.Locals.{locals_in, globals_of}
 
 module _ (s : Scope) (hidden : List Text) (r : Role) where

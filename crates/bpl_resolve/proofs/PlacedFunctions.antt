@@ -11,10 +11,10 @@ use Rattle.bpl_scopes.specs.Positions.{first_at}
 use Rattle.bpl_scopes.specs.Scopes.{Text, Entity, a_constant, a_global, a_function, a_synonym, a_procedure, Table, table_of, Counts, no_counts, counts_after, entity_of}
 use Rattle.bpl_scopes.specs.Functions.{is_function, function_in, in_number_order}
 use Rattle.bpl_declaration_faults.specs.DeclFaults.{fault_of}
-use Rattle.module_laws.specs.Elaborate.{function_def, typed_module}
-use Rattle.module_laws.proofs.Ways.{same_text}
-use Rattle.module_laws.proofs.EntriesFine.{synonyms_fine}
-use Rattle.module_laws.proofs.ModuleSorts.{fine, acyclic}
+use Rattle.bpl_resolve.specs.Elaborate.{function_def, typed_module}
+use Rattle.bpl_resolve.proofs.Ways.{same_text}
+use Rattle.bpl_resolve.proofs.EntriesFine.{synonyms_fine}
+use Rattle.bpl_resolve.proofs.ModuleSorts.{fine, acyclic}
 use Rattle.bpl_resolve.specs.Places.{function_name, put_at, place, places_from, places, named_function, function_at}
 use Rattle.bpl_resolve.proofs.DistinctOrder.{Distinct, order_distinct}
 use Rattle.bpl_resolve.proofs.FunctionEntries.{is_named, declares, function_declared}

@@ -9,7 +9,7 @@ use Rattle.bpl_model.specs.StmtView.{stmts_of as module_stmts}
 use Rattle.bpl_scopes.specs.Scopes.{Scope}
 use Rattle.bpl_terms.specs.Terms.{term_of}
 use Rattle.bpl_terms.specs.TermParts.{each_term}
-use Rattle.module_laws.specs.Elaborate.{arguments, stmts_of, stmt_of}
+use Rattle.bpl_resolve.specs.Elaborate.{arguments, stmts_of, stmt_of}
 
 pub stmts_are : (s : Scope) (ss : List Statement) → module_stmts (map (stmt_of s) ss) ≡ stmts_of s (stmts_tree ss)
 stmts_are s [] = refl

@@ -2,7 +2,7 @@
 use Rattle.std.specs.Prelude.{◌≡◌, List, Some, ⊤}
 use Rattle.bpl_ast.specs.Statement.{Decl}
 use Rattle.bpl_declaration_faults.specs.DeclFaults.{fault_of}
-use Rattle.bpl_first_fault.specs.FaultView.{fault_seen}
+use Rattle.bpl_resolve.specs.FaultView.{fault_seen}
 use Rattle.bpl_resolve.specs.declared.fault.ResolveFault.{ResolveFault}
 use Rattle.bpl_resolve.specs.declared.fault.ResolveFault.TheVariants.{Fault, Memory}
 

@@ -4,7 +4,7 @@ use Rattle.bpl_ast.specs.Statement.{DeclBody, implementation, procedure, Decl}
 use Rattle.bpl_model.specs.Module.{Proc}
 use Rattle.bpl_scopes.specs.Positions.{first_at}
 use Rattle.bpl_scopes.specs.Scopes.{Text, Table, Counts}
-use Rattle.module_laws.specs.Elaborate.{Implemented as implemented, or_else, own_body, proc_of}
+use Rattle.bpl_resolve.specs.Elaborate.{Implemented as implemented, or_else, own_body, proc_of}
 use Rattle.bpl_resolve.specs.declared.implementations.Implemented.{Implemented}
 
 abbrev pub implemented_seen : Implemented → implemented

@@ -3,3 +3,7 @@ pub mod Weights
 pub mod Locals
 pub mod Implemented
 pub mod Places
+pub mod Elaborated
+pub mod Elaborate
+pub mod ModuleLaws
+pub mod FaultView

@@ -6,7 +6,7 @@ use Rattle.bpl_model.specs.Module.{Global, Local}
 use Rattle.bpl_scopes.specs.Scopes.{Text, Scope}
 use Rattle.bpl_scopes.specs.Sorts.{sort_of_type}
 use Rattle.bpl_terms.specs.Terms.{sort_or_int}
-use Rattle.module_laws.specs.Elaborate.{clause_term}
+use Rattle.bpl_resolve.specs.Elaborate.{clause_term}
 
 -- variables of one type, where some names are no types, with one clause
 abbrev pub locals_in : Scope → List Text → Groups → List Local

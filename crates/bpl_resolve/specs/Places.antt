@@ -5,7 +5,7 @@ use Rattle.bpl_model.specs.Module.{Function}
 use Rattle.bpl_scopes.specs.Positions.{first_at}
 use Rattle.bpl_scopes.specs.Scopes.{Text, Table, Counts, entity_of}
 use Rattle.bpl_scopes.specs.Functions.{function_in}
-use Rattle.module_laws.specs.Elaborate.{function_def}
+use Rattle.bpl_resolve.specs.Elaborate.{function_def}
 
 -- the function that a declaration declares
 abbrev pub function_name : DeclBody → Option Text

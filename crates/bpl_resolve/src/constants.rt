@@ -6,7 +6,7 @@ ghost use Rattle.bpl_scopes.specs.Shape.{kind_seen};
 ghost use Rattle.bpl_scopes.specs.declared.part.Part.TheVariants.{Axiom as in_axiom};
 ghost use Rattle.bpl_declaration_faults.specs.Variables.{scope_of};
 ghost use Rattle.bpl_terms.specs.Terms.{sort_or_int, term_of};
-ghost use Rattle.module_laws.specs.Elaborate.{consts_in, axioms_in};
+ghost use Rattle.bpl_resolve.specs.Elaborate.{consts_in, axioms_in};
 
 use crate::names::name_of;
 use bpl_ast::{Decl, DeclBody, Expr, Name};

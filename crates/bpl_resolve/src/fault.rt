@@ -1,7 +1,7 @@
 // Why a program stands for no module.
 ghost use Rattle.std.specs.Prelude.{◌≡◌};
 
-use bpl_first_fault::program::TypeFault;
+use crate::type_fault::TypeFault;
 use std::alloc::AllocError;
 use thiserror::Error;
 

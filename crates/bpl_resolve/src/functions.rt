@@ -8,7 +8,7 @@ ghost use Rattle.bpl_scopes.specs.TableView.{entity_seen};
 ghost use Rattle.bpl_declaration_faults.specs.DeclFaults.{fault_of};
 ghost use Rattle.bpl_declaration_faults.specs.Variables.{function_scope};
 ghost use Rattle.bpl_terms.specs.Terms.{sort_or_int, term_of};
-ghost use Rattle.module_laws.specs.Elaborate.{value_term, function_def, typed_module};
+ghost use Rattle.bpl_resolve.specs.Elaborate.{value_term, function_def, typed_module};
 ghost use Rattle.bpl_resolve.specs.Places.{function_at, named_function, places};
 
 use crate::arguments::{argument_sorts, bound_arguments};

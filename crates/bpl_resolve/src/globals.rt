@@ -6,7 +6,7 @@ ghost use Rattle.bpl_scopes.specs.Functions.{in_number_order};
 ghost use Rattle.bpl_scopes.specs.Shape.{kind_seen};
 ghost use Rattle.bpl_faults.specs.ScopeView.{scope_seen};
 ghost use Rattle.bpl_terms.specs.Terms.{sort_or_int};
-ghost use Rattle.module_laws.specs.Elaborate.{clause_term, globals_in};
+ghost use Rattle.bpl_resolve.specs.Elaborate.{clause_term, globals_in};
 ghost use Rattle.bpl_resolve.specs.Locals.{globals_of};
 
 use crate::names::name_of;

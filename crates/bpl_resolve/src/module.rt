@@ -4,7 +4,7 @@ ghost use Rattle.bpl_scopes.specs.CountsView.{counts_seen};
 ghost use Rattle.bpl_scopes.specs.Functions.{in_number_order};
 ghost use Rattle.bpl_scopes.specs.Scopes.{table_of};
 ghost use Rattle.bpl_declaration_faults.specs.DeclFaults.{fault_of};
-ghost use Rattle.module_laws.specs.Elaborate.{typed_module, module_of};
+ghost use Rattle.bpl_resolve.specs.Elaborate.{typed_module, module_of};
 
 use crate::constants::{axioms, constants};
 use crate::functions::functions;
@@ -13,9 +13,9 @@ use crate::procedures::procedures;
 use crate::texts::decl_texts;
 use bpl_ast::Decl;
 use bpl_declaration_faults::Declared;
-use bpl_dependencies::Dependencies;
+use bpl_dependencies::Declarations;
 use bpl_model::Parts;
-use bpl_scopes::{Counts, Positions, Types, declare_all};
+use bpl_scopes::Positions;
 use std::alloc::{AllocError, Global};
 
 // The parts of the module, over what is declared.
@@ -42,17 +42,15 @@ fn parts_over<'d, 'a>(
 
 /// The parts of the module that a program without faults stands for. The only error is want of
 /// memory.
-pub fn parts(alloc: Global, decls: &[Decl]) -> Result<Parts, AllocError>
-    requires { fault_of decls.now ≡ None }
-    ensures { IfOk result (λ p. p ≡ module_of decls.now) }
+pub fn parts<'a>(alloc: Global, declarations: &Declarations<'a>) -> Result<Parts, AllocError>
+    requires { fault_of declarations.now ≡ None }
+    ensures { IfOk result (λ p. p ≡ module_of declarations.now) }
 {
-    let (table, counts) = declare_all(alloc, decls)?;
-    let types = Types::of(alloc, table)?;
-    let dependencies = Dependencies::of(alloc, types)?;
+    let dependencies = declarations.dependencies();
     let order = dependencies.function_order(alloc)?;
     let declared = Declared {
         environment: dependencies.environment(),
-        counts,
+        counts: declarations.counts(),
     };
-    parts_over(alloc, &declared, &order, decls)
+    parts_over(alloc, &declared, &order, declarations.decls())
 }

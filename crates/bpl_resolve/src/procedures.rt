@@ -5,7 +5,7 @@ ghost use Rattle.bpl_scopes.specs.CountsView.{counts_seen};
 ghost use Rattle.bpl_scopes.specs.Functions.{in_number_order};
 ghost use Rattle.bpl_scopes.specs.declared.part.Part.TheVariants.{Body as in_body, ClauseOfIn as in_clause_of_in, ClauseOfOut as in_clause_of_out, ClauseOfLocal as in_clause_of_local};
 ghost use Rattle.bpl_declaration_faults.specs.Variables.{in_vars, out_vars, local_vars, parameters, body_vars, scope_of};
-ghost use Rattle.module_laws.specs.Elaborate.{clause_terms, locals_with, stmts_of, or_else, own_body, proc_locals, proc_body, proc_of, procs_in};
+ghost use Rattle.bpl_resolve.specs.Elaborate.{clause_terms, locals_with, stmts_of, or_else, own_body, proc_locals, proc_body, proc_of, procs_in};
 ghost use Rattle.bpl_resolve.specs.Implemented.{implemented_seen, bodies_seen, body_for, procs_with};
 
 use crate::implementations::{Implementations, Implemented};

@@ -4,7 +4,7 @@ ghost use Rattle.bpl_ast.specs.SpecView.{spec_of as spec_tree};
 ghost use Rattle.bpl_scopes.specs.CountsView.{counts_seen};
 ghost use Rattle.bpl_scopes.specs.Functions.{in_number_order};
 ghost use Rattle.bpl_scopes.specs.TableView.{entity_seen};
-ghost use Rattle.module_laws.specs.Elaborate.{entity_number, modified_number, spec_in};
+ghost use Rattle.bpl_resolve.specs.Elaborate.{entity_number, modified_number, spec_in};
 
 use bpl_ast::{Name, Spec, SpecForm};
 use bpl_declaration_faults::Declared;

@@ -9,7 +9,7 @@ ghost use Rattle.bpl_scopes.specs.TableView.{entity_seen};
 ghost use Rattle.bpl_faults.specs.ScopeView.{scope_seen};
 ghost use Rattle.bpl_model.specs.StmtView.{stmts_of as module_stmts};
 ghost use Rattle.bpl_model.specs.Module.{«break», if_else, while};
-ghost use Rattle.module_laws.specs.Elaborate.{labelled_as, procedure_number, guard_of, invariants_of, is_else, stmts_of, stmt_of, action_of, chain_of, others_of};
+ghost use Rattle.bpl_resolve.specs.Elaborate.{labelled_as, procedure_number, guard_of, invariants_of, is_else, stmts_of, stmt_of, action_of, chain_of, others_of};
 
 use crate::names::{name_of, names_of};
 use crate::targets::{assignments, guard_of, invariants_of, target_numbers};

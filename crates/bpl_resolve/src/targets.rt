@@ -3,7 +3,7 @@ ghost use Rattle.std.specs.Prelude.{◌≡◌, IfOk};
 ghost use Rattle.bpl_ast.specs.ExprView.{exprs_of};
 ghost use Rattle.bpl_scopes.specs.Functions.{in_number_order};
 ghost use Rattle.bpl_faults.specs.ScopeView.{scope_seen};
-ghost use Rattle.module_laws.specs.Elaborate.{number_of_term, target_number, target_numbers, assignment, assignments, guard_of, invariants_of};
+ghost use Rattle.bpl_resolve.specs.Elaborate.{number_of_term, target_number, target_numbers, assignment, assignments, guard_of, invariants_of};
 
 use bpl_ast::{Expr, Invariant as AstInvariant, Name, Target};
 use bpl_faults::Scope;

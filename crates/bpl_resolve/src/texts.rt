@@ -1,12 +1,13 @@
 // The texts of declarations.
 ghost use Rattle.std.specs.Prelude.{◌≡◌, map, length, IfOk};
 ghost use Rattle.bpl_texts.specs.Uses.{contract_uses, decl_uses, leads_of};
-ghost use Rattle.module_laws.specs.Elaborate.{decl_text};
+ghost use Rattle.bpl_resolve.specs.Elaborate.{decl_text};
 
-use bpl_ast::{Decl, print_contract};
+use bpl_ast::Decl;
 use bpl_model::{DeclText, Name};
 use bpl_scopes::Table;
 use bpl_texts::{contract_uses, decl_uses, leads_of, print_text};
+use canonical_text::print_contract;
 use std::alloc::{AllocError, Global};
 
 // The declarations to which the names in a text lead, among so many.

@@ -7,7 +7,7 @@ ghost use Rattle.bpl_scopes.specs.KnownSorts.{hidden_seen};
 ghost use Rattle.bpl_scopes.specs.Shape.{kind_seen};
 ghost use Rattle.bpl_faults.specs.ScopeView.{scope_seen};
 ghost use Rattle.bpl_terms.specs.Terms.{sort_or_int};
-ghost use Rattle.module_laws.specs.Elaborate.{clause_term};
+ghost use Rattle.bpl_resolve.specs.Elaborate.{clause_term};
 ghost use Rattle.bpl_resolve.specs.Locals.{locals_in};
 
 use crate::names::name_of;

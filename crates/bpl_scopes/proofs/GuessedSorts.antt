@@ -3,10 +3,10 @@ use Rattle.std.proofs.Common.{◌≡◌, refl, sym, ap, ◌∙◌, subst, ℕ, z
 use Rattle.std.specs.Prelude.{◌⊎◌, slice_set}
 use Rattle.std.proofs.lemmas.Option.{slice_get-map}
 use mathlib.Core.Logic.{inl, inr}
-use Rattle.logic_core.specs.Tree.{Kind, map as map_of}
-use Rattle.logic_core.specs.Wide.{◌>>=◌, when}
-use Rattle.logic_core.specs.Sorts.{is}
-use Rattle.logic_core.specs.Tree.{int}
+use Rattle.logic_terms.specs.Tree.{Kind, map as map_of}
+use Rattle.logic_terms.specs.Wide.{◌>>=◌, when}
+use Rattle.logic_terms.specs.Sorts.{is}
+use Rattle.logic_terms.specs.Tree.{int}
 use Rattle.bpl_ast.specs.Place.{Params, Ty, integer, boolean as truth_type, named, map_type, Tys, no_tys, ty}
 use Rattle.bpl_scopes.specs.Positions.{or_other, beside, first_at}
 use Rattle.bpl_scopes.specs.Scopes.{Text, Table, Entry, entity_of}

@@ -1,8 +1,8 @@
 -- When two sorts under maps are one.
 use Rattle.std.proofs.Common.{◌≡◌, refl, ap, sym, ◌∙◌, ℕ, zero, suc, true, false, ◌-◌, Some, None, true≢false, arith}
-use Rattle.logic_core.specs.Tree.{Kind, int, boolean, map}
-use Rattle.logic_core.specs.Same.{same_kind}
-use Rattle.logic_core.specs.Sorts.{range}
+use Rattle.logic_terms.specs.Tree.{Kind, int, boolean, map}
+use Rattle.logic_terms.specs.Same.{same_kind}
+use Rattle.logic_terms.specs.Sorts.{range}
 use Rattle.bpl_scopes.specs.declared.shape.Base.{Base}
 use Rattle.bpl_scopes.specs.declared.shape.Base.TheVariants.{Int, Bool as Truth}
 use Rattle.bpl_scopes.specs.Shape.{nested, base_of, same_base}

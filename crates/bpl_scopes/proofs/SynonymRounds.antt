@@ -1,7 +1,7 @@
 -- The sorts of synonyms in rounds, and that they stay once a round finds nothing new.
 use Rattle.std.proofs.Common.{◌≡◌, refl, sym, ap, ◌∙◌, ℕ, zero, suc, ◌+◌, ◌-◌, ◌≤◌, Bool, true, false, true≢false, cond, is_some, List, [], ◌∷◌, map, length, Option, Some, None, arith}
-use Rattle.logic_core.specs.Tree.{Kind}
-use Rattle.logic_core.specs.Wide.{◌>>=◌}
+use Rattle.logic_terms.specs.Tree.{Kind}
+use Rattle.logic_terms.specs.Wide.{◌>>=◌}
 use Rattle.bpl_ast.specs.Place.{Ty, Tys}
 use Rattle.bpl_scopes.specs.Fault.{is_among}
 use Rattle.bpl_scopes.specs.Positions.{first_at}

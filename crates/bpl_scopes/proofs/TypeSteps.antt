@@ -1,6 +1,6 @@
 -- The faults of a list begin with those of its first item; which sorts are the one type `int`; and the names of bound variables.
 use Rattle.std.proofs.Common.{◌≡◌, refl, Bool, true, false, ◌||◌, List, [], ◌∷◌, length, Option, Some, None, bytes_eq}
-use Rattle.logic_core.specs.Tree.{Kind}
+use Rattle.logic_terms.specs.Tree.{Kind}
 use Rattle.bpl_ast.specs.Place.{Ty}
 use Rattle.bpl_ast.specs.TypeView.{tys_of}
 use Rattle.bpl_ast.specs.ExprView.{groups_of, clause_of}

@@ -1,6 +1,6 @@
 -- Sorts of synonyms that are right as far as they are there.
 use Rattle.std.specs.Prelude.{◌≡◌, ◌⊎◌, ℕ, List, [], ◌∷◌, map, Option, None, Some, slice_get, slice_set, ⊤}
-use Rattle.logic_core.specs.Tree.{Kind}
+use Rattle.logic_terms.specs.Tree.{Kind}
 use Rattle.bpl_scopes.specs.Scopes.{Table, Entry}
 use Rattle.bpl_scopes.specs.Sorts.{sort_after}
 use Rattle.bpl_scopes.specs.KnownSorts.{known_sort}

@@ -1,6 +1,6 @@
 -- The sorts of synonyms, kept beside the entries of the table, and the names that are no types.
 use Rattle.std.specs.Prelude.{ℕ, List, ◌++◌, map, Option, None, option_map}
-use Rattle.logic_core.specs.Tree.{Kind}
+use Rattle.logic_terms.specs.Tree.{Kind}
 use Rattle.bpl_scopes.specs.Fault.{is_among}
 use Rattle.bpl_scopes.specs.Positions.{at_name}
 use Rattle.bpl_scopes.specs.Scopes.{Text, Table, Entry, BoundVar, bound_names}

@@ -1,6 +1,6 @@
 -- What is declared under which name, and what a name stands for in an expression.
 use Rattle.std.specs.Prelude.{ℕ, suc, ◌+◌, Bool, true, false, cond, List, [], ◌∷◌, ◌++◌, map, length, find, bytes_eq, Option, Some, None, option_map}
-use Rattle.logic_core.specs.Tree.{Kind}
+use Rattle.logic_terms.specs.Tree.{Kind}
 use Rattle.bpl_ast.specs.Place.{Name, Ty}
 use Rattle.bpl_ast.specs.Tree.{Expr, Groups, no_groups, group}
 use Rattle.bpl_ast.specs.Statement.{Spec, Signature, Argument, DeclBody, constant, function, axiom_of, variables, synonym, procedure, implementation, Decl}

@@ -1,6 +1,6 @@
 -- Sorts as how many maps stand around the integers or the truth values.
 use Rattle.std.specs.Prelude.{ℕ, zero, suc, Bool, true, false, Option, option_map}
-use Rattle.logic_core.specs.Tree.{Kind, int, boolean, map}
+use Rattle.logic_terms.specs.Tree.{Kind, int, boolean, map}
 use Rattle.bpl_scopes.specs.declared.shape.Base.{Base}
 use Rattle.bpl_scopes.specs.declared.shape.Base.TheVariants.{Int, Bool as Truth}
 use Rattle.bpl_scopes.specs.declared.shape.Shape.{Shape}

@@ -1,8 +1,8 @@
 -- What a type stands for, and the sort of an expression, where it has one.
 use Rattle.std.specs.Prelude.{ℕ, zero, suc, Bool, true, false, ◌&&◌, List, [], ◌∷◌, ◌++◌, map, length, reverse, Option, Some, None, option_map}
-use Rattle.logic_core.specs.Tree.{Kind, int, boolean, map as map_of}
-use Rattle.logic_core.specs.Wide.{◌>>=◌, when}
-use Rattle.logic_core.specs.Sorts.{is, read_sort, write_sort, choice_sort, equation_sort}
+use Rattle.logic_terms.specs.Tree.{Kind, int, boolean, map as map_of}
+use Rattle.logic_terms.specs.Wide.{◌>>=◌, when}
+use Rattle.logic_terms.specs.Sorts.{is, read_sort, write_sort, choice_sort, equation_sort}
 use Rattle.bpl_ast.specs.Place.{Name, Params, Ty, integer, boolean as truth_type, named, map_type, Tys, no_tys, ty}
 use Rattle.bpl_ast.specs.Tree.{Relation, eq, ne, lt, le, gt, ge, Expr, expr, Node, number, truth, variable, apply, old, choose, quantified, iffs, implies, ands, ors, related, sums, products, negation, minus, indexed, Exprs, no_exprs, item, Terms, no_terms, plus, less, Indices, no_indices, at_index, update, Triggers, no_triggers, trigger, Groups}
 use Rattle.bpl_ast.specs.Statement.{Argument}

@@ -1,8 +1,8 @@
 // Sorts without memory: how many maps stand around the integers or the truth values.
 ghost use Rattle.std.specs.Prelude.{◌≡◌, IfOk};
-ghost use Rattle.logic_core.specs.Tree.{int, boolean, map as map_of};
-ghost use Rattle.logic_core.specs.Same.{same_kind};
-ghost use Rattle.logic_core.specs.Sorts.{is, range};
+ghost use Rattle.logic_terms.specs.Tree.{int, boolean, map as map_of};
+ghost use Rattle.logic_terms.specs.Same.{same_kind};
+ghost use Rattle.logic_terms.specs.Sorts.{is, range};
 ghost use Rattle.bpl_scopes.specs.Shape.{same_base, kind_of, kind_seen};
 
 use std::alloc::AllocError;

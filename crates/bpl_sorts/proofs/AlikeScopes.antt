@@ -15,11 +15,11 @@ use Rattle.bpl_scopes.specs.Sorts.{sort_of_type, argument_sorts, reads_globals, 
 use Rattle.bpl_scopes.specs.Functions.{is_function, function_in, in_number_order, position_of, function_number}
 use Rattle.bpl_declaration_faults.specs.DeclFaults.{fault_of}
 use Rattle.bpl_terms.specs.Terms.{global_at, meaning_term}
-use Rattle.module_laws.proofs.Ways.{Member, text_itself, same_text}
-use Rattle.module_laws.proofs.EntriesFine.{synonyms_fine}
-use Rattle.module_laws.proofs.FunctionOrder.{order_has}
-use Rattle.module_laws.proofs.ModuleSorts.{fine, acyclic, slice_left, slice_right}
-use Rattle.module_laws.proofs.ScopesKnown.{name_has, var_in_has, any_bounds}
+use Rattle.bpl_resolve.proofs.Ways.{Member, text_itself, same_text}
+use Rattle.bpl_resolve.proofs.EntriesFine.{synonyms_fine}
+use Rattle.bpl_resolve.proofs.FunctionOrder.{order_has}
+use Rattle.bpl_resolve.proofs.ModuleSorts.{fine, acyclic, slice_left, slice_right}
+use Rattle.bpl_resolve.proofs.ScopesKnown.{name_has, var_in_has, any_bounds}
 use Rattle.bpl_sorts.specs.Types.{Ty, Head}
 use Rattle.bpl_sorts.specs.Typed.{HasType}
 use Rattle.bpl_sorts.specs.TypeNames.{number_of, type_of}

@@ -2,11 +2,11 @@
 use Rattle.std.proofs.Common.{◌≡◌, refl, sym, ap, ◌∙◌, subst, ℕ, ◌++◌, List, [], ◌∷◌, map, take, drop, length, suc}
 use Rattle.std.specs.List.{AllZip}
 use Rattle.std.proofs.lemmas.List.{take_at, drop_at}
-use Rattle.module_laws.proofs.Procedures.{map_length}
+use Rattle.bpl_resolve.proofs.ProcedureVariables.{map_length}
 use Rattle.bpl_ast.specs.Statement.{Decl}
 use Rattle.bpl_model.specs.Module.{Local, Proc, Module}
 use Rattle.bpl_model.specs.Numbering.{local_sorts}
-use Rattle.module_laws.specs.Elaborate.{module_of}
+use Rattle.bpl_resolve.specs.Elaborate.{module_of}
 use Rattle.bpl_sorts.specs.Types.{Ty, kind_of, kinds_of}
 use Rattle.bpl_sorts.specs.DeclaredTypes.{ProcTypes, Types, declared_types}
 use Rattle.bpl_sorts.specs.Erased.{axioms_after, erased}

@@ -12,7 +12,7 @@ use Rattle.bpl_scopes.specs.Positions.{first_at, or_other}
 use Rattle.bpl_scopes.specs.Scopes.{Text, Table, Entry, typed_names, names_of}
 use Rattle.bpl_declaration_faults.specs.Variables.{locals_of}
 use Rattle.bpl_faults.proofs.ListedNames.{next_dropped}
-use Rattle.module_laws.proofs.Ways.{same_text, text_itself}
+use Rattle.bpl_resolve.proofs.Ways.{same_text, text_itself}
 use Rattle.bpl_sorts.specs.Types.{Ty, integers, maps}
 use Rattle.bpl_sorts.specs.TypeNames.{users_in, number_of, users_before, type_in, type_after, type_over}
 use Rattle.bpl_sorts.specs.TypeShapes.{nested, map_depth, innermost, base_type, end_type, end_in, walk_type}

@@ -5,10 +5,10 @@ use Rattle.std.specs.List.{AllByRecursion}
 use Rattle.bpl_ast.specs.Place.{Name, Ty as Written}
 use Rattle.bpl_ast.specs.Statement.{DeclBody, constant, function, axiom_of, variables, synonym, procedure, implementation, Decl}
 use Rattle.bpl_scopes.specs.Scopes.{Text, Contract, Entity, a_constant, a_global, a_function, a_synonym, a_procedure, Entry, Table, table_of, Counts, no_counts, counts_with, counts_after, typed_names, names_of, entries_from, entries_of, entries_after, entity_of}
-use Rattle.module_laws.specs.Elaborate.{or_else, own_body, implementation_of}
-use Rattle.module_laws.proofs.Numbered.{slice_at}
-use Rattle.module_laws.proofs.Procedures.{map_length}
-use Rattle.module_laws.proofs.EntriesFine.{entity_has}
+use Rattle.bpl_resolve.specs.Elaborate.{or_else, own_body, implementation_of}
+use Rattle.bpl_resolve.proofs.Numbered.{slice_at}
+use Rattle.bpl_resolve.proofs.ProcedureVariables.{map_length}
+use Rattle.bpl_resolve.proofs.EntriesFine.{entity_has}
 use Rattle.bpl_sorts.specs.Types.{Ty}
 use Rattle.bpl_sorts.specs.TypeNames.{type_of}
 use Rattle.bpl_sorts.specs.Erased.{erased}

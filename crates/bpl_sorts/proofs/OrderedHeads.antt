@@ -13,10 +13,10 @@ use Rattle.bpl_scopes.specs.TableView.{entries_seen}
 use Rattle.bpl_scopes.specs.declared.table.Entry.{Entry as Noted}
 use Rattle.bpl_faults.proofs.ListedNames.{next_dropped}
 use Rattle.bpl_declaration_faults.specs.DeclFaults.{fault_of}
-use Rattle.module_laws.proofs.EntriesFine.{synonyms_fine}
-use Rattle.module_laws.proofs.ModuleSorts.{fine, acyclic}
-use Rattle.module_laws.proofs.Procedures.{map_length}
-use Rattle.module_laws.proofs.Ways.{Member, same_text, text_itself}
+use Rattle.bpl_resolve.proofs.EntriesFine.{synonyms_fine}
+use Rattle.bpl_resolve.proofs.ModuleSorts.{fine, acyclic}
+use Rattle.bpl_resolve.proofs.ProcedureVariables.{map_length}
+use Rattle.bpl_resolve.proofs.Ways.{Member, same_text, text_itself}
 use Rattle.bpl_resolve.proofs.DistinctOrder.{Distinct, order_distinct}
 use Rattle.bpl_sorts.specs.Types.{integers, Head}
 use Rattle.bpl_sorts.specs.TypeShapes.{put_at, heads_put}

@@ -3,7 +3,7 @@ use Rattle.std.proofs.Common.{◌≡◌, refl, sym, ap, ◌∙◌, List, [], ◌
 use Rattle.std.proofs.lemmas.List.{map-append}
 use Rattle.bpl_ast.specs.Statement.{Decl}
 use Rattle.bpl_scopes.specs.Scopes.{Text, Table}
-use Rattle.module_laws.specs.Elaborate.{Implemented, implementation_of}
+use Rattle.bpl_resolve.specs.Elaborate.{Implemented, implementation_of}
 use Rattle.bpl_resolve.specs.Implemented.{names_of_bodies, bodies_given, body_for}
 use Rattle.bpl_resolve.proofs.BodiesFound.{found_is}
 use Rattle.bpl_sorts.specs.Types.{Ty}

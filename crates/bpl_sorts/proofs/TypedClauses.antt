@@ -8,8 +8,8 @@ use Rattle.bpl_model.specs.Module.{Global}
 use Rattle.bpl_scopes.specs.Scopes.{Table, Counts, Var, Scope}
 use Rattle.bpl_faults.specs.ExprFaults.{formula_faults, clause_faults, group_clause_faults}
 use Rattle.bpl_terms.specs.Terms.{term_of}
-use Rattle.module_laws.specs.Elaborate.{clause_term, clause_terms, locals_with, globals_with}
-use Rattle.module_laws.proofs.HasSort.{first_empty, second_empty}
+use Rattle.bpl_resolve.specs.Elaborate.{clause_term, clause_terms, locals_with, globals_with}
+use Rattle.bpl_resolve.proofs.HasSort.{first_empty, second_empty}
 use Rattle.bpl_sorts.specs.Types.{Ty}
 use Rattle.bpl_sorts.specs.DeclaredTypes.{Types}
 use Rattle.bpl_sorts.specs.TypedModule.{IsTruth, IsOptional, AreClauses}

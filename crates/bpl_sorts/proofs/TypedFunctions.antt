@@ -15,15 +15,15 @@ use Rattle.bpl_faults.specs.ExprFaults.{expr_faults}
 use Rattle.bpl_declaration_faults.specs.Variables.{bound_argument, function_scope}
 use Rattle.bpl_declaration_faults.specs.DeclFaults.{fault_of, function_body_faults}
 use Rattle.bpl_terms.specs.Terms.{sort_or_int, term_of}
-use Rattle.module_laws.specs.Elaborate.{module_of, value_term}
-use Rattle.module_laws.proofs.Below.{back_onto}
-use Rattle.module_laws.proofs.HasSort.{Known, first_empty, second_empty}
-use Rattle.module_laws.proofs.Faultless.{KnownBounds, EachKnown}
-use Rattle.module_laws.proofs.EntriesFine.{FunctionFine, entity_fine, synonyms_fine}
-use Rattle.module_laws.proofs.ScopesKnown.{fine_type, arguments_fine}
-use Rattle.module_laws.proofs.FunctionOrder.{AllFunctions, order_only}
-use Rattle.module_laws.proofs.ScopesFit.{some_heading, def_of, defs_for, defs_step}
-use Rattle.module_laws.proofs.ModuleSorts.{fine, acyclic}
+use Rattle.bpl_resolve.specs.Elaborate.{module_of, value_term}
+use Rattle.bpl_resolve.proofs.Below.{back_onto}
+use Rattle.bpl_resolve.proofs.HasSort.{Known, first_empty, second_empty}
+use Rattle.bpl_resolve.proofs.Faultless.{KnownBounds, EachKnown}
+use Rattle.bpl_resolve.proofs.EntriesFine.{FunctionFine, entity_fine, synonyms_fine}
+use Rattle.bpl_resolve.proofs.ScopesKnown.{fine_type, arguments_fine}
+use Rattle.bpl_resolve.proofs.FunctionOrder.{AllFunctions, order_only}
+use Rattle.bpl_resolve.proofs.ScopesFit.{some_heading, def_of, defs_for, defs_step}
+use Rattle.bpl_resolve.proofs.ModuleSorts.{fine, acyclic}
 use Rattle.bpl_sorts.specs.Types.{Ty, kind_of, kinds_of, Head}
 use Rattle.bpl_sorts.specs.Typed.{HasType, AreTypedDefs}
 use Rattle.bpl_sorts.specs.TypeNames.{type_of}

@@ -16,18 +16,18 @@ use Rattle.bpl_scopes.specs.Sorts.{sort_of_type}
 use Rattle.bpl_scopes.specs.TypeFaults.{type_faults, group_type_faults}
 use Rattle.bpl_declaration_faults.specs.Variables.{scope_of}
 use Rattle.bpl_declaration_faults.specs.DeclFaults.{fault_of, unique_faults, decl_faults, Before, before_with, nothing_before}
-use Rattle.module_laws.specs.Elaborate.{or_else, implements, own_body, implementation_of, clause_terms, consts_in, globals_with, globals_in, axioms_in, procs_in}
-use Rattle.module_laws.specs.ModuleLaws.{FaultlessIsTyped}
+use Rattle.bpl_resolve.specs.Elaborate.{or_else, implements, own_body, implementation_of, clause_terms, consts_in, globals_with, globals_in, axioms_in, procs_in}
+use Rattle.bpl_resolve.specs.ModuleLaws.{FaultlessIsTyped}
 use Rattle.bpl_terms.specs.Terms.{sort_or_int}
-use Rattle.module_laws.proofs.HasSort.{first_empty, second_empty}
-use Rattle.module_laws.proofs.Faultless.{TypesKnown, groups_known}
-use Rattle.module_laws.proofs.ScopesKnown.{fine_type}
-use Rattle.module_laws.proofs.ModuleSorts.{fine}
-use Rattle.module_laws.proofs.Numbered.{length_clauses}
-use Rattle.module_laws.proofs.TypedModules.{module_typed}
-use Rattle.module_laws.proofs.EntriesFine.{NoFaults, none_faulty}
-use Rattle.module_laws.proofs.DeclaredOnce.{StandsForIt, each_stands}
-use Rattle.module_laws.proofs.Procedures.{all_join}
+use Rattle.bpl_resolve.proofs.HasSort.{first_empty, second_empty}
+use Rattle.bpl_resolve.proofs.Faultless.{TypesKnown, groups_known}
+use Rattle.bpl_resolve.proofs.ScopesKnown.{fine_type}
+use Rattle.bpl_resolve.proofs.ModuleSorts.{fine}
+use Rattle.bpl_resolve.proofs.Numbered.{length_clauses}
+use Rattle.bpl_resolve.proofs.TypedModules.{module_typed}
+use Rattle.bpl_resolve.proofs.EntriesFine.{NoFaults, none_faulty}
+use Rattle.bpl_resolve.proofs.DeclaredOnce.{StandsForIt, each_stands}
+use Rattle.bpl_resolve.proofs.ProcedureVariables.{all_join}
 use Rattle.bpl_sorts.specs.Types.{Ty, kind_of, kinds_of}
 use Rattle.bpl_sorts.specs.TypeNames.{type_of}
 use Rattle.bpl_sorts.specs.UserTypes.{user_of}

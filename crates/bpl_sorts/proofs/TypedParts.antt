@@ -15,11 +15,11 @@ use Rattle.bpl_faults.specs.ExprFaults.{expr_faults, faults_as, argument_faults,
 use Rattle.bpl_statement_faults.specs.StmtFaults.{entry_at, entry_faults}
 use Rattle.bpl_declaration_faults.specs.DeclFaults.{fault_of}
 use Rattle.bpl_terms.specs.Terms.{term_of, terms_in, stored}
-use Rattle.module_laws.specs.Elaborate.{arguments}
-use Rattle.module_laws.proofs.HasSort.{first_empty, second_empty, has_sort, has_same, is_map}
-use Rattle.module_laws.proofs.Faultless.{KnownBounds, NamesKnown, TypesKnown, has_known}
-use Rattle.module_laws.proofs.ScopesKnown.{VarsKnown, scope_known}
-use Rattle.module_laws.proofs.ModuleSorts.{fine}
+use Rattle.bpl_resolve.specs.Elaborate.{arguments}
+use Rattle.bpl_resolve.proofs.HasSort.{first_empty, second_empty, has_sort, has_same, is_map}
+use Rattle.bpl_resolve.proofs.Faultless.{KnownBounds, NamesKnown, TypesKnown, has_known}
+use Rattle.bpl_resolve.proofs.ScopesKnown.{VarsKnown, scope_known}
+use Rattle.bpl_resolve.proofs.ModuleSorts.{fine}
 use Rattle.bpl_sorts.specs.Types.{Ty, integers, truths, carriers, maps, kind_of}
 use Rattle.bpl_sorts.specs.Typed.{HasType}
 use Rattle.bpl_sorts.specs.Apart.{apart}

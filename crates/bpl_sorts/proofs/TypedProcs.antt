@@ -22,16 +22,16 @@ use Rattle.bpl_statement_faults.specs.StmtFaults.{labels_of, many_labels_faults,
 use Rattle.bpl_declaration_faults.specs.Variables.{in_vars, out_vars, local_vars, parameters, body_vars, scope_of, locals_of, names_in_body}
 use Rattle.bpl_declaration_faults.specs.DeclFaults.{fault_of, signature_faults, parameter_clause_faults, spec_faults, local_faults, body_faults, has_body, optional_locals, agree, same_texts, same_groups, same_parameters, implemented_faults, implemented_modifies, decl_faults, Before}
 use Rattle.bpl_terms.specs.Terms.{sort_or_int, term_of}
-use Rattle.module_laws.specs.Elaborate.{Implemented, or_else, implements, own_body, stmts_of, clause_terms, proc_locals, proc_body, proc_of, spec_of}
-use Rattle.module_laws.proofs.Below.{same_is}
-use Rattle.module_laws.proofs.HasSort.{Known, first_empty, second_empty, unless_empty}
-use Rattle.module_laws.proofs.Faultless.{TypesKnown, groups_known}
-use Rattle.module_laws.proofs.Ways.{same_text}
-use Rattle.module_laws.proofs.EntriesFine.{SignatureFine, signature_fine, entity_fine}
-use Rattle.module_laws.proofs.ScopesKnown.{fine_type}
-use Rattle.module_laws.proofs.ModuleSorts.{fine}
-use Rattle.module_laws.proofs.Procedures.{all_join, kinds_same}
-use Rattle.module_laws.proofs.BodyTyped.{ins_sorts, outs_sorts, locals_sorts}
+use Rattle.bpl_resolve.specs.Elaborate.{Implemented, or_else, implements, own_body, stmts_of, clause_terms, proc_locals, proc_body, proc_of, spec_of}
+use Rattle.bpl_resolve.proofs.Below.{same_is}
+use Rattle.bpl_resolve.proofs.HasSort.{Known, first_empty, second_empty, unless_empty}
+use Rattle.bpl_resolve.proofs.Faultless.{TypesKnown, groups_known}
+use Rattle.bpl_resolve.proofs.Ways.{same_text}
+use Rattle.bpl_resolve.proofs.EntriesFine.{SignatureFine, signature_fine, entity_fine}
+use Rattle.bpl_resolve.proofs.ScopesKnown.{fine_type}
+use Rattle.bpl_resolve.proofs.ModuleSorts.{fine}
+use Rattle.bpl_resolve.proofs.ProcedureVariables.{all_join, kinds_same}
+use Rattle.bpl_resolve.proofs.BodyTyped.{ins_sorts, outs_sorts, locals_sorts}
 use Rattle.bpl_sorts.specs.Types.{Ty, kinds_of}
 use Rattle.bpl_sorts.specs.TypeNames.{type_of}
 use Rattle.bpl_sorts.specs.DeclaredTypes.{types_named, proc_types, Types, declared_types}

@@ -20,12 +20,12 @@ use Rattle.bpl_faults.specs.ExprFaults.{expr_faults, faults_as, formula_faults, 
 use Rattle.bpl_statement_faults.specs.StmtFaults.{BodyScope, Position, labels_of_list, set_faults, target_faults, target_sort, count_faults, targets_faults, entry_at, indices_faults, sides_sorts, outs_faults, counted_outs_faults, callee_faults, callee_sorts, guard_faults, stmts_faults, stmt_faults, action_faults, branches_faults}
 use Rattle.bpl_declaration_faults.specs.DeclFaults.{fault_of}
 use Rattle.bpl_terms.specs.Terms.{meaning_term, term_of}
-use Rattle.module_laws.specs.Elaborate.{number_of_term, target_number, target_numbers, assignments, arguments, procedure_number, guard_of, labelled_as, stmts_of, stmt_of, action_of, chain_of, others_of}
-use Rattle.module_laws.proofs.HasSort.{first_empty, second_empty, has_same}
-use Rattle.module_laws.proofs.Faultless.{TypesKnown, groups_known}
-use Rattle.module_laws.proofs.EntriesFine.{entity_fine}
-use Rattle.module_laws.proofs.ScopesKnown.{VarsKnown, name_has, fine_type}
-use Rattle.module_laws.proofs.ModuleSorts.{fine}
+use Rattle.bpl_resolve.specs.Elaborate.{number_of_term, target_number, target_numbers, assignments, arguments, procedure_number, guard_of, labelled_as, stmts_of, stmt_of, action_of, chain_of, others_of}
+use Rattle.bpl_resolve.proofs.HasSort.{first_empty, second_empty, has_same}
+use Rattle.bpl_resolve.proofs.Faultless.{TypesKnown, groups_known}
+use Rattle.bpl_resolve.proofs.EntriesFine.{entity_fine}
+use Rattle.bpl_resolve.proofs.ScopesKnown.{VarsKnown, name_has, fine_type}
+use Rattle.bpl_resolve.proofs.ModuleSorts.{fine}
 use Rattle.bpl_sorts.specs.Types.{Ty, kind_of}
 use Rattle.bpl_sorts.specs.Typed.{HasType}
 use Rattle.bpl_sorts.specs.Apart.{apart}

@@ -8,13 +8,13 @@ use Rattle.bpl_scopes.specs.declared.part.Role.TheVariants.{In as in_parameter, 
 use Rattle.bpl_scopes.specs.Scopes.{table_of, Text, Table, Counts, no_counts, counts_after, names_of, texts_of, signature_names, Var}
 use Rattle.bpl_declaration_faults.specs.Variables.{vars_from, first_parameter, locals_of, names_in_body, in_vars, out_vars, local_vars, parameters, body_vars}
 use Rattle.bpl_declaration_faults.specs.DeclFaults.{fault_of, local_faults}
-use Rattle.module_laws.proofs.HasSort.{first_empty, second_empty}
-use Rattle.module_laws.proofs.Faultless.{TypesKnown, groups_known}
-use Rattle.module_laws.proofs.EntriesFine.{SignatureFine}
-use Rattle.module_laws.proofs.ScopesKnown.{VarsKnown, fine_type, types_vars, vars_from_known, vars_joined}
-use Rattle.module_laws.proofs.ModuleSorts.{T, C, fine}
-use Rattle.module_laws.proofs.Numbered.{slice_at}
-use Rattle.module_laws.proofs.Procedures.{map_length}
+use Rattle.bpl_resolve.proofs.HasSort.{first_empty, second_empty}
+use Rattle.bpl_resolve.proofs.Faultless.{TypesKnown, groups_known}
+use Rattle.bpl_resolve.proofs.EntriesFine.{SignatureFine}
+use Rattle.bpl_resolve.proofs.ScopesKnown.{VarsKnown, fine_type, types_vars, vars_from_known, vars_joined}
+use Rattle.bpl_resolve.proofs.ModuleSorts.{T, C, fine}
+use Rattle.bpl_resolve.proofs.Numbered.{slice_at}
+use Rattle.bpl_resolve.proofs.ProcedureVariables.{map_length}
 use Rattle.std.specs.Prelude.{flat_map}
 use Rattle.bpl_sorts.specs.Types.{Ty}
 use Rattle.bpl_sorts.specs.TypeNames.{type_of}

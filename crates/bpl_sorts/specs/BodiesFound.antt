@@ -3,7 +3,7 @@ use Rattle.std.specs.Prelude.{List, map, Option}
 use Rattle.std.specs.Borrow.{Bor}
 use Rattle.bpl_ast.specs.Statement.{Signature, Body}
 use Rattle.bpl_scopes.specs.Scopes.{Text}
-use Rattle.module_laws.specs.Elaborate.{Implemented}
+use Rattle.bpl_resolve.specs.Elaborate.{Implemented}
 use Rattle.bpl_resolve.specs.Implemented.{body_for}
 use Rattle.bpl_sorts.specs.declared.procedure_types.Implementations.{Implementations}
 

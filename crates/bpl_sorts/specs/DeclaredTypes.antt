@@ -5,7 +5,7 @@ use Rattle.bpl_ast.specs.Statement.{Argument, Signature, DeclBody, constant, fun
 use Rattle.bpl_scopes.specs.Scopes.{Text, Heading, Table, names_of, table_of, entity_of}
 use Rattle.bpl_scopes.specs.Functions.{function_in, in_number_order}
 use Rattle.bpl_declaration_faults.specs.Variables.{locals_of}
-use Rattle.module_laws.specs.Elaborate.{Implemented, or_else, own_body, implementation_of}
+use Rattle.bpl_resolve.specs.Elaborate.{Implemented, or_else, own_body, implementation_of}
 use Rattle.bpl_sorts.specs.Types.{Ty, integers, Head}
 use Rattle.bpl_sorts.specs.TypeNames.{type_over}
 use Rattle.bpl_sorts.specs.Erased.{erased}

@@ -2,7 +2,7 @@
 use Rattle.std.specs.Prelude.{◌≡◌, List, None}
 use Rattle.bpl_ast.specs.Statement.{Decl}
 use Rattle.bpl_declaration_faults.specs.DeclFaults.{fault_of}
-use Rattle.module_laws.specs.Elaborate.{module_of}
+use Rattle.bpl_resolve.specs.Elaborate.{module_of}
 use Rattle.bpl_sorts.specs.Erased.{axioms_after, erased}
 use Rattle.bpl_sorts.specs.CarrierFaults.{carrier_fault}
 use Rattle.bpl_sorts.specs.DeclaredTypes.{declared_types}

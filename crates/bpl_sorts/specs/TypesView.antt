@@ -3,7 +3,7 @@ use Rattle.std.specs.Prelude.{◌≡◌, Vec, List, [], ◌∷◌, ◌++◌, map
 use Rattle.std.specs.declared.alloc.Global.{Global}
 use Rattle.bpl_ast.specs.Statement.{Decl}
 use Rattle.bpl_model.specs.Module.{Proc, Module}
-use Rattle.module_laws.specs.Elaborate.{module_of}
+use Rattle.bpl_resolve.specs.Elaborate.{module_of}
 use Rattle.bpl_sorts.specs.Types.{Ty, integers, truths, carriers, maps, Head}
 use Rattle.bpl_sorts.specs.DeclaredTypes.{ProcTypes, Types}
 use Rattle.bpl_sorts.specs.TypedModule.{HasTypes}

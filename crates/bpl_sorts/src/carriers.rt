@@ -10,7 +10,7 @@ use crate::declared_types::declared_types;
 use crate::erased::tell_apart;
 use crate::value_types::Types;
 use bpl_ast::Program;
-use bpl_first_fault::first_fault;
+use bpl_resolve::first_fault;
 use bv_base::place::Place;
 use std::alloc::{AllocError, Global};
 use thiserror::Error;
@@ -47,6 +47,22 @@ fn passing_types(alloc: Global, program: &Program) -> Result<Types, AllocError>
     declared_types(alloc, program)
 }
 
+/// The first place at which a program takes carriers for something else, by declaration and then place;
+/// None exactly where it takes them for carriers of their own user type alone. It tells so where the
+/// erased program has no fault, as `check_carriers` does. The only error is want of memory.
+pub fn first_carrier_fault(
+    alloc: Global,
+    program: &Program,
+) -> Result<Option<(usize, Place)>, AllocError>
+    ensures { IfOk result (λ f. f ≡ carrier_fault program.now) }
+{
+    let apart = tell_apart(alloc, program)?;
+    match first_fault(alloc, &apart.decls)? {
+        Some(fault) => Ok(Some((fault.decl, fault.at))),
+        None => Ok(None),
+    }
+}
+
 /// The types of what a program declares, where it takes carriers for carriers of their own user type
 /// alone. Where the erased program has no fault, user types are different from `int` and from each
 /// other; the fault is the first by declaration and place at which an operand, argument, right side,
@@ -61,12 +77,8 @@ pub fn check_carriers(alloc: Global, program: &Program) -> Result<Types, Carrier
     ensures typed { IfOk result (AreItsTypes program.now) }
     ensures fault { IfErr result (IsCarrierFault program.now) }
 {
-    let apart = tell_apart(alloc, program)?;
-    match first_fault(alloc, &apart.decls)? {
-        Some(fault) => Err(CarrierFault::Carrier {
-            decl: fault.decl,
-            at: fault.at,
-        }),
+    match first_carrier_fault(alloc, program)? {
+        Some((decl, at)) => Err(CarrierFault::Carrier { decl, at }),
         None => Ok(passing_types(alloc, program)?),
     }
 }

@@ -3,7 +3,7 @@ ghost use Rattle.bpl_sorts.specs.ExchangeLaws.{ExchangesKeepValues};
 ghost use Rattle.bpl_sorts.specs.ReadingLaws.{SortsTellTypes, TypesHaveTheirSorts, SortedExpressionsHaveTypes};
 ghost use Rattle.bpl_sorts.specs.TypedModules.{PassingProgramsHaveTypes};
 
-use module_laws::laws::faultless_modules_are_typed;
+use bpl_resolve::laws::faultless_modules_are_typed;
 
 /// Where two carriers of a user type are exchanged in an assignment, the value of each term with a
 /// type is the exchanged one.

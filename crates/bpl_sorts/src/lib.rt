@@ -27,6 +27,6 @@ pub mod carriers;
 // What the readings tell of types, and what a program can tell of carriers.
 pub mod laws;
 
-pub use carriers::{CarrierFault, check_carriers};
+pub use carriers::{CarrierFault, check_carriers, first_carrier_fault};
 pub use erased::erase;
 pub use value_types::{Ty, Types};

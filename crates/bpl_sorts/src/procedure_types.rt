@@ -1,7 +1,7 @@
 // The types of the parameters and locals of procedures.
 ghost use Rattle.std.specs.Prelude.{◌≡◌, ◌++◌, map, flat_map, option_map, IfOk, OnOk};
 ghost use Rattle.bpl_ast.specs.DeclView.{body_of};
-ghost use Rattle.module_laws.specs.Elaborate.{or_else, own_body, implementation_of};
+ghost use Rattle.bpl_resolve.specs.Elaborate.{or_else, own_body, implementation_of};
 ghost use Rattle.bpl_resolve.specs.Implemented.{name_of_body, body_given, names_of_bodies, bodies_given, body_at};
 ghost use Rattle.bpl_sorts.specs.BodiesFound.{implemented_seen, bodies_seen, found_under};
 ghost use Rattle.bpl_sorts.specs.TypesView.{tys_seen, lists_seen, in_one_list};

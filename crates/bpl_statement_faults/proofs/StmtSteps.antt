@@ -1,8 +1,8 @@
 -- The faults of lists begin with those of the first item.
 use Rattle.std.proofs.Common.{◌≡◌, refl, sym, ap, ◌∙◌, ℕ, ◌+◌, ◌<◌, length, drop, get_or, Bool, false, List, [], ◌∷◌, ◌++◌, flat_map, Option}
 use Rattle.std.proofs.lemmas.List.{append_assoc}
-use Rattle.logic_core.specs.Tree.{Kind, int}
-use Rattle.logic_core.specs.Sorts.{read_sort}
+use Rattle.logic_terms.specs.Tree.{Kind, int}
+use Rattle.logic_terms.specs.Sorts.{read_sort}
 use Rattle.bv_base.specs.declared.place.Place.{Place}
 use Rattle.std.specs.Borrow.{Bor}
 use Rattle.bpl_ast.specs.Place.{Name}

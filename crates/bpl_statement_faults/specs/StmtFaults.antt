@@ -2,9 +2,9 @@
 use Rattle.std.specs.Prelude.{ℕ, suc, nat_eq, Bool, true, false, ◌&&◌, not, List, [], ◌∷◌, ◌++◌, map, length, flat_map, filter, drop, Option, Some, None}
 use Rattle.std.specs.List.{list_all}
 use Rattle.bv_base.specs.declared.place.Place.{Place}
-use Rattle.logic_core.specs.Tree.{Kind, int, boolean}
-use Rattle.logic_core.specs.Sorts.{is, range}
-use Rattle.logic_core.specs.Wide.{when, ◌>>=◌}
+use Rattle.logic_terms.specs.Tree.{Kind, int, boolean}
+use Rattle.logic_terms.specs.Sorts.{is, range}
+use Rattle.logic_terms.specs.Wide.{when, ◌>>=◌}
 use Rattle.bpl_ast.specs.Place.{Name}
 use Rattle.bpl_ast.specs.Tree.{Exprs, no_exprs, item}
 use Rattle.bpl_ast.specs.Statement.{Target, Guard, Invariant, Stmt, stmt, Action, assert, assume, havoc, assign, call, branches, loop, «break», «return», goto, Branches, branch, otherwise, no_branch, Stmts, no_stmts, next, Spec, requires, ensures, modifies}

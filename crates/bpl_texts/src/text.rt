@@ -1,8 +1,9 @@
 // The canonical text of one declaration.
 ghost use Rattle.std.specs.Prelude.{◌≡◌, map, IfOk};
-ghost use Rattle.bpl_ast.specs.Lines.{joined, text};
+ghost use Rattle.canonical_text.specs.Lines.{joined, text};
 
-use bpl_ast::{Decl, print_lines};
+use bpl_ast::Decl;
+use canonical_text::print_lines;
 use std::alloc::{AllocError, Global};
 
 // The lines one after another, each ended by a line feed.

@@ -10,16 +10,16 @@ use Rattle.bpl_scopes.specs.declared.fault.TypeKind.TheVariants.{Twice as twice}
 use Rattle.bpl_scopes.specs.Fault.{again, is_among, if_so}
 use Rattle.bpl_scopes.specs.Scopes.{Text, Table, Counts, declared_names, texts_of}
 use Rattle.bpl_declaration_faults.specs.DeclFaults.{unique_faults, decl_faults, body_names, Before, before_with}
-use Rattle.canonical_laws.specs.Written.{IsName}
-use Rattle.canonical_laws.specs.WrittenStatement.{IsWrittenDecl}
-use Rattle.canonical_laws.specs.RoundTrip.{AreWrittenDecls}
-use Rattle.canonical_laws.proofs.Alone.{name_identifier}
-use Rattle.module_laws.specs.Elaborate.{Implemented, or_else, implements, implementation_of}
-use Rattle.module_laws.proofs.HasSort.{first_empty, second_empty}
+use Rattle.canonical_text.specs.WrittenExpression.{IsName}
+use Rattle.canonical_text.specs.WrittenStatement.{IsWrittenDecl}
+use Rattle.canonical_text.specs.RoundTrip.{AreWrittenDecls}
+use Rattle.canonical_text.proofs.Alone.{name_identifier}
+use Rattle.bpl_resolve.specs.Elaborate.{Implemented, or_else, implements, implementation_of}
+use Rattle.bpl_resolve.proofs.HasSort.{first_empty, second_empty}
 use Rattle.logic_core.proofs.Booleans.{neither as either_false, or_second}
-use Rattle.module_laws.proofs.GoesForward.{if_so_empty}
-use Rattle.module_laws.proofs.Ways.{same_text, text_itself}
-use Rattle.module_laws.proofs.EntriesFine.{NoFaults}
+use Rattle.bpl_resolve.proofs.GoesForward.{if_so_empty}
+use Rattle.bpl_resolve.proofs.Ways.{same_text, text_itself}
+use Rattle.bpl_resolve.proofs.EntriesFine.{NoFaults}
 
 -- names of declarations
 

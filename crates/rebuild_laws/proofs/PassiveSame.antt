@@ -24,7 +24,7 @@ use Rattle.obligation_text.proofs.Lists.{variables_have, calls_have}
 use Rattle.obligation_text.proofs.Walk.{every_map}
 use Rattle.vc_build.specs.Goals.{sequent_at, obligation_at}
 use Rattle.obligation_text.specs.Canonical.{canonical}
-use Rattle.trigger_choice.specs.Choice.{obligation_with_triggers}
+use Rattle.quantifier_triggers.specs.Choice.{obligation_with_triggers}
 use Rattle.obligation_text.proofs.RenamedTerms.{renamed_twice, each_more}
 use Rattle.rebuild_laws.proofs.RenamedTriggers.{trees_renamed}
 use Rattle.rebuild_laws.proofs.SameAfterTriggers.{RenamesIn, same_after_triggers}

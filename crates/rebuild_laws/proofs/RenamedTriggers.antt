@@ -12,8 +12,8 @@ use Rattle.logic_core.specs.Subterm.{outside, outside_each, outside_parts}
 use Rattle.logic_core.specs.Renamed.{both_renamed, each_both_renamed, parts_both_renamed, patterns_both_renamed, EachHas, EachInTrees, EachInParts}
 use Rattle.logic_core.proofs.SameTerm.{same_is_equal, same_as_itself}
 use Rattle.logic_laws.proofs.RenamedVariables.{renames_nothing}
-use Rattle.trigger_choice.specs.Candidates.{is_simple, is_built, bound_number, bound_numbers, touches, covers, is_plain, joined, once, is_read_or_call, is_candidate, candidates}
-use Rattle.trigger_choice.specs.Choice.{smaller, least, any_new, adds, cover, pick, as_trigger, triggers, with_triggers, each_with_triggers, parts_with_triggers}
+use Rattle.quantifier_triggers.specs.Candidates.{is_simple, is_built, bound_number, bound_numbers, touches, covers, is_plain, joined, once, is_read_or_call, is_candidate, candidates}
+use Rattle.quantifier_triggers.specs.Choice.{smaller, least, any_new, adds, cover, pick, as_trigger, triggers, with_triggers, each_with_triggers, parts_with_triggers}
 use Rattle.obligation_text.proofs.RenamedTerms.{renamed_twice}
 use Rattle.rebuild_laws.proofs.TriggersHave.{outside_has, filtered_has, joined_has}
 

@@ -7,8 +7,8 @@ use Rattle.logic_core.specs.Tree.{Tree}
 use Rattle.logic_core.specs.Def.{Def, Obligation}
 use Rattle.logic_core.specs.Renamed.{both_renamed, EachHas}
 use Rattle.obligation_text.specs.Canonical.{canonical}
-use Rattle.trigger_choice.specs.Candidates.{is_plain}
-use Rattle.trigger_choice.specs.Choice.{with_triggers, def_with_triggers, obligation_with_triggers}
+use Rattle.quantifier_triggers.specs.Candidates.{is_plain}
+use Rattle.quantifier_triggers.specs.Choice.{with_triggers, def_with_triggers, obligation_with_triggers}
 use Rattle.obligation_text.proofs.RenamedTerms.{each_more}
 use Rattle.rebuild_laws.proofs.TriggersHave.{with_triggers_has}
 use Rattle.rebuild_laws.proofs.RenamedTriggers.{with_triggers_renamed}

@@ -3,14 +3,14 @@ use Rattle.std.specs.Prelude.{◌≡◌, ℕ, zero, suc, ◌+◌, Bool, true, fa
 use Rattle.std.specs.List.{AllByRecursion, range_with_len, cons_option}
 use Rattle.std.proofs.Common.{refl, ap, ◌∙◌, subst, arith}
 use Rattle.bpl_ast.specs.Statement.{DeclBody, Decl, axioms_with}
-use Rattle.bpl_ast.specs.Lines.{text, contract}
+use Rattle.canonical_text.specs.Lines.{text, contract}
 use Rattle.bpl_model.specs.Module.{Proc, DeclText}
 use Rattle.bpl_model.specs.Reach.{decl_at, positions, is_named, own_positions}
 use Rattle.bpl_scopes.specs.Scopes.{Text, table_of}
-use Rattle.canonical_laws.specs.WrittenStatement.{IsWrittenDecl}
-use Rattle.canonical_laws.specs.RoundTrip.{AreWrittenDecls}
-use Rattle.canonical_laws.specs.Heads.{AreWrittenBodies, text_with}
-use Rattle.module_laws.specs.Elaborate.{decl_text, module_of}
+use Rattle.canonical_text.specs.WrittenStatement.{IsWrittenDecl}
+use Rattle.canonical_text.specs.RoundTrip.{AreWrittenDecls}
+use Rattle.canonical_text.specs.Heads.{AreWrittenBodies, text_with}
+use Rattle.bpl_resolve.specs.Elaborate.{decl_text, module_of}
 use Rattle.vc_build.specs.Depends.{depends}
 use Rattle.rebuild_laws.specs.DependencyTexts.{bodies_at, other_positions}
 

@@ -7,13 +7,13 @@ use Rattle.bpl_model.specs.Module.{Proc}
 use Rattle.bpl_model.specs.Reach.{positions, is_named, own_positions}
 use Rattle.bpl_scopes.specs.Scopes.{Table, table_of, Counts, no_counts, counts_after}
 use Rattle.bpl_declaration_faults.specs.DeclFaults.{nothing_before, fault_of}
-use Rattle.canonical_laws.specs.Written.{IsName}
-use Rattle.canonical_laws.specs.WrittenStatement.{IsWrittenDecl}
-use Rattle.canonical_laws.specs.RoundTrip.{AreWrittenDecls}
-use Rattle.canonical_laws.specs.Heads.{HaveBody, whole, apart}
-use Rattle.canonical_laws.proofs.TextsTold.{texts_tell}
-use Rattle.module_laws.specs.Elaborate.{Implemented, or_else, implementation_of, own_body, proc_body, proc_of, procs_in, module_of}
-use Rattle.module_laws.proofs.EntriesFine.{none_faulty}
+use Rattle.canonical_text.specs.WrittenExpression.{IsName}
+use Rattle.canonical_text.specs.WrittenStatement.{IsWrittenDecl}
+use Rattle.canonical_text.specs.RoundTrip.{AreWrittenDecls}
+use Rattle.canonical_text.specs.Heads.{HaveBody, whole, apart}
+use Rattle.canonical_text.proofs.TextsTold.{texts_tell}
+use Rattle.bpl_resolve.specs.Elaborate.{Implemented, or_else, implementation_of, own_body, proc_body, proc_of, procs_in, module_of}
+use Rattle.bpl_resolve.proofs.EntriesFine.{none_faulty}
 use Rattle.vc_build.specs.Rebuild.{with_body}
 use Rattle.rebuild_laws.specs.DependencyTexts.{bodies_at, other_positions, DependencyTextsTell}
 use Rattle.rebuild_laws.proofs.InLists.{In, in_list, list_in, in_filter}

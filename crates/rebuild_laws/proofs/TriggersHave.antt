@@ -8,8 +8,8 @@ use Rattle.logic_core.specs.View.{trees_of}
 use Rattle.logic_core.specs.Same.{same_term}
 use Rattle.logic_core.specs.Subterm.{outside, outside_each, outside_parts}
 use Rattle.logic_core.specs.Renamed.{EachHas, EachInTrees, EachInParts, EachInPatterns}
-use Rattle.trigger_choice.specs.Candidates.{bound_numbers, covers, joined, is_candidate, candidates}
-use Rattle.trigger_choice.specs.Choice.{smaller, least, adds, cover, pick, as_trigger, triggers, with_triggers, each_with_triggers, parts_with_triggers}
+use Rattle.quantifier_triggers.specs.Candidates.{bound_numbers, covers, joined, is_candidate, candidates}
+use Rattle.quantifier_triggers.specs.Choice.{smaller, least, adds, cover, pick, as_trigger, triggers, with_triggers, each_with_triggers, parts_with_triggers}
 
 every_both : (P : Tree → Type 0) (xs ys : List Tree) → AllByRecursion P xs → AllByRecursion P ys → AllByRecursion P (xs ++ ys)
 every_both P [] ys h k = k

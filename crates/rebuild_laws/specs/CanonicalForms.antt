@@ -3,7 +3,7 @@ use Rattle.std.specs.Prelude.{◌≡◌, ℕ, Bool, IsTrue}
 use Rattle.logic_core.specs.Def.{Obligation}
 use Rattle.logic_laws.specs.RenamingLaws.{IsRenamedObligation}
 use Rattle.obligation_text.specs.Canonical.{canonical}
-use Rattle.trigger_choice.specs.Choice.{obligation_with_triggers}
+use Rattle.quantifier_triggers.specs.Choice.{obligation_with_triggers}
 
 -- no two of these have one new number
 abbrev pub StayApart : (ℕ → ℕ) → (ℕ → Bool) → Type 0

@@ -5,10 +5,10 @@ use Rattle.bpl_ast.specs.Statement.{DeclBody, Decl}
 use Rattle.bpl_model.specs.Module.{Proc, Module}
 use Rattle.bpl_model.specs.Reach.{among, own_positions, reached_by}
 use Rattle.bpl_declaration_faults.specs.DeclFaults.{fault_of}
-use Rattle.canonical_laws.specs.SameStatement.{bare_decl}
-use Rattle.canonical_laws.specs.RoundTrip.{AreWrittenDecls}
-use Rattle.canonical_laws.specs.Heads.{bare_head}
-use Rattle.module_laws.specs.Elaborate.{module_of}
+use Rattle.canonical_text.specs.SameStatement.{bare_decl}
+use Rattle.canonical_text.specs.RoundTrip.{AreWrittenDecls}
+use Rattle.canonical_text.specs.Heads.{bare_head}
+use Rattle.bpl_resolve.specs.Elaborate.{module_of}
 use Rattle.vc_build.specs.Depends.{depends}
 use Rattle.vc_build.specs.Rebuild.{with_body}
 

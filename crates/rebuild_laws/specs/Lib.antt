@@ -4,3 +4,7 @@ pub mod Numbers
 pub mod Procedures
 pub mod DependencyTexts
 pub mod Unplaced
+pub mod Twins
+pub mod Resolved
+pub mod Declared
+pub mod SameButForPlaces

@@ -1,6 +1,6 @@
 -- Statements, clauses of contracts and procedures without their places.
 use Rattle.std.specs.Prelude.{◌≡◌, ℕ, Bool, IsTrue, List, map, option_map}
-use Rattle.canonical_laws.specs.Same.{start}
+use Rattle.canonical_text.specs.Same.{start}
 use Rattle.flow_core.specs.declared.block.Invariant.{Invariant}
 use Rattle.bpl_model.specs.Module.{Spec, requires, ensures, modifies, Stmt, assert, assume, havoc, assign, call, if_else, while, break, return, goto, labelled, Stmts, no_stmts, stmt, Proc}
 use Rattle.rebuild_laws.specs.Alike.{AlikeStmts}

@@ -3,9 +3,9 @@ use Rattle.std.specs.Prelude.{◌≡◌, refl, ℕ, suc, ◌+◌, List, [], ◌�
 use Rattle.std.proofs.Common.{ap, ap₂, sym, ◌∙◌}
 use Rattle.std.proofs.lemmas.List.{length-append}
 use Rattle.bv_base.specs.declared.place.Place.{Place}
-use Rattle.bpl_ast.specs.Glyph.{Glyph}
+use Rattle.canonical_text.specs.Glyph.{Glyph}
 use Rattle.bpl_ast.specs.Statement.{Stmt, stmt, Action, assert, assume, havoc, assign, call, branches, loop, «break», «return», goto, Branches, branch, otherwise, no_branch, Stmts, no_stmts, next, Body, Signature, DeclBody, constant, function, axiom_of, variables, synonym, procedure, implementation}
-use Rattle.bpl_ast.specs.Lines.{Lines, lines, head_lines, last_lines, braced, statement, action, chain, others, statements, spec_line, local_line, body_lines, optional_body, invariant_line}
+use Rattle.canonical_text.specs.Lines.{Lines, lines, head_lines, last_lines, braced, statement, action, chain, others, statements, spec_line, local_line, body_lines, optional_body, invariant_line}
 use Rattle.bpl_scopes.specs.Scopes.{Text}
 use Rattle.stmt_checksum.specs.Parts.{Part, parts, head_parts, last_parts, braced_parts, statement_parts, action_parts, chain_parts, others_parts, statements_parts, spec_part, local_part, hidden_in, body_parts, optional_body_parts, invariant_part}
 

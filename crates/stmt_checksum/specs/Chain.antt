@@ -6,7 +6,7 @@ use Rattle.flow_core.specs.declared.mark.Mark.{Mark}
 use Rattle.flow_core.specs.declared.mark.GoalKind.{GoalKind}
 use Rattle.flow_core.specs.declared.mark.GoalKind.TheVariants.{Assert, InvariantEntry, InvariantKept, Requires, Ensures, Point}
 use Rattle.bpl_ast.specs.Statement.{Decl}
-use Rattle.bpl_ast.specs.Lines.{Lines, lines}
+use Rattle.canonical_text.specs.Lines.{Lines, lines}
 use Rattle.bpl_model.specs.Module.{Module}
 use Rattle.bpl_model.specs.Reach.{decl_at, reach_on}
 use Rattle.bpl_scopes.specs.Scopes.{Text, Table, table_of}

@@ -1,7 +1,7 @@
 -- Each canonical line of a declaration has its part.
 use Rattle.std.specs.Prelude.{◌≡◌, length}
 use Rattle.bpl_ast.specs.Statement.{DeclBody}
-use Rattle.bpl_ast.specs.Lines.{lines}
+use Rattle.canonical_text.specs.Lines.{lines}
 use Rattle.stmt_checksum.specs.Parts.{parts}
 
 abbrev pub LinesHaveParts : Type 0

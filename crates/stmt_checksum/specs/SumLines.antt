@@ -3,7 +3,7 @@ use Rattle.std.specs.Prelude.{ℕ, List, [], ◌∷◌, ◌++◌, map, codes}
 use Rattle.hex.specs.Hex.{encode_lower}
 use Rattle.flow_core.specs.declared.mark.Mark.{Mark}
 use Rattle.bpl_ast.specs.Statement.{Decl}
-use Rattle.bpl_ast.specs.Lines.{Lines}
+use Rattle.canonical_text.specs.Lines.{Lines}
 use Rattle.bpl_model.specs.Module.{Module}
 use Rattle.bpl_scopes.specs.Scopes.{Text}
 use Rattle.report_text.specs.Report.{head}

@@ -5,8 +5,9 @@ ghost use Rattle.stmt_checksum.specs.PartsView.{parts_seen};
 
 use crate::bodies::push_parts;
 use crate::parts::{Part, Parts};
-use bpl_ast::{Decl, print_lines};
+use bpl_ast::Decl;
 use bpl_model::declarations::own_name;
+use canonical_text::print_lines;
 use std::alloc::{AllocError, Global};
 
 // The declaration of this name.

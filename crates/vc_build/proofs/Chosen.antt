@@ -5,8 +5,8 @@ use Rattle.logic_core.specs.Tree.{Kind, Tree}
 use Rattle.logic_core.specs.Def.{Def, Obligation}
 use Rattle.logic_core.specs.Sorts.{bodies_sorted}
 use Rattle.logic_core.specs.WellSorted.{IsWellSorted}
-use Rattle.trigger_choice.specs.Choice.{with_triggers, def_with_triggers, obligation_with_triggers}
-use Rattle.trigger_choice.proofs.SortedObligations
+use Rattle.quantifier_triggers.specs.Choice.{with_triggers, def_with_triggers, obligation_with_triggers}
+use Rattle.quantifier_triggers.proofs.SortedObligations
 
 abbrev pub parts : List Kind → List Def → List Tree → Tree → Obligation
 parts vars defs axioms goal = record { vars = vars; defs = defs; axioms = axioms; goal = goal }

@@ -14,9 +14,9 @@ use Rattle.bpl_goto.specs.Removed.{removed, remove_gotos}
 use Rattle.bpl_goto.proofs.NoneLeft.{none_left}
 use Rattle.bpl_goto.proofs.StillFails.{still_fails}
 use Rattle.bpl_goto.proofs.StaysTyped.{remove_gotos_stays_typed}
-use Rattle.trigger_choice.specs.Choice.{obligation_with_triggers}
-use Rattle.trigger_choice.proofs.SameValidity
-use Rattle.trigger_choice.proofs.SortedObligations
+use Rattle.quantifier_triggers.specs.Choice.{obligation_with_triggers}
+use Rattle.quantifier_triggers.proofs.SameValidity
+use Rattle.quantifier_triggers.proofs.SortedObligations
 use Rattle.call_cut.proofs.FailuresKept.{cut_calls_keeps_failures}
 use Rattle.bpl_blocks.proofs.PlainKept.{with_failures}
 use Rattle.bpl_blocks.proofs.ExitLaws.{keeps_failures}

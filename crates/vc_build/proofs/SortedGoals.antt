@@ -9,8 +9,8 @@ use Rattle.flow_core.specs.declared.command.Command.TheVariants.{Assert, Assume,
 use Rattle.passive_form.specs.declared.passive.Passive.{Passive}
 use Rattle.passive_form.specs.Passive.{passive_block_at}
 use Rattle.obligation_text.specs.Canonical.{CanonicalKeeps}
-use Rattle.trigger_choice.specs.Choice.{obligation_with_triggers}
-use Rattle.trigger_choice.specs.Kept.{ObligationsAreKept}
+use Rattle.quantifier_triggers.specs.Choice.{obligation_with_triggers}
+use Rattle.quantifier_triggers.specs.Kept.{ObligationsAreKept}
 use Rattle.bpl_model.specs.Module.{Stmts, Proc, Module}
 use Rattle.bpl_model.specs.Numbering.{defs_of}
 use Rattle.bpl_goto.specs.Removed.{removed, remove_gotos}

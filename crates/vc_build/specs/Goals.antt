@@ -16,7 +16,7 @@ use Rattle.passive_form.specs.Incarnations.{passify}
 use Rattle.block_wp.specs.Equations.{equations}
 use Rattle.obligation_text.specs.Canonical.{canonical}
 use Rattle.bpl_goto.specs.Removed.{removed, remove_gotos}
-use Rattle.trigger_choice.specs.Choice.{obligation_with_triggers}
+use Rattle.quantifier_triggers.specs.Choice.{obligation_with_triggers}
 use Rattle.vc_build.specs.declared.goal.Goal.{Goal}
 use Rattle.vc_build.specs.Depends.{reached_axioms}
 

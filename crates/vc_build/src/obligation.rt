@@ -1,7 +1,7 @@
 // The obligation of an assertion.
 ghost use Rattle.std.specs.Prelude.{◌≡◌, IfOk, map};
 ghost use Rattle.logic_core.specs.WellSorted.{IsWellSorted};
-ghost use Rattle.trigger_choice.specs.Choice.{with_triggers, def_with_triggers, obligation_with_triggers};
+ghost use Rattle.quantifier_triggers.specs.Choice.{with_triggers, def_with_triggers, obligation_with_triggers};
 ghost use Rattle.obligation_text.specs.Canonical.{canonical};
 ghost use Rattle.vc_build.specs.Goals.{sequent_at, obligation_at};
 
@@ -10,8 +10,8 @@ use logic_core::copy::copy_sorts;
 use logic_core::{Def, Formula, Sequence, Signature, Term};
 use obligation_text::obligation::Obligation;
 use passive_form::Passive;
+use quantifier_triggers::with_triggers;
 use std::alloc::{AllocError, Global};
-use trigger_choice::with_triggers;
 
 // The definition with chosen triggers in its body.
 fn def_with_triggers(alloc: Global, signature: &Signature, def: &Def) -> Result<Def, AllocError>

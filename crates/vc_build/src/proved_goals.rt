@@ -5,7 +5,7 @@ use crate::laws::sequents_are_sorted;
 use bpl_goto::laws::{remove_gotos_keeps_failures, remove_gotos_stays_typed};
 use obligation_text::laws::canonical_keeps;
 use proof_core::soundness::acceptance_is_sound;
-use trigger_choice::obligations_are_kept;
+use quantifier_triggers::obligations_are_kept;
 
 /// In a typed module whose labels are distinct and whose gotos go forward, the goals of each procedure
 /// are well-sorted obligations.

@@ -5,7 +5,7 @@ use Rattle.std.proofs.lemmas.Slice.Eq.{bytes_eq-Decides}
 use Rattle.passive_form.proofs.Lists.{contains_first, contains_later, from_map, filter_has}
 use Rattle.bpl_model.specs.Module.{Proc, Module}
 use Rattle.bpl_goto.specs.Removed.{removed, remove_gotos}
-use Rattle.name_laws.specs.Resolved.{IsResolved, EqualDependencyTextsHaveEqualObligations}
+use Rattle.rebuild_laws.specs.Resolved.{IsResolved, EqualDependencyTextsHaveEqualObligations}
 use Rattle.vc_build.specs.Depends.{depends}
 use Rattle.vc_build.specs.Goals.{goals_by_passes, goals}
 use Rattle.vc_build.specs.Rebuild.{BuiltProc, with_body, built}

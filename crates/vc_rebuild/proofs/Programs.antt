@@ -7,7 +7,7 @@ use Rattle.bpl_model.specs.Module.{Stmts, Proc, Module}
 use Rattle.bpl_model.specs.Reach.{among, decl_at, positions, leads_to, reach_on, own_positions}
 use Rattle.bpl_goto.specs.Removed.{body_without, removed, remove_gotos}
 use Rattle.bpl_goto.proofs.NoneLeft.{none_left}
-use Rattle.name_laws.specs.Resolved.{IsResolved}
+use Rattle.rebuild_laws.specs.Resolved.{IsResolved}
 use Rattle.vc_build.specs.Depends.{depends}
 use Rattle.vc_build.specs.Goals.{goals_with_body, goals_by_passes, goals}
 use Rattle.vc_build.specs.Rebuild.{BuiltProc, with_body, built, rebuilt}

@@ -5,7 +5,7 @@ use Rattle.sha2.specs.Sha256.{sha256}
 use Rattle.logic_core.specs.Def.{Obligation}
 use Rattle.bpl_model.specs.Module.{Proc, Module}
 use Rattle.bpl_model.specs.NoGoto.{BodyHasNoGoto}
-use Rattle.name_laws.specs.Resolved.{IsResolved}
+use Rattle.rebuild_laws.specs.Resolved.{IsResolved}
 use Rattle.vc_build.specs.declared.goal.Goal.{Goal}
 use Rattle.vc_build.specs.Depends.{depends}
 use Rattle.vc_build.specs.Goals.{goals_by_passes}

@@ -2,7 +2,7 @@
 ghost use Rattle.std.specs.Prelude.{◌≡◌, ◌+◌, ◌++◌, [], ◌∷◌, cond, Contains, IfOk, IfErr, IsSome, OnOk, None, map, flat_map};
 ghost use Rattle.bpl_model.specs.NoGoto.{BodyHasNoGoto};
 ghost use Rattle.bpl_goto.specs.Forward.{AllGoForward};
-ghost use Rattle.name_laws.specs.Resolved.{IsResolved};
+ghost use Rattle.rebuild_laws.specs.Resolved.{IsResolved};
 ghost use Rattle.vc_build.specs.Goals.{goals_by_passes};
 ghost use Rattle.vc_build.specs.Large.{large, program_large};
 ghost use Rattle.vc_build.specs.Exceeds.{IsFaultBy, IsFaultOf};
@@ -20,7 +20,7 @@ use crate::procedure::{MadeProc, made_proc};
 use bpl_model::{Links, Module, Proc};
 use bv_base::Steps;
 use logic_core::Sequence;
-use name_laws::laws::equal_dependency_texts_have_equal_obligations;
+use rebuild_laws::dependency_texts::equal_dependency_texts_have_equal_obligations;
 use std::alloc::Global;
 use std::sync::ledger::Ledger;
 use vc_build::BuildFault;

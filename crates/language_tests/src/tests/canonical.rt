@@ -1,8 +1,9 @@
 // Texts and their canonical texts, which are read and printed again.
 use super::nestings::nested;
 use super::{declared, is_refused};
-use bpl_ast::{DeclBody, Program, print, print_contract, print_expression};
+use bpl_ast::{DeclBody, Program};
 use bpl_parse::Fault::Deep;
+use canonical_text::{print, print_contract, print_expression};
 use std::alloc::Global;
 use std::process::Abort;
 use std::test::Fail;

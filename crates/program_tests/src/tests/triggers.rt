@@ -1,9 +1,9 @@
 // A quantifier whose trigger takes two patterns.
 use super::terms::var;
 use logic_core::{Node, Sequence, Signature, Sort, SortKind, Term};
+use quantifier_triggers::with_triggers;
 use std::alloc::{AllocError, Global};
 use std::test::Fail;
-use trigger_choice::with_triggers;
 
 fn read(alloc: Global, map: u64, index: u64) -> Result<Term, AllocError> {
     let index = Term::new(Node::Bound(index));

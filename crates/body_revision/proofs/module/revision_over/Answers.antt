@@ -1,6 +1,6 @@
 use Rattle.std.proofs.Common.{◌≡◌, ◌∙◌, length}
 use Rattle.bpl_scopes.specs.CountsView.{counts_seen}
-use Rattle.module_laws.specs.Elaborate.{decl_text}
+use Rattle.bpl_resolve.specs.Elaborate.{decl_text}
 use Rattle.body_revision.proofs.KeptBodies.{own_stands_there}
 use Rattle.body_revision.proofs.RevisedModule.{is_revision}
 use Rattle.body_revision.proofs.module.revision_over.Goals as goal

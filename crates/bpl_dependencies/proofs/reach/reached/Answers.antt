@@ -1,20 +1,11 @@
-use Rattle.std.proofs.Common.{◌≡◌, ap, sym, ◌∙◌, suc, ◌+◌, arith, length}
+use Rattle.std.proofs.Common.{◌≡◌, subst}
 use Rattle.bpl_dependencies.specs.Reach.{edges_seen}
-use Rattle.bpl_dependencies.specs.Rounds.{rounds_of, round_of}
-use Rattle.bpl_dependencies.proofs.Reaching.{settled}
+use Rattle.bpl_dependencies.specs.Rounds.{round_of}
+use Rattle.bpl_dependencies.proofs.InOrder.{settled_are}
 use Rattle.bpl_dependencies.proofs.reach.reached.Goals as goal
 
-pub returns-then-are_same : goal.returns-then-are_same
-returns-then-are_same c =
-    let E = edges_seen c.args.edges.now in
+pub returns-then-branch : goal.returns-then-branch
+returns-then-branch c =
     let B = c.args.base.now in
-    let next = c.in_ok-next.ensures ∙ ap (round_of B E) (c.deref.ensures.value ∙ c.loop-k.invariant) in
-    let same = sym next ∙ sym c.deref-in-loop-k.ensures.value ∙ c.are_same.ensures c.if-are_same.true ∙ c.deref-in-loop-k-2.ensures.value ∙ c.loop-k.invariant in
-    c.loop-k.invariant ∙ settled c.args.from.items B E c.loop-k.k (length B) same (omega (arith, c.loop-k-test.true))
-
-pub loop-k-preserved : goal.loop-k-preserved
-loop-k-preserved c =
     let E = edges_seen c.args.edges.now in
-    let B = c.args.base.now in
-    let more : suc c.loop-k.k ≡ c.loop-k.k + 1 = omega arith in
-    c.in_ok-next.ensures ∙ ap (round_of B E) (c.deref.ensures.value ∙ c.loop-k.invariant) ∙ ap (rounds_of c.args.from.items B E) more
+    settled_are B E c.in_ok-flags.flags.items c.in_ok-flags.ensures (subst (λ l. round_of B E l ≡ l) c.deref.ensures.value (c.in_ok-are_settled.ensures c.if-branch.true))

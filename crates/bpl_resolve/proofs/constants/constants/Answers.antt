@@ -1,7 +1,7 @@
 use Rattle.bpl_ast.specs.Statement.{Decl}
 use Rattle.bpl_scopes.specs.CountsView.{counts_seen}
 use Rattle.bpl_resolve.proofs.ListSteps.{flat_pushed}
-use Rattle.module_laws.specs.Elaborate.{consts_in}
+use Rattle.bpl_resolve.specs.Elaborate.{consts_in}
 use Rattle.bpl_resolve.proofs.constants.constants.Goals as goal
 
 pub loop-decl-preserved : goal.loop-decl-preserved

@@ -1,7 +1,7 @@
 use Rattle.std.proofs.Common.{◌≡◌, ◌++◌, drop, flat_map}
 use Rattle.bpl_ast.specs.Statement.{Decl}
 use Rattle.bpl_scopes.specs.CountsView.{counts_seen}
-use Rattle.module_laws.specs.Elaborate.{consts_in}
+use Rattle.bpl_resolve.specs.Elaborate.{consts_in}
 use Rattle.bpl_resolve.proofs.constants.constants.Given as goal
 
 abbrev pub invariant-loop-decl : goal.invariant-loop-decl

@@ -1,7 +1,7 @@
 use Rattle.std.proofs.Common.{◌≡◌, ◌∙◌, flat_map, slice_get}
 use Rattle.std.proofs.lemmas.Result.{IfOk-weaker}
 use Rattle.bpl_scopes.specs.CountsView.{counts_seen}
-use Rattle.module_laws.specs.Elaborate.{typed_module}
+use Rattle.bpl_resolve.specs.Elaborate.{typed_module}
 use Rattle.bpl_resolve.specs.Places.{function_at}
 use Rattle.bpl_resolve.proofs.PlacedFunctions.{functions_made}
 use Rattle.bpl_resolve.proofs.functions.functions.Goals as goal

@@ -3,7 +3,7 @@ use Rattle.bpl_ast.specs.ExprView.{clause_of}
 use Rattle.bpl_scopes.specs.Sorts.{sort_of_type}
 use Rattle.bpl_scopes.specs.Shape.{kind_seen}
 use Rattle.bpl_faults.specs.ScopeView.{scope_seen}
-use Rattle.module_laws.specs.Elaborate.{clause_term}
+use Rattle.bpl_resolve.specs.Elaborate.{clause_term}
 use Rattle.bpl_resolve.proofs.GroupSteps.{named_globals, globals_pushed}
 use Rattle.bpl_resolve.proofs.globals.push_groups.Goals as goal
 

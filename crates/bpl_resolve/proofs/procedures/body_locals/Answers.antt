@@ -6,7 +6,7 @@ use Rattle.bpl_scopes.specs.Scopes.{texts_of}
 use Rattle.bpl_scopes.specs.declared.part.Part.TheVariants.{ClauseOfLocal as in_clause_of_local}
 use Rattle.bpl_faults.specs.ScopeView.{scope_seen}
 use Rattle.bpl_declaration_faults.specs.Variables.{names_in_body, local_vars, body_vars, scope_of}
-use Rattle.module_laws.specs.Elaborate.{clause_terms, locals_with}
+use Rattle.bpl_resolve.specs.Elaborate.{clause_terms, locals_with}
 use Rattle.bpl_resolve.specs.Locals.{locals_in}
 use Rattle.bpl_resolve.proofs.GroupedLocals.{body_locals_are}
 use Rattle.bpl_resolve.proofs.procedures.body_locals.Goals as goal

@@ -5,7 +5,7 @@ use Rattle.bpl_scopes.specs.CountsView.{counts_seen}
 use Rattle.bpl_scopes.specs.declared.part.Part.TheVariants.{ClauseOfOut as in_clause_of_out}
 use Rattle.bpl_faults.specs.ScopeView.{scope_seen}
 use Rattle.bpl_declaration_faults.specs.Variables.{out_vars, parameters, scope_of}
-use Rattle.module_laws.specs.Elaborate.{clause_terms, locals_with}
+use Rattle.bpl_resolve.specs.Elaborate.{clause_terms, locals_with}
 use Rattle.bpl_resolve.specs.Locals.{locals_in}
 use Rattle.bpl_resolve.proofs.GroupedLocals.{outs_are}
 use Rattle.bpl_resolve.proofs.procedures.outs_of.Goals as goal

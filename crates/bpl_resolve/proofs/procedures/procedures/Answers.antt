@@ -2,7 +2,7 @@ use Rattle.std.proofs.Common.{◌≡◌, ◌∙◌, flat_map}
 use Rattle.std.proofs.lemmas.Result.{IfOk-weaker}
 use Rattle.bpl_ast.specs.Statement.{Decl}
 use Rattle.bpl_scopes.specs.CountsView.{counts_seen}
-use Rattle.module_laws.specs.Elaborate.{procs_in}
+use Rattle.bpl_resolve.specs.Elaborate.{procs_in}
 use Rattle.bpl_resolve.specs.Implemented.{bodies_seen, procs_with}
 use Rattle.bpl_resolve.proofs.BodiesFound.{procs_are}
 use Rattle.bpl_resolve.proofs.procedures.procedures.Goals as goal

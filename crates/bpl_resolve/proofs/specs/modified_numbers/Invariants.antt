@@ -1,6 +1,6 @@
 use Rattle.std.proofs.Common.{◌≡◌, ◌++◌, drop, filter_map}
 use Rattle.bpl_scopes.specs.CountsView.{counts_seen}
-use Rattle.module_laws.specs.Elaborate.{modified_number}
+use Rattle.bpl_resolve.specs.Elaborate.{modified_number}
 use Rattle.bpl_resolve.proofs.specs.modified_numbers.Given as goal
 
 abbrev pub invariant-loop-name : goal.invariant-loop-name

@@ -1,6 +1,6 @@
 use Rattle.std.proofs.Common.{◌≡◌, take, map}
 use Rattle.bpl_scopes.specs.CountsView.{counts_seen}
-use Rattle.module_laws.specs.Elaborate.{spec_in}
+use Rattle.bpl_resolve.specs.Elaborate.{spec_in}
 use Rattle.bpl_resolve.proofs.specs.specs_in.Given as goal
 
 abbrev pub invariant-loop-spec : goal.invariant-loop-spec

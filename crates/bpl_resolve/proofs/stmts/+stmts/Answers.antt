@@ -2,7 +2,7 @@ use Rattle.std.proofs.Common.{◌≡◌, ap, ◌∙◌, map, arith}
 use Rattle.std.proofs.lemmas.Grind.{common_steps}
 use Rattle.bpl_faults.specs.ScopeView.{scope_seen}
 use Rattle.bpl_model.specs.StmtView.{stmts_of as module_stmts}
-use Rattle.module_laws.specs.Elaborate.{stmt_of}
+use Rattle.bpl_resolve.specs.Elaborate.{stmt_of}
 use Rattle.bpl_resolve.proofs.StmtLists.{stmts_are}
 use Rattle.bpl_resolve.proofs.stmts.+stmts.Goals as goal
 

@@ -1,7 +1,7 @@
 use Rattle.std.proofs.Common.{◌≡◌, ◌+◌, ◌*◌, ◌≤◌, drop, take, map}
 use Rattle.bpl_ast.specs.StmtView.{action_of as action_tree, stmts_of as stmts_tree, branches_of, last_of}
 use Rattle.bpl_faults.specs.ScopeView.{scope_seen}
-use Rattle.module_laws.specs.Elaborate.{stmt_of}
+use Rattle.bpl_resolve.specs.Elaborate.{stmt_of}
 use Rattle.bpl_resolve.specs.Weights.{stmt_weight, action_weight, branches_weight, stmts_weight}
 use Rattle.bpl_resolve.proofs.stmts.+stmts.Given as goal
 

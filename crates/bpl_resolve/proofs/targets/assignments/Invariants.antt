@@ -1,7 +1,7 @@
 use Rattle.std.proofs.Common.{◌≡◌, ◌++◌, drop}
 use Rattle.bpl_ast.specs.ExprView.{exprs_of}
 use Rattle.bpl_faults.specs.ScopeView.{scope_seen}
-use Rattle.module_laws.specs.Elaborate.{assignments}
+use Rattle.bpl_resolve.specs.Elaborate.{assignments}
 use Rattle.bpl_resolve.proofs.targets.assignments.Given as goal
 
 abbrev pub invariant-loop-target : goal.invariant-loop-target

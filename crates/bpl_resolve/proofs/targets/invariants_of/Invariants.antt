@@ -1,6 +1,6 @@
 use Rattle.std.proofs.Common.{◌≡◌, take}
 use Rattle.bpl_faults.specs.ScopeView.{scope_seen}
-use Rattle.module_laws.specs.Elaborate.{invariants_of}
+use Rattle.bpl_resolve.specs.Elaborate.{invariants_of}
 use Rattle.bpl_resolve.proofs.targets.invariants_of.Given as goal
 
 abbrev pub invariant-loop-invariant : goal.invariant-loop-invariant

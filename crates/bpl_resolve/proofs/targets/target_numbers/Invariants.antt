@@ -1,6 +1,6 @@
 use Rattle.std.proofs.Common.{◌≡◌, take}
 use Rattle.bpl_faults.specs.ScopeView.{scope_seen}
-use Rattle.module_laws.specs.Elaborate.{target_numbers}
+use Rattle.bpl_resolve.specs.Elaborate.{target_numbers}
 use Rattle.bpl_resolve.proofs.targets.target_numbers.Given as goal
 
 abbrev pub invariant-loop-name : goal.invariant-loop-name

@@ -1,5 +1,5 @@
 use Rattle.std.proofs.Common.{◌≡◌, take, map, length}
-use Rattle.module_laws.specs.Elaborate.{decl_text}
+use Rattle.bpl_resolve.specs.Elaborate.{decl_text}
 use Rattle.bpl_resolve.proofs.texts.decl_texts.Given as goal
 
 abbrev pub invariant-loop-decl : goal.invariant-loop-decl

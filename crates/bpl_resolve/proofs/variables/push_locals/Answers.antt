@@ -4,7 +4,7 @@ use Rattle.bpl_scopes.specs.Sorts.{sort_of_type}
 use Rattle.bpl_scopes.specs.KnownSorts.{hidden_seen}
 use Rattle.bpl_scopes.specs.Shape.{kind_seen}
 use Rattle.bpl_faults.specs.ScopeView.{scope_seen}
-use Rattle.module_laws.specs.Elaborate.{clause_term}
+use Rattle.bpl_resolve.specs.Elaborate.{clause_term}
 use Rattle.bpl_resolve.proofs.GroupSteps.{named_locals, locals_pushed}
 use Rattle.bpl_resolve.proofs.variables.push_locals.Goals as goal
 

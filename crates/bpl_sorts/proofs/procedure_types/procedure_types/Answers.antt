@@ -1,7 +1,7 @@
 use Rattle.std.proofs.Common.{◌≡◌, ◌∙◌, map, flat_map}
 use Rattle.std.proofs.lemmas.Result.{IfOk-weaker}
 use Rattle.bpl_ast.specs.Statement.{Decl}
-use Rattle.module_laws.specs.Elaborate.{implementation_of}
+use Rattle.bpl_resolve.specs.Elaborate.{implementation_of}
 use Rattle.bpl_sorts.specs.BodiesFound.{found_under}
 use Rattle.bpl_sorts.specs.DeclaredTypes.{proc_types_in}
 use Rattle.bpl_sorts.specs.TypesView.{lists_seen, in_one_list}

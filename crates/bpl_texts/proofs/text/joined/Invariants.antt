@@ -1,5 +1,5 @@
 use Rattle.std.proofs.Common.{◌≡◌, ◌++◌, map, drop}
-use Rattle.bpl_ast.specs.Lines.{joined}
+use Rattle.canonical_text.specs.Lines.{joined}
 use Rattle.bpl_texts.proofs.text.joined.Given as goal
 
 abbrev pub invariant-loop-line : goal.invariant-loop-line

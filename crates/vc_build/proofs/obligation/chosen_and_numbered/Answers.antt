@@ -1,7 +1,7 @@
 use Rattle.std.proofs.Common.{◌≡◌, ◌∙◌, ap, map, subst}
 use Rattle.std.specs.Prelude.{IfOk}
 use Rattle.logic_core.specs.Def.{Obligation}
-use Rattle.trigger_choice.specs.Choice.{def_with_triggers}
+use Rattle.quantifier_triggers.specs.Choice.{def_with_triggers}
 use Rattle.obligation_text.specs.Canonical.{canonical}
 use Rattle.vc_build.proofs.Chosen.{parts, parts_chosen, chosen_sorted, chosen_bodies}
 use Rattle.vc_build.proofs.obligation.chosen_and_numbered.Goals as goal

@@ -1,7 +1,7 @@
 use Rattle.std.proofs.Common.{◌≡◌, ◌∙◌, ap, subst}
 use Rattle.std.specs.Prelude.{IfOk}
 use Rattle.logic_core.specs.Def.{Obligation}
-use Rattle.trigger_choice.specs.Choice.{obligation_with_triggers}
+use Rattle.quantifier_triggers.specs.Choice.{obligation_with_triggers}
 use Rattle.obligation_text.specs.Canonical.{canonical}
 use Rattle.vc_build.proofs.Chosen.{parts}
 use Rattle.vc_build.proofs.obligation.obligation_at.Goals as goal

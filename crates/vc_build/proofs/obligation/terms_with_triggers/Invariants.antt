@@ -1,5 +1,5 @@
 use Rattle.std.proofs.Common.{◌≡◌, ◌++◌, drop, map}
-use Rattle.trigger_choice.specs.Choice.{with_triggers}
+use Rattle.quantifier_triggers.specs.Choice.{with_triggers}
 use Rattle.vc_build.proofs.obligation.terms_with_triggers.Given as goal
 
 -- those so far, and then those that are ahead

@@ -5,7 +5,7 @@ use Rattle.bpl_scopes.specs.KnownSorts.{shapes_seen}
 use Rattle.bpl_scopes.specs.Sorts.{sorts_in, are_same}
 use Rattle.bpl_faults.specs.ScopeView.{scope_seen}
 use Rattle.std.proofs.lemmas.Grind.{common_steps}
-use Rattle.logic_core.proofs.Booleans.{and_assoc}
+use Rattle.logic_terms.proofs.Booleans.{and_assoc}
 use Rattle.bpl_faults.proofs.ExprSteps.{operands_next, all_next, terms_next, ints_next, indices_next, index_sort_next, triggers_next, patterns_next}
 use Rattle.bpl_faults.proofs.ArgumentSteps.{arguments_next, sorts_next, rest_is}
 use Rattle.bpl_faults.proofs.scope.Scope.+exprs.Goals as goal

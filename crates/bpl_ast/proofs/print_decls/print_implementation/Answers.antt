@@ -1,5 +1,0 @@
-use Rattle.bpl_ast.proofs.WrittenLines.{line_written}
-use Rattle.bpl_ast.proofs.print_decls.print_implementation.Goals as goal
-
-pub returns : goal.returns
-returns c = rw (line_written, ← c.in_ok-line.ensures, ← c.in_ok-print_declared.ensures) c.end.ensures

@@ -1,7 +1,0 @@
-use Rattle.std.proofs.Common.{◌≡◌, drop}
-use Rattle.bpl_ast.specs.Expression.{more_names}
-use Rattle.bpl_ast.specs.Written.{written}
-use Rattle.bpl_ast.proofs.print_types.print_more_names.Given as goal
-
-abbrev pub invariant-loop-name : goal.invariant-loop-name
-invariant-loop-name l = written l.line (more_names (drop l.name-index l.others)) ≡ written l.fn.line (more_names l.others)

@@ -1,7 +1,0 @@
-use Rattle.std.proofs.Common.{arith, drop-cons}
-use Rattle.std.proofs.lemmas.Grind.{common_steps}
-use Rattle.bpl_first_fault.proofs.SameBefore.{none_here}
-use Rattle.bpl_first_fault.proofs.program.first_fault_of.Goals as goal
-
-pub loop-i-preserved : goal.loop-i-preserved
-loop-i-preserved c = grind (arith, common_steps, none_here, drop-cons)

@@ -1,5 +1,0 @@
-use Rattle.canonical_laws.proofs.ProgramReads.{lexes}
-use Rattle.canonical_laws.proofs.laws.canonical_tokens_are_found.Goals as goal
-
-pub returns : goal.returns
-returns c = λ ds w. lexes ds w

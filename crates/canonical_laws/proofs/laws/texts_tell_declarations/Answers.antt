@@ -1,5 +1,0 @@
-use Rattle.canonical_laws.proofs.TextsTold.{texts_tell}
-use Rattle.canonical_laws.proofs.laws.texts_tell_declarations.Goals as goal
-
-pub returns : goal.returns
-returns c = λ own mine others theirs a b w v x y e. texts_tell own mine others theirs a b w v x y e

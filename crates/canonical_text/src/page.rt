@@ -1,0 +1,91 @@
+// The lines of the canonical text as they are written.
+ghost use Rattle.std.specs.Prelude.{◌≡◌, ◌+◌, [], ◌∷◌, ◌++◌, map, OnOk, IfOk};
+ghost use Rattle.canonical_text.specs.Glyph.{plain, line};
+ghost use Rattle.canonical_text.specs.Lines.{joined};
+ghost use Rattle.canonical_text.specs.Written.{begun};
+
+use crate::line::Line;
+use std::alloc::{AllocError, Global};
+use std::marker::Model;
+
+/// The lines so far.
+#[derive(Drop)]
+pub struct Page {
+    alloc: Global,
+    lines: Vec<Vec<u8>>,
+}
+
+impl Model for Page {
+    ghost use Rattle.std.specs.Prelude.{ℕ, List, map};
+
+    ghost Value = { List (List ℕ) };
+
+    ghost view = { λ a. map (λ l. l.items) a.lines.items };
+}
+
+impl Page {
+    /// No lines yet.
+    pub fn new(alloc: Global) -> Page
+        ensures { result ≡ [] }
+    {
+        Page {
+            alloc,
+            lines: Vec::new(alloc),
+        }
+    }
+
+    /// The lines.
+    pub fn into_lines(self) -> Vec<Vec<u8>>
+        ensures { map (λ l. l.items) result.items ≡ self }
+    {
+        self.lines
+    }
+
+    /// A line that begins with so many spaces.
+    pub fn begin(&self, indent: usize) -> Result<Line, AllocError>
+        ensures { IfOk result (λ l. l ≡ begun indent) }
+    {
+        Line::begin(self.alloc, indent)
+    }
+
+    /// One more line.
+    pub fn end(&mut self, line: Line) -> Result<(), AllocError>
+        ensures { OnOk result (self.new ≡ self.old ++ line.text ∷ []) }
+    {
+        self.lines.push(line.into_text())?;
+        Ok(())
+    }
+
+    /// One more line, which has this one token.
+    #[tactic(auto, using(crate::proofs::WrittenLines::line_written))]
+    pub fn bare(&mut self, indent: usize, token: &[u8]) -> Result<(), AllocError>
+        ensures { OnOk result (self.new ≡ self.old ++ line indent (plain token.now ∷ []) ∷ []) }
+    {
+        let mut line = self.begin(indent)?;
+        line.word(token)?;
+        self.end(line)
+    }
+}
+
+/// Two spaces more. There is no memory for lines so deep that they can't be counted.
+pub fn deeper(indent: usize) -> Result<usize, AllocError>
+    ensures { IfOk result (λ n. n ≡ indent + 2) }
+{
+    match indent.checked_add(2) {
+        Some(inner) => Ok(inner),
+        None => Err(AllocError),
+    }
+}
+
+/// Appends lines, each ended by a line feed.
+pub fn append_lines(out: &mut Vec<u8>, lines: &[Vec<u8>]) -> Result<(), AllocError>
+    ensures { OnOk result (out.new.items ≡ out.old.items ++ joined (map (λ l. l.items) lines.now)) }
+{
+    let mut rest = lines;
+    while let Some((line, tail)) = rest.split_first() {
+        out.extend_from_slice(line)?;
+        out.extend_from_slice(b"\n")?;
+        rest = tail;
+    }
+    Ok(())
+}

@@ -1,3 +1,0 @@
-pub mod Elaborated
-pub mod Elaborate
-pub mod ModuleLaws

@@ -1,4 +1,0 @@
-pub mod Twins
-pub mod Resolved
-pub mod Declared
-pub mod Procedures
