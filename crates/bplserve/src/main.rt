@@ -4,7 +4,7 @@
 
 use bv_base::{StdSink, StdSource};
 use edit_server::{Status, run};
-use proof_workers::OpenGate;
+use obligation_board::OpenGate;
 use std::alloc::Global;
 use std::env;
 use std::io::{self, ErrorKind};

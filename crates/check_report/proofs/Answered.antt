@@ -2,7 +2,7 @@
 use Rattle.std.proofs.Common.{◌≡◌, ◌≢◌, ◌⊎◌, ◌∙◌, refl, sym, ap, inl, inr, ℕ, List, [], ◌∷◌, ◌++◌, map, Option, append_assoc, append-nil}
 use Rattle.std.proofs.lemmas.List.{map-append}
 use Rattle.obligation_text.specs.Asked.{Asked, key_of}
-use Rattle.proof_cache.specs.Kept.{Key}
+use Rattle.board_core.specs.Kept.{Key}
 use Rattle.tableau.specs.Settled.{Settled, settled_by}
 use Rattle.vc_build.specs.declared.goal.Goal.{Goal}
 use Rattle.program_opening.specs.ProcGoals.{ProcGoals}

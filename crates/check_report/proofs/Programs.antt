@@ -7,8 +7,8 @@ use Rattle.bpl_scopes.specs.declared.fault.Fault.{Fault}
 use Rattle.bpl_declaration_faults.specs.DeclFaults.{fault_of}
 use Rattle.bpl_model.specs.Module.{Module}
 use Rattle.bpl_sorts.specs.Erased.{erased, told_apart}
-use Rattle.module_laws.specs.Elaborated.{IsElaborated}
-use Rattle.module_laws.specs.Elaborate.{module_of}
+use Rattle.bpl_resolve.specs.Elaborated.{IsElaborated}
+use Rattle.bpl_resolve.specs.Elaborate.{module_of}
 use Rattle.program_opening.specs.Opening.{program, opening}
 use Rattle.program_opening.proofs.Openings.{program_of}
 use Rattle.check_report.specs.Called.{IsProgramOf}

@@ -7,7 +7,7 @@ use Rattle.program_opening.specs.ProcGoals.{ProcGoals, goals_by_proc}
 use Rattle.vc_build.specs.declared.fault.Measure.{Measure}
 use Rattle.program_opening.specs.Opening.{Opening, program, refused, size_fault, Opens}
 use Rattle.check_report.specs.Scratch.{lines_on, all_proved}
-use Rattle.proof_lines.specs.Parts.{program_in, lines_in}
+use Rattle.recheck_report.specs.Parts.{program_in, lines_in}
 use Rattle.recheck_report.specs.Recheck.{heads, Rechecks}
 use Rattle.recheck_report.specs.Worth.{AcceptedIsSafe}
 use Rattle.smoke_report.specs.Smoke.{smoke_lines, none_unreachable, points_large}

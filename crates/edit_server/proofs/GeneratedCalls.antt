@@ -3,7 +3,7 @@ use Rattle.std.proofs.Common.{◌≡◌, ◌∙◌, refl, sym, ap, subst, inl, i
 use Rattle.std.specs.Prelude.{OnOk, OnErr}
 use Rattle.std.specs.List.{list_all}
 use Rattle.obligation_text.specs.Asked.{key_of}
-use Rattle.proof_cache.specs.Kept.{Key}
+use Rattle.board_core.specs.Kept.{Key}
 use Rattle.bpl_model.specs.Module.{Module}
 use Rattle.fault_text.specs.Written.{Written, fault_line}
 use Rattle.report_text.specs.Lines.{ended}

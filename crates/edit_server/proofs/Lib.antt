@@ -18,3 +18,7 @@ mod Starving
 mod Runs
 mod Shared
 mod Summaries
+pub mod Sessions
+pub mod LongLines
+pub mod Replies
+pub mod Served

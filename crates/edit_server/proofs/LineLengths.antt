@@ -1,8 +1,8 @@
 -- How long a text's two parts are: the program has no more bytes than the text, and so have the lines behind it, one line feed more at most.
 use Rattle.std.proofs.Common.{◌≡◌, ℕ, ◌+◌, ◌≤◌, Bool, true, false, cond, List, [], ◌∷◌, ◌++◌, length, map, refl, ap, arith}
 use Rattle.std.proofs.lemmas.List.{length-append}
-use Rattle.proof_lines.specs.Lines.{is_feed, onto, pieces, without_feed, lines}
-use Rattle.proof_lines.specs.Parts.{is_mark, before_mark, after_mark, program_in, lines_in}
+use Rattle.recheck_report.specs.Lines.{is_feed, onto, pieces, without_feed, lines}
+use Rattle.recheck_report.specs.Parts.{is_mark, before_mark, after_mark, program_in, lines_in}
 
 -- the bytes of pieces
 abbrev bytes_in : List (List ℕ) → ℕ

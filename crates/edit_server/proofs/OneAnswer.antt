@@ -2,7 +2,7 @@
 use Rattle.std.proofs.Common.{◌≡◌, ◌∙◌, ℕ, List, Option, Some, None, sym, ap, subst}
 use Rattle.report_text.specs.Lines.{ended}
 use Rattle.fault_text.specs.Written.{Written}
-use Rattle.proof_lines.specs.Parts.{program_in, lines_in}
+use Rattle.recheck_report.specs.Parts.{program_in, lines_in}
 use Rattle.program_opening.specs.ProcGoals.{goals_by_proc}
 use Rattle.program_opening.specs.Opening.{Opening, program, refused}
 use Rattle.program_opening.specs.Laws.{OpensOnce}

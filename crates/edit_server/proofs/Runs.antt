@@ -10,8 +10,8 @@ use Rattle.goal_board.specs.Calls.{BoardCall, made}
 use Rattle.command_words.specs.declared.command.Command.{Command}
 use Rattle.command_words.specs.declared.command.Mode.{Mode}
 use Rattle.command_words.specs.declared.command.Mode.TheVariants.{Check, Serve, Recheck, Gen, Smoke}
-use Rattle.session_lines.specs.Served.{NothingIsServed}
-use Rattle.session_lines.proofs.Served.{none_within as none_within_session}
+use Rattle.edit_server.specs.Served.{NothingIsServed}
+use Rattle.edit_server.proofs.Served.{none_within as none_within_session}
 use Rattle.edit_server.specs.Modes.{answers_text}
 use Rattle.edit_server.specs.Ran.{Outside, TellsFaults, AnswersText, Generates, ServesLines, Does, Ran}
 use Rattle.edit_server.specs.SessionWorth.{SessionWorth}

@@ -5,8 +5,8 @@ use Rattle.bv_base.specs.Known.{Takes, HasRisen}
 use Rattle.goal_board.specs.Calls.{BoardCall}
 use Rattle.line_server.specs.declared.serving.Ending.{Ending}
 use Rattle.line_server.specs.declared.serving.Ending.TheVariants as ending
-use Rattle.session_lines.specs.Served.{IsWithin, Serves, ServesAnyWorkers}
-use Rattle.session_lines.specs.Limits.{session_total}
+use Rattle.edit_server.specs.Served.{IsWithin, Serves, ServesAnyWorkers}
+use Rattle.edit_server.specs.SessionLimits.{session_total}
 use Rattle.edit_server.specs.Session.{Served, IsSessionShort, status_of}
 use Rattle.edit_server.specs.declared.status.Status.{Status}
 use Rattle.edit_server.specs.declared.status.Status.TheVariants.{Done, NotAll, Usage, ReadFault, WriteFault, Memory, Refused, SessionFull}

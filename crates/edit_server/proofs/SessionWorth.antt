@@ -9,8 +9,8 @@ use Rattle.goal_board.specs.Calls.{BoardCall}
 use Rattle.edit_session.specs.Session.{Exchange}
 use Rattle.edit_session.specs.SessionWorth.{IsWorthSession}
 use Rattle.edit_session.specs.Worth.{SessionsAreWorth}
-use Rattle.session_lines.specs.Limits.{session_total}
-use Rattle.session_lines.specs.Served.{IsSession}
+use Rattle.edit_server.specs.SessionLimits.{session_total}
+use Rattle.edit_server.specs.Served.{IsSession}
 use Rattle.edit_server.specs.Session.{Served}
 use Rattle.edit_server.specs.SessionWorth.{SessionWorth}
 use Rattle.edit_server.specs.declared.status.Status.{Status}

@@ -8,7 +8,7 @@ use Rattle.shared_goals.specs.Known.{by_opener, IsLaterPass}
 use Rattle.shared_goals.specs.Opener.{GoalPass}
 use Rattle.shared_goals.specs.Beside.{own_calls}
 use Rattle.shared_goals.proofs.Besides.{all_own}
-use Rattle.session_lines.specs.Served.{NothingIsServed}
+use Rattle.edit_server.specs.Served.{NothingIsServed}
 use Rattle.command_words.specs.declared.command.Command.{Command}
 use Rattle.edit_server.specs.Ran.{Outside, Ran}
 use Rattle.edit_server.specs.Shared.{IsUnused}

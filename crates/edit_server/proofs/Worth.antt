@@ -10,7 +10,7 @@ use Rattle.check_report.specs.Sound.{CorrectIsSafe}
 use Rattle.recheck_report.specs.Accepted.{accepted_line}
 use Rattle.recheck_report.specs.Recheck.{heads, Rechecks}
 use Rattle.recheck_report.specs.Worth.{AcceptedIsSafe}
-use Rattle.proof_lines.specs.Parts.{program_in, lines_in}
+use Rattle.recheck_report.specs.Parts.{program_in, lines_in}
 use Rattle.vc_build.specs.declared.fault.Measure.{Measure}
 use Rattle.smoke_report.specs.Smoke.{points_large}
 use Rattle.smoke_report.specs.Unreached.{NamesUnreached}

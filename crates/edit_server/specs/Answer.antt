@@ -7,7 +7,7 @@ use Rattle.command_words.specs.declared.command.Mode.{Mode}
 use Rattle.command_words.specs.declared.command.Mode.TheVariants.{Check, Serve, Recheck, Gen, Smoke}
 use Rattle.fault_text.specs.Written.{Written, fault_line}
 use Rattle.report_text.specs.Lines.{ended, text_of}
-use Rattle.proof_lines.specs.Parts.{program_in, lines_in}
+use Rattle.recheck_report.specs.Parts.{program_in, lines_in}
 use Rattle.vc_build.specs.Goals.{goals}
 use Rattle.vc_build.specs.declared.fault.Measure.{Measure}
 use Rattle.program_opening.specs.ProcGoals.{goals_by_proc}

@@ -11,3 +11,7 @@ pub mod Session
 pub mod Ran
 pub mod Shared
 pub mod Laws
+pub mod SessionLimits
+pub mod Replying
+pub mod LineLaws
+pub mod Served

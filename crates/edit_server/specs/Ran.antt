@@ -5,7 +5,7 @@ use Rattle.command_words.specs.declared.command.Command.{Command}
 use Rattle.command_words.specs.declared.command.Mode.{Mode}
 use Rattle.command_words.specs.declared.command.Mode.TheVariants.{Check, Serve, Recheck, Gen, Smoke}
 use Rattle.goal_board.specs.Calls.{BoardCall}
-use Rattle.session_lines.specs.Served.{IsWithin as IsWithinSession}
+use Rattle.edit_server.specs.Served.{IsWithin as IsWithinSession}
 use Rattle.edit_server.specs.Generated.{IsStarvedBy}
 use Rattle.edit_server.specs.Exit.{IsAnswering, IsSilent}
 use Rattle.edit_server.specs.Run.{Answered, Broken, BrokenSummary, Generated, IsFull, IsShort, IsWithin, WroteFront, usage_line}

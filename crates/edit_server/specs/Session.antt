@@ -3,8 +3,8 @@ use Rattle.std.specs.Prelude.{ℕ, ◌≤◌, List, length, Option, Some, None}
 use Rattle.goal_board.specs.Calls.{BoardCall}
 use Rattle.line_server.specs.declared.serving.Ending.{Ending}
 use Rattle.line_server.specs.declared.serving.Ending.TheVariants as ending
-use Rattle.session_lines.specs.Served.{AnswersAll, AnswersWhole, Exceeds, Breaks, Starves}
-use Rattle.session_lines.specs.Limits.{session_total}
+use Rattle.edit_server.specs.Served.{AnswersAll, AnswersWhole, Exceeds, Breaks, Starves}
+use Rattle.edit_server.specs.SessionLimits.{session_total}
 use Rattle.edit_server.specs.declared.status.Status.{Status}
 use Rattle.edit_server.specs.declared.status.Status.TheVariants.{Done, NotAll, Usage, ReadFault, WriteFault, Memory, Refused, SessionFull}
 

@@ -8,7 +8,7 @@ use Rattle.command_words.specs.declared.command.Mode.{Mode}
 use Rattle.command_words.specs.declared.command.Mode.TheVariants.{Check, Serve, Recheck, Gen, Smoke}
 use Rattle.report_text.specs.Lines.{ended}
 use Rattle.check_report.specs.Called.{IsProgramOf, CallsCorrectTheSafe}
-use Rattle.proof_lines.specs.Program.{program_in}
+use Rattle.recheck_report.specs.Program.{program_in}
 use Rattle.smoke_report.specs.Unreached.{NamesUnreached}
 use Rattle.edit_server.specs.declared.status.Status.{Status}
 use Rattle.edit_server.specs.declared.status.Status.TheVariants.{Refused}

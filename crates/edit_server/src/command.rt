@@ -12,6 +12,7 @@ ghost use Rattle.edit_server.specs.Shared.{Runs};
 
 use crate::answer::answer_to;
 use crate::generated::generated;
+use crate::line_laws::nothing_is_served;
 use crate::modes::is_shared;
 use crate::running::run_shared;
 use crate::session::serve_session;
@@ -22,8 +23,7 @@ use check_report::generated_laws::proved_are_safe;
 use command_words::{Command, Mode, Usage, read_words};
 use edit_session::laws::sessions_are_worth;
 use goal_board::alone::Alone;
-use proof_workers::Gate;
-use session_lines::laws::nothing_is_served;
+use obligation_board::Gate;
 use std::alloc::Global;
 use std::sync::Wait;
 use std::thread::Threads;

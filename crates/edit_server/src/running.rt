@@ -7,14 +7,13 @@ ghost use Rattle.edit_server.specs.Modes.{IsCommand, is_shared};
 ghost use Rattle.edit_server.specs.Ran.{Outside, outside};
 ghost use Rattle.edit_server.specs.Shared.{Runs};
 
+use crate::line_laws::nothing_is_served;
 use crate::serving::serve_on;
 use crate::status::Status;
 use crate::workers::{Opening, run_beside};
 use bv_base::{Sink, Source};
 use command_words::{Command, Mode};
-use obligation_board::{Pass, SharedBoard};
-use proof_workers::Gate;
-use session_lines::laws::nothing_is_served;
+use obligation_board::{Gate, Pass, SharedBoard};
 use std::sync::Wait;
 use std::thread::Threads;
 use tableau::settled::Settled;

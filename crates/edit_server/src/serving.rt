@@ -17,6 +17,7 @@ ghost use Rattle.edit_server.specs.Ran.{Outside, outside, Ran};
 ghost use Rattle.edit_server.specs.Shared.{IsUnused};
 
 use crate::generated::generated_on;
+use crate::line_laws::{any_workers_serve, nothing_is_served};
 use crate::session::serve_session;
 use crate::status::Status;
 use bv_base::{Sink, Source, write_all};
@@ -24,9 +25,7 @@ use check_report::generated_laws::proved_are_safe;
 use command_words::{Command, Mode};
 use edit_session::laws::sessions_are_worth;
 use goal_board::GoalBoard;
-use obligation_board::{Pass, SharedBoard};
-use proof_workers::Gate;
-use session_lines::laws::{any_workers_serve, nothing_is_served};
+use obligation_board::{Gate, Pass, SharedBoard};
 use shared_goals::{Beside, Naming};
 use std::alloc::Global;
 use std::marker::Brand;

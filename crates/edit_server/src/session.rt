@@ -4,13 +4,14 @@ ghost use Rattle.bv_base.specs.Known.{HasRisen};
 ghost use Rattle.tableau.specs.Settled.{Settled as settled};
 ghost use Rattle.board_core.specs.Board.{first, close, closed_now};
 ghost use Rattle.goal_board.specs.Calls.{made};
-ghost use Rattle.session_lines.specs.Served.{IsWithin};
+ghost use Rattle.edit_server.specs.Served.{IsWithin};
 ghost use Rattle.edit_server.specs.Session.{Served, IsSessionShort, status_of};
 
+use crate::line_session::serve;
 use crate::status::Status;
 use bv_base::{Sink, Source};
 use goal_board::GoalBoard;
-use session_lines::{Ending, serve};
+use line_server::Ending;
 use std::alloc::Global;
 
 // The status of a session that ended so.

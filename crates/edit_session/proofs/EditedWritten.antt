@@ -6,9 +6,9 @@ use Rattle.bpl_ast.specs.Statement.{DeclBody, constant, function, axiom_of, vari
 use Rattle.bpl_grammar.specs.Fault.{Fault}
 use Rattle.bpl_grammar.specs.Programs.{SpellsProgram}
 use Rattle.bpl_scopes.specs.Fault.{is_among}
-use Rattle.canonical_laws.specs.WrittenStatement.{IsWrittenDecl}
-use Rattle.canonical_laws.specs.RoundTrip.{AreWrittenDecls}
-use Rattle.canonical_laws.proofs.RoundTrips.{programs_written}
+use Rattle.canonical_text.specs.WrittenStatement.{IsWrittenDecl}
+use Rattle.canonical_text.specs.RoundTrip.{AreWrittenDecls}
+use Rattle.canonical_text.proofs.RoundTrips.{programs_written}
 use Rattle.request_text.specs.Request.{Put, Request, open_text, edit, status, report, sums, proofs, quit}
 use Rattle.program_edits.specs.Edited.{Edited, edited, IsReadAs, Texts, TellsTexts, is_axiom, renamed, numbered, names, applied, after_puts, opened, puts_of, unless_lacking, edited_by, IsEdited}
 use Rattle.program_edits.specs.Refusals.{texts_of}

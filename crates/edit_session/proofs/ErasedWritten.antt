@@ -5,9 +5,9 @@ use Rattle.bv_base.specs.declared.place.Place.{Place}
 use Rattle.bpl_ast.specs.Place.{Name}
 use Rattle.bpl_ast.specs.Statement.{DeclBody, constant, function, axiom_of, variables, synonym, procedure, implementation, Decl, name_of, axioms_with}
 use Rattle.bpl_scopes.specs.Scopes.{Table, table_of}
-use Rattle.canonical_laws.specs.Written.{IsName, AreNames, SomeNames}
-use Rattle.canonical_laws.specs.WrittenStatement.{IsWrittenDecl}
-use Rattle.canonical_laws.specs.RoundTrip.{AreWrittenDecls}
+use Rattle.canonical_text.specs.WrittenExpression.{IsName, AreNames, SomeNames}
+use Rattle.canonical_text.specs.WrittenStatement.{IsWrittenDecl}
+use Rattle.canonical_text.specs.RoundTrip.{AreWrittenDecls}
 use Rattle.bpl_sorts.specs.UserTypes.{user_of}
 use Rattle.bpl_sorts.specs.Erased.{users_with, replaced_body, replaced_from, replaced, Unique, uniques_of, uniques_in, uniques, one_more, axioms_from, axioms_after, carrier_axioms, as_integers, erased}
 

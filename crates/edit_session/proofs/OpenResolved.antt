@@ -10,9 +10,9 @@ use Rattle.bpl_declaration_faults.specs.DeclFaults.{fault_of}
 use Rattle.bpl_model.specs.Module.{Module}
 use Rattle.bpl_sorts.specs.Erased.{erased}
 use Rattle.bpl_sorts.specs.CarrierFaults.{carrier_fault}
-use Rattle.canonical_laws.specs.RoundTrip.{AreWrittenDecls}
-use Rattle.module_laws.specs.Elaborate.{decl_text, module_of}
-use Rattle.name_laws.specs.Resolved.{IsResolved}
+use Rattle.canonical_text.specs.RoundTrip.{AreWrittenDecls}
+use Rattle.bpl_resolve.specs.Elaborate.{decl_text, module_of}
+use Rattle.rebuild_laws.specs.Resolved.{IsResolved}
 use Rattle.program_opening.specs.Opening.{typed, typing_by_carriers, typing_by, typing}
 use Rattle.edit_session.proofs.ErasedWritten.{erased_written}
 

@@ -9,14 +9,14 @@ use Rattle.bpl_declaration_faults.specs.DeclFaults.{fault_of}
 use Rattle.bpl_goto.specs.Forward.{AllGoForward}
 use Rattle.bpl_model.specs.Module.{Proc, DeclText, Module, with_procedure}
 use Rattle.bpl_model.specs.Typed.{IsTypedModule}
-use Rattle.canonical_laws.specs.RoundTrip.{AreWrittenDecls}
+use Rattle.canonical_text.specs.RoundTrip.{AreWrittenDecls}
 use Rattle.fault_text.specs.FaultView.{SourcesAreShort}
 use Rattle.fault_text.specs.Written.{Written}
 use Rattle.fault_text.specs.WrittenFault.{decl_fault}
-use Rattle.module_laws.specs.Elaborate.{module_of}
-use Rattle.module_laws.proofs.GoesForward.{goes_forward}
-use Rattle.module_laws.proofs.TypedModules.{module_typed}
-use Rattle.name_laws.specs.Resolved.{IsResolved}
+use Rattle.bpl_resolve.specs.Elaborate.{module_of}
+use Rattle.bpl_resolve.proofs.GoesForward.{goes_forward}
+use Rattle.bpl_resolve.proofs.TypedModules.{module_typed}
+use Rattle.rebuild_laws.specs.Resolved.{IsResolved}
 use Rattle.body_revision.specs.Revised.{IsRevised}
 use Rattle.body_revision.specs.Revision.{IsRevision}
 use Rattle.body_revision.specs.declared.revised.Revision.{Revision}

@@ -4,7 +4,7 @@ use Rattle.bpl_model.specs.Module.{Module}
 use Rattle.vc_build.specs.Large.{count_limit}
 use Rattle.vc_build.specs.Rebuild.{built}
 use Rattle.vc_rebuild.specs.Kept.{Program}
-use Rattle.canonical_laws.specs.RoundTrip.{AreWrittenDecls}
+use Rattle.canonical_text.specs.RoundTrip.{AreWrittenDecls}
 use Rattle.fault_text.specs.FaultView.{SourcesAreShort}
 use Rattle.request_text.specs.Request.{Reply}
 use Rattle.goal_board.specs.Calls.{Board, BoardCall}

@@ -5,7 +5,7 @@ use Rattle.bpl_model.specs.Module.{Module}
 use Rattle.obligation_text.specs.Asked.{Asked, key_of}
 use Rattle.proof_core.specs.Proof.{Proof}
 use Rattle.proof_text.specs.Text.{proof_text}
-use Rattle.proof_cache.specs.Kept.{Key}
+use Rattle.board_core.specs.Kept.{Key}
 use Rattle.tableau.specs.Search.{answer}
 use Rattle.vc_build.specs.declared.goal.Goal.{Goal}
 use Rattle.vc_build.specs.Large.{program_goals}

@@ -1,8 +1,8 @@
 // The program that is open, and declarations that are to be.
 ghost use Rattle.std.specs.Prelude.{◌≡◌, ◌<◌, ◌-◌, ◌^◌, [], map, length, slice_set, IfOk, IfSome, IfNone};
 ghost use Rattle.bpl_goto.specs.Forward.{AllGoForward};
-ghost use Rattle.canonical_laws.specs.RoundTrip.{AreWrittenDecls};
-ghost use Rattle.name_laws.specs.Resolved.{IsResolved};
+ghost use Rattle.canonical_text.specs.RoundTrip.{AreWrittenDecls};
+ghost use Rattle.rebuild_laws.specs.Resolved.{IsResolved};
 ghost use Rattle.vc_build.specs.Rebuild.{built, rebuilt};
 ghost use Rattle.fault_text.specs.FaultView.{SourcesAreShort};
 ghost use Rattle.program_opening.specs.Opening.{typing, typed as typed_as};

@@ -3,8 +3,8 @@ ghost use Rattle.std.specs.Prelude.{◌≡◌, ◌<◌, ◌-◌, ◌^◌, length
 ghost use Rattle.bpl_declaration_faults.specs.DeclFaults.{fault_of};
 ghost use Rattle.bpl_goto.specs.Forward.{AllGoForward};
 ghost use Rattle.bpl_model.specs.Typed.{IsTypedModule};
-ghost use Rattle.canonical_laws.specs.RoundTrip.{AreWrittenDecls};
-ghost use Rattle.name_laws.specs.Resolved.{IsResolved};
+ghost use Rattle.canonical_text.specs.RoundTrip.{AreWrittenDecls};
+ghost use Rattle.rebuild_laws.specs.Resolved.{IsResolved};
 ghost use Rattle.body_revision.specs.Revised.{IsRevised};
 ghost use Rattle.program_opening.specs.NoUsers.{has_user_types};
 ghost use Rattle.request_text.specs.ReplyView.{reply_view};
@@ -17,6 +17,7 @@ use crate::program::has_few;
 use body_revision::module::revision;
 use body_revision::{Revision, is_revised, stays_faultless};
 use bpl_ast::Decl;
+use bpl_dependencies::Declarations;
 use bpl_model::Module;
 use bv_base::Steps;
 use goal_board::GoalBoard;
@@ -54,10 +55,11 @@ fn revision_of(
     if !has_other_body(&decls[at], decl) {
         return Ok(None);
     }
-    if !stays_faultless(alloc, decls, at, decl)? {
+    let declarations = Declarations::of(alloc, decls)?;
+    if !stays_faultless(alloc, &declarations, at, decl)? {
         return Ok(None);
     }
-    let revision = revision(alloc, decls, at, decl)?;
+    let revision = revision(alloc, &declarations, at, decl)?;
     Ok(Some(revision))
 }
 

@@ -1,7 +1,7 @@
 // The session.
 ghost use Rattle.std.specs.Prelude.{◌≡◌, ◌<◌, ◌^◌, ◌-◌, length, slice_set, Result, Ok, Err, IfOk, IfErr, IfSome, IfNone};
 ghost use Rattle.bpl_model.specs.Module.{Module as typed_module};
-ghost use Rattle.canonical_laws.specs.RoundTrip.{AreWrittenDecls};
+ghost use Rattle.canonical_text.specs.RoundTrip.{AreWrittenDecls};
 ghost use Rattle.vc_build.specs.Rebuild.{built, rebuilt as rebuilt_of};
 ghost use Rattle.fault_text.specs.FaultView.{SourcesAreShort};
 ghost use Rattle.tableau.specs.Settled.{Settled as settled};

@@ -1,14 +1,14 @@
 // The faults of texts, and of declarations, written.
 ghost use Rattle.std.specs.Prelude.{◌≡◌, ◌-◌, ◌^◌, ◌<◌, length, IfOk};
 ghost use Rattle.bpl_parse.specs.Program.{IsFaultOf};
-ghost use Rattle.bpl_first_fault.specs.FaultView.{fault_seen};
+ghost use Rattle.bpl_resolve.specs.FaultView.{fault_seen};
 ghost use Rattle.fault_text.specs.WrittenFault.{decl_fault};
 ghost use Rattle.fault_text.specs.FaultView.{IsWrittenOf, SourcesAreShort};
 
 use crate::{Written, fault_in_decl, fault_in_text};
 use bpl_ast::Decl;
-use bpl_first_fault::TypeFault;
 use bpl_parse::Fault;
+use bpl_resolve::TypeFault;
 use std::alloc::{AllocError, Global};
 
 /// The text's fault, written. Want of memory at the parser is want of memory here.

@@ -2,7 +2,7 @@
 use Rattle.std.proofs.Common.{◌≡◌, ◌∙◌, refl, sym, ap, subst, ℕ, Bool, true, false, not, cond, IsTrue, List, [], ◌∷◌, ◌++◌, fold, Option, Some, None, inl, inr}
 use Rattle.std.specs.List.{list_all}
 use Rattle.tableau.specs.Settled.{Settled}
-use Rattle.proof_cache.specs.Kept.{Key}
+use Rattle.board_core.specs.Kept.{Key}
 use Rattle.board_core.specs.Board.{Event, open_keys, claim, deposit, give_back, look, gather, close, no_memory, gathered}
 use Rattle.board_core.specs.Step.{step, wanted, with_claim}
 use Rattle.goal_board.specs.Calls.{Board, BoardCall, made, answer_key, Plays, Settles, Works}

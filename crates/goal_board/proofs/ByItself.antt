@@ -3,7 +3,7 @@ use Rattle.std.proofs.Common.{◌≡◌, ◌⊎◌, ◌∙◌, refl, sym, subst,
 use Rattle.std.specs.Prelude.{OnErr}
 use Rattle.goal_board.proofs.Rounds.{settled_works}
 use Rattle.tableau.specs.Settled.{Settled, IsRight, settled_by}
-use Rattle.proof_cache.specs.Kept.{kept_at}
+use Rattle.board_core.specs.Kept.{kept_at}
 use Rattle.board_core.specs.Board.{gather, gathered, no_memory, memory}
 use Rattle.board_core.specs.Step.{reply}
 use Rattle.goal_board.specs.Calls.{Board, BoardCall, made, answer_key, Plays, Settles, Works, all_kept}

@@ -5,8 +5,8 @@ use Rattle.std.specs.List.{list_all}
 use Rattle.std.specs.Option.{option_map}
 use Rattle.obligation_text.specs.Asked.{key_of, KeysTellApart}
 use Rattle.tableau.specs.Settled.{Settled, IsRight}
-use Rattle.proof_cache.specs.Kept.{Key, is_among, kept_keys, kept_at, with_answer}
-use Rattle.proof_cache.proofs.Lists.{map-last}
+use Rattle.board_core.specs.Kept.{Key, is_among, kept_keys, kept_at, with_answer}
+use Rattle.board_core.proofs.Lists.{map-last}
 use Rattle.board_core.specs.Board.{Event, open_keys, claim, deposit, give_back, look, gather, close, no_memory, gathered, was_closed, opened, Reply}
 use Rattle.board_core.specs.Step.{step, reply, wanted, with_claim, claim_reply}
 use Rattle.board_core.specs.Sound.{IsSound}

@@ -1,7 +1,7 @@
 -- Calls that were made, one after another, and what a session's work leaves as it was.
 use Rattle.std.proofs.Common.{◌≡◌, ◌∙◌, refl, sym, ap, subst, append_assoc, append-nil, ℕ, Bool, List, [], ◌∷◌, ◌++◌, fold, Option, inl, inr}
 use Rattle.tableau.specs.Settled.{Settled}
-use Rattle.proof_cache.specs.Kept.{Key}
+use Rattle.board_core.specs.Kept.{Key}
 use Rattle.board_core.specs.Board.{gather, gathered}
 use Rattle.goal_board.specs.Calls.{Board, BoardCall, made, Plays}
 use Rattle.goal_board.specs.Between.{Merged, nothing, from_own, from_theirs, Between, keys_by, version_by, closed_by}

@@ -5,7 +5,7 @@ use Rattle.std.specs.Option.{option_map}
 use Rattle.logic_core.proofs.Booleans.{both_true}
 use Rattle.obligation_text.specs.Asked.{Asked, key_of, KeysTellApart}
 use Rattle.tableau.specs.Settled.{Settled, IsRight, settled_by}
-use Rattle.proof_cache.specs.Kept.{Key, is_among, kept_keys, kept_at}
+use Rattle.board_core.specs.Kept.{Key, is_among, kept_keys, kept_at}
 use Rattle.board_core.specs.Board.{gather, gathered}
 use Rattle.board_core.specs.Step.{reply}
 use Rattle.board_core.specs.Laws.{ShowsRight}

@@ -2,7 +2,7 @@
 use Rattle.std.specs.Prelude.{◌≡◌, ◌⊎◌, refl, ℕ, zero, suc, Bool, List, Option}
 use Rattle.std.proofs.Common.{inl, inr}
 use Rattle.std.specs.Coded.{Coded, code_by, coded×, coded⊎, coded_list, coded_option, coded_ℕ, coded_bool}
-use Rattle.proof_cache.specs.Kept.{Key}
+use Rattle.board_core.specs.Kept.{Key}
 use Rattle.tableau.specs.Settled.{Settled, coded_settled}
 use Rattle.board_core.specs.Board.{Ticket, Event, open_keys, claim, deposit, give_back, look, gather, close, no_memory, Reply, opened, claimed, was_empty, was_closed, deposited, given_back, looked, gathered, closed_now, memory}
 use Rattle.goal_board.specs.Calls.{Board, BoardCall}

@@ -5,7 +5,7 @@ use Rattle.atomic_table.specs.declared.shared.Seat.{Seat}
 use Rattle.turn_lock.specs.declared.rule.View.{View}
 use Rattle.turn_lock.specs.History.{StartsWith, calls_by}
 use Rattle.turn_lock.specs.Lock.{IsSamePass, number, seen, mine, and_then}
-use Rattle.proof_cache.specs.Kept.{Key}
+use Rattle.board_core.specs.Kept.{Key}
 use Rattle.board_core.specs.Board.{Ticket, State, Event, open_keys, claim, deposit, give_back, look, gather, close, no_memory, Reply, Call}
 use Rattle.board_core.specs.Step.{reply, Steps}
 use Rattle.board_core.specs.History.{Entry, replay, WasGiven, LegalAfter, Legal, StandsFor, after_call, held}

@@ -4,7 +4,7 @@ use Rattle.atomic_table.specs.declared.shared.Seat.{Seat}
 use Rattle.turn_lock.specs.declared.rule.View.{View}
 use Rattle.turn_lock.specs.History.{calls_by}
 use Rattle.turn_lock.specs.Lock.{number, seen, mine}
-use Rattle.proof_cache.specs.Kept.{Key}
+use Rattle.board_core.specs.Kept.{Key}
 use Rattle.board_core.specs.Board.{State, Event, claim, Reply, was_closed, Call}
 use Rattle.board_core.specs.Step.{wanted, with_claim, claim_reply}
 use Rattle.board_core.specs.History.{Entry, replay, Legal}

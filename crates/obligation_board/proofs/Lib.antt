@@ -4,3 +4,4 @@ pub mod Held
 pub mod Deciding
 pub mod Ending
 pub mod Knowing
+pub mod Working

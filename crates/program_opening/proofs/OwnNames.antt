@@ -9,11 +9,11 @@ use Rattle.bpl_scopes.specs.Fault.{again, is_among}
 use Rattle.bpl_scopes.specs.Scopes.{Text, Table, table_of, Counts, counts_after, no_counts, declared_names, texts_of}
 use Rattle.bpl_declaration_faults.specs.DeclFaults.{decl_faults, Before, before_with, nothing_before, fault_of}
 use Rattle.bpl_model.specs.Module.{Proc}
-use Rattle.module_laws.specs.Elaborate.{procs_in, module_of}
-use Rattle.module_laws.proofs.HasSort.{first_empty}
-use Rattle.module_laws.proofs.GoesForward.{if_so_empty}
-use Rattle.module_laws.proofs.Ways.{text_itself}
-use Rattle.module_laws.proofs.EntriesFine.{NoFaults, none_faulty}
+use Rattle.bpl_resolve.specs.Elaborate.{procs_in, module_of}
+use Rattle.bpl_resolve.proofs.HasSort.{first_empty}
+use Rattle.bpl_resolve.proofs.GoesForward.{if_so_empty}
+use Rattle.bpl_resolve.proofs.Ways.{text_itself}
+use Rattle.bpl_resolve.proofs.EntriesFine.{NoFaults, none_faulty}
 use Rattle.program_opening.specs.Laws.{HaveOwnNames}
 
 -- none of the procedures has one of these names

@@ -14,7 +14,7 @@ use Rattle.bpl_sorts.specs.UserTypes.{user_in, user_by, user_after, user_of}
 use Rattle.bpl_sorts.specs.Erased.{users_with, kept_unique, replaced_body, replaced_from, replaced, Unique, uniques_of, uniques_in, uniques, axioms_from, axioms_after, as_integers, erased, maps_over, told_apart}
 use Rattle.bpl_sorts.specs.CarrierFaults.{carrier_fault}
 use Rattle.bpl_model.specs.Module.{Module}
-use Rattle.module_laws.specs.Elaborate.{module_of}
+use Rattle.bpl_resolve.specs.Elaborate.{module_of}
 use Rattle.fault_text.specs.Written.{Written}
 use Rattle.fault_text.specs.WrittenFault.{decl_fault}
 use Rattle.program_opening.specs.Opening.{typed, ill_typed, typing}

@@ -3,7 +3,7 @@ use Rattle.std.specs.Prelude.{◌≡◌, List}
 use Rattle.std.proofs.Common.{sym, subst, inl, inr}
 use Rattle.bpl_ast.specs.Statement.{Decl}
 use Rattle.bpl_model.specs.Module.{Module}
-use Rattle.module_laws.specs.ModuleLaws.{FaultlessIsTyped, FaultlessGoesForward}
+use Rattle.bpl_resolve.specs.ModuleLaws.{FaultlessIsTyped, FaultlessGoesForward}
 use Rattle.vc_build.specs.Sound.{ValidGoalsAreSafe}
 use Rattle.bpl_sorts.specs.Erased.{erased}
 use Rattle.program_opening.specs.Opening.{program}

@@ -11,7 +11,7 @@ use Rattle.bpl_declaration_faults.specs.DeclFaults.{fault_of}
 use Rattle.bpl_sorts.specs.Erased.{erased}
 use Rattle.bpl_sorts.specs.CarrierFaults.{carrier_fault}
 use Rattle.bpl_model.specs.Module.{Module}
-use Rattle.module_laws.specs.Elaborate.{module_of}
+use Rattle.bpl_resolve.specs.Elaborate.{module_of}
 use Rattle.vc_build.specs.declared.fault.Measure.{Measure}
 use Rattle.vc_build.specs.declared.fault.Measure.TheVariants.{Count, Bytes}
 use Rattle.vc_build.specs.Large.{program_large}

@@ -3,7 +3,7 @@
 ghost use Rattle.program_opening.specs.Laws.{OpensOnce, OpensSomething, DeclaredModulesAreSound, ModulesAreSound, ProgramsAreSound};
 
 use bpl_grammar::text_laws::{faults_are_found, programs_are_exact, programs_are_unique};
-use module_laws::laws::{faultless_gotos_go_forward, faultless_modules_are_typed};
+use bpl_resolve::laws::{faultless_gotos_go_forward, faultless_modules_are_typed};
 use vc_build::laws::valid_goals_are_safe;
 
 /// A text is one thing.

@@ -3,7 +3,7 @@ ghost use Rattle.std.specs.Prelude.{◌≡◌, ◌<◌, length, false, None, IfO
 ghost use Rattle.bpl_ast.specs.DeclView.{body_of};
 ghost use Rattle.bpl_declaration_faults.specs.DeclFaults.{fault_of};
 ghost use Rattle.bpl_goto.specs.Forward.{AllGoForward};
-ghost use Rattle.module_laws.specs.Elaborate.{module_of};
+ghost use Rattle.bpl_resolve.specs.Elaborate.{module_of};
 ghost use Rattle.fault_text.specs.FaultView.{SourcesAreShort};
 ghost use Rattle.bpl_sorts.specs.Erased.{erased};
 ghost use Rattle.bpl_sorts.specs.CarrierFaults.{carrier_fault};
@@ -15,7 +15,7 @@ use bpl_ast::{Decl, DeclBody, Program};
 use bpl_model::Module;
 use bpl_resolve::{ResolveFault, resolve};
 use bpl_scopes::TypeKind;
-use bpl_sorts::{CarrierFault, check_carriers, erase};
+use bpl_sorts::{erase, first_carrier_fault};
 use bv_base::place::Place;
 use fault_text::{Written, fault_in_decl, written_of_program};
 use std::alloc::{AllocError, Global};
@@ -56,18 +56,14 @@ fn with_carriers(alloc: Global, program: &Program, module: Module) -> Result<Typ
     requires forward { AllGoForward «module» }
     ensures { IfOk result (λ t. IsTypedAs (typing_by_carriers program.now (carrier_fault program.now)) t) }
 {
-    match check_carriers(alloc, program) {
-        Ok(types) => {
-            drop(types);
-            Ok(Typed::Module(module))
-        }
-        Err(CarrierFault::Carrier { decl, at }) => Ok(Typed::Refused(written_of_carrier(
+    match first_carrier_fault(alloc, program)? {
+        None => Ok(Typed::Module(module)),
+        Some((decl, at)) => Ok(Typed::Refused(written_of_carrier(
             alloc,
             &program.decls,
             decl,
             at,
         )?)),
-        Err(CarrierFault::Memory) => Err(AllocError),
     }
 }
 
@@ -100,7 +96,7 @@ pub fn has_user_types(decls: &[Decl]) -> bool
 }
 
 // What declarations without user types are: as they stand there are no carriers to tell.
-#[tactic(auto, using(crate::proofs::SameDecls::same_typed, crate::proofs::SameDecls::same_faulty, module_laws::proofs::GoesForward::goes_forward, fault_text::proofs::Position::fault_there))]
+#[tactic(auto, using(crate::proofs::SameDecls::same_typed, crate::proofs::SameDecls::same_faulty, bpl_resolve::proofs::GoesForward::goes_forward, fault_text::proofs::Position::fault_there))]
 fn check_same(alloc: Global, program: &Program) -> Result<Typed, AllocError>
     requires sources { SourcesAreShort program.now }
     requires same { has_user_types program.now ≡ false }
@@ -117,7 +113,7 @@ fn check_same(alloc: Global, program: &Program) -> Result<Typed, AllocError>
 
 // What declarations are whose user types are read as integers, and then told from them and from each
 // other.
-#[tactic(auto, using(crate::proofs::Openings::faulty_is, crate::proofs::Openings::typed_as, crate::proofs::Openings::sources_stay, module_laws::proofs::GoesForward::goes_forward, fault_text::proofs::Position::fault_there))]
+#[tactic(auto, using(crate::proofs::Openings::faulty_is, crate::proofs::Openings::typed_as, crate::proofs::Openings::sources_stay, bpl_resolve::proofs::GoesForward::goes_forward, fault_text::proofs::Position::fault_there))]
 fn check_erased(alloc: Global, program: &Program) -> Result<Typed, AllocError>
     requires { SourcesAreShort program.now }
     ensures { IfOk result (λ t. IsTypedAs (typing program.now) t) }

@@ -1,7 +1,7 @@
 -- The answer is `accepted` exactly where each goal's line is the text of an accepted proof.
 use Rattle.std.proofs.Common.{◌≡◌, ◌∙◌, refl, sym, ap, subst, arith, ℕ, zero, suc, Bool, true, List, [], ◌∷◌, Option, Some, None, slice_index_or}
 use Rattle.proof_text.specs.Reading.{OneProofATextHas, OneBadPlace}
-use Rattle.proof_lines.specs.Lines.{first_line, later_lines}
+use Rattle.recheck_report.specs.Lines.{first_line, later_lines}
 use Rattle.recheck_report.specs.Judged.{Judgement, accepted, missing, bad, rejected, IsJudged, complaint}
 use Rattle.recheck_report.specs.Accepted.{accepted_line}
 use Rattle.recheck_report.specs.Recheck.{Head, Rechecks, all_accepted, has_proof, lacks_one}

@@ -4,7 +4,7 @@ use Rattle.std.proofs.lemmas.Result.{IfOk-weaker}
 use Rattle.logic_core.specs.Def.{Obligation}
 use Rattle.vc_build.specs.declared.goal.Goal.{Goal}
 use Rattle.report_text.specs.Report.{head as head_text}
-use Rattle.proof_lines.specs.Lines.{first_line, later_lines}
+use Rattle.recheck_report.specs.Lines.{first_line, later_lines}
 use Rattle.program_opening.specs.ProcGoals.{ProcGoals}
 use Rattle.recheck_report.specs.Judged.{Judgement, accepted, missing, bad, rejected, IsJudged, complaint}
 use Rattle.recheck_report.specs.Accepted.{accepted_line}

@@ -4,3 +4,5 @@ mod ExactAnswers
 mod SafeAnswers
 pub mod ShortLines
 pub mod Leading
+pub mod Pieces
+pub mod Steps

@@ -1,7 +1,7 @@
 -- Goals and lines have one answer at most.
 use Rattle.std.proofs.Common.{◌≡◌, ◌∙◌, refl, sym, ap, ℕ, Bool, List, Some, None}
 use Rattle.proof_text.specs.Reading.{OneProofATextHas, OneBadPlace}
-use Rattle.proof_lines.specs.Lines.{first_line}
+use Rattle.recheck_report.specs.Lines.{first_line}
 use Rattle.recheck_report.specs.Judged.{Judgement, accepted, IsJudged, complaint}
 use Rattle.recheck_report.specs.Recheck.{Head, Rechecks, all_accepted, has_proof, lacks_one}
 use Rattle.recheck_report.specs.Worth.{OneAnswer}

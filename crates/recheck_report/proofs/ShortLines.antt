@@ -1,7 +1,7 @@
 -- No line of a text is longer than the text.
 use Rattle.std.proofs.Common.{ℕ, suc, ◌^◌, ◌<◌, ◌≤◌, arith, Bool, true, false, cond, List, [], ◌∷◌, length, map}
 use Rattle.std.specs.List.{AllByRecursion}
-use Rattle.proof_lines.specs.Lines.{is_feed, onto, pieces, without_feed, lines, first_line, later_lines}
+use Rattle.recheck_report.specs.Lines.{is_feed, onto, pieces, without_feed, lines, first_line, later_lines}
 use Rattle.recheck_report.specs.AnswerView.{AreShort}
 
 abbrev AreWithin : ℕ → List (List ℕ) → Type 0

@@ -4,3 +4,6 @@ pub mod Accepted
 pub mod Recheck
 pub mod AnswerView
 pub mod Worth
+pub mod Program
+pub mod Lines
+pub mod Parts

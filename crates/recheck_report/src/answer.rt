@@ -1,13 +1,13 @@
 // The answer on all goals.
 ghost use Rattle.std.specs.Prelude.{◌≡◌, ◌^◌, ◌<◌, length, map, IfOk};
-ghost use Rattle.proof_lines.specs.Lines.{lines};
+ghost use Rattle.recheck_report.specs.Lines.{lines};
 ghost use Rattle.recheck_report.specs.Recheck.{head_of, heads_in, heads, Rechecks};
 ghost use Rattle.recheck_report.specs.AnswerView.{IsSaid, LeadsOn, AreShort};
 
 use crate::goal::{complaint, judge};
+use crate::take_line;
 use program_opening::ProcGoals;
 use program_opening::goals::SharedGoal;
-use proof_lines::take_line;
 use report_text::head;
 use std::alloc::{AllocError, Global};
 

@@ -8,7 +8,7 @@ use Rattle.obligation_text.specs.Asked.{Asked}
 use Rattle.tableau.specs.Settled.{Settled, IsRight}
 use Rattle.turn_lock.specs.History.{StartsWith, calls_by}
 use Rattle.turn_lock.specs.Lock.{number, seen, mine}
-use Rattle.proof_cache.specs.Kept.{Key, is_among, kept_keys, kept_at}
+use Rattle.board_core.specs.Kept.{Key, is_among, kept_keys, kept_at}
 use Rattle.board_core.specs.Board.{Event, claim, give_back, look, gather, no_memory, Reply, claimed, given_back, looked, gathered, memory}
 use Rattle.board_core.specs.Step.{reply, done_of}
 use Rattle.board_core.specs.History.{Legal, replay}
@@ -21,13 +21,13 @@ use Rattle.goal_board.specs.Working as working
 use Rattle.goal_board.proofs.Betweens.{others_decide_nothing}
 use Rattle.logic_core.proofs.Booleans.{all_true}
 use Rattle.goal_board.proofs.Gathering.{all_kept_shown, kept_stay, never_closed}
-use Rattle.proof_workers.specs.Rounds.{made_by, Round, no_question, answered, calls_of, IsTry, IsEnd}
-use Rattle.proof_workers.specs.declared.worker.Ended.{Ended}
-use Rattle.proof_workers.specs.declared.worker.Ended.TheVariants as end
+use Rattle.obligation_board.specs.Rounds.{made_by, Round, no_question, answered, calls_of, IsTry, IsEnd}
+use Rattle.obligation_board.specs.declared.worker.Ended.{Ended}
+use Rattle.obligation_board.specs.declared.worker.Ended.TheVariants as end
 use Rattle.shared_goals.specs.Known.{GoalEntry, by_opener, KnowsGoals, board_of, IsLaterPass}
 use Rattle.shared_goals.specs.Opener.{GoalPass, GoalsShared, IsOpenerOf, StaysOpener, HasSettled, HasWorked}
 use Rattle.obligation_board.proofs.Growing.{replay_next, calls_append, legal_behind, legal_start}
-use Rattle.proof_workers.proofs.Working.{begins_on}
+use Rattle.obligation_board.proofs.Working.{begins_on}
 use Rattle.shared_goals.proofs.Histories.{cancel, passes_are_between, histories_are_between}
 
 -- ---- one call more

@@ -13,9 +13,8 @@ ghost use Rattle.shared_goals.specs.Opener.{IsOpenerOf, StaysOpener, HasSettled,
 
 use crate::searcher::Searcher;
 use board_core::{Opened, Snapshot};
-use obligation_board::{Pass, SharedBoard};
+use obligation_board::{Gate, Pass, SharedBoard, work_once};
 use obligation_text::Asked;
-use proof_workers::{Gate, work_once};
 use std::alloc::{AllocError, Global};
 use std::sync::{Arc, Wait};
 use tableau::settled::Settled;

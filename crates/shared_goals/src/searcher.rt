@@ -1,7 +1,7 @@
 //! The search as a prover: the workers', and the session's own.
 use clause_search::search::search;
+use obligation_board::Prover;
 use obligation_text::Asked;
-use proof_workers::Prover;
 use std::alloc::{AllocError, Global};
 use std::sync::Arc;
 use tableau::settled::Settled;

@@ -11,8 +11,7 @@ ghost use Rattle.shared_goals.specs.Beside.{own_calls};
 
 use crate::opener::{gather, settle_all};
 use goal_board::kept::present_answers;
-use obligation_board::{Pass, SharedBoard};
-use proof_workers::Gate;
+use obligation_board::{Gate, Pass, SharedBoard};
 use std::alloc::{AllocError, Global};
 use std::sync::{Arc, Wait};
 use tableau::settled::Settled;

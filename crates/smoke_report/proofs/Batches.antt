@@ -6,7 +6,7 @@ use Rattle.std.proofs.lemmas.List.{append_assoc, length-drop}
 use Rattle.std.proofs.lemmas.Option.{slice_get_within, slice_get-get_or, unwrap_or-slice_get}
 use Rattle.std.specs.List.{AllByRecursion}
 use Rattle.bpl_model.specs.Module.{Proc, Module}
-use Rattle.bpl_smoke.specs.Points.{points}
+use Rattle.smoke_report.specs.Points.{points}
 use Rattle.vc_build.specs.declared.fault.Measure.{Measure}
 use Rattle.vc_build.specs.declared.fault.BuildFault.{BuildFault}
 use Rattle.vc_build.specs.declared.fault.BuildFault.TheVariants.{Large, Memory}
@@ -16,7 +16,7 @@ use Rattle.smoke_report.specs.declared.program_point.ProgramPoint.{ProgramPoint}
 use Rattle.smoke_report.specs.ProgramPoints.{program_points}
 use Rattle.smoke_report.specs.Pointed.{AreOf, proc_at}
 use Rattle.smoke_report.specs.Smoke.{point_goals, large_among}
-use Rattle.smoke_report.proofs.Points.{IsAt, each_is}
+use Rattle.smoke_report.proofs.PointsOfPrograms.{IsAt, each_is}
 
 -- ---- the procedure of a number
 

@@ -2,10 +2,10 @@
 use Rattle.std.proofs.Common.{◌≡◌, ◌∙◌, refl, subst, ℕ, zero, suc, List, [], ◌∷◌, ◌++◌, map, set, slice_get, Option, Some, None}
 use Rattle.bpl_model.specs.Module.{Proc}
 use Rattle.bpl_goto.specs.Removed.{removed}
-use Rattle.bpl_smoke.specs.declared.point.Point.{Point}
-use Rattle.bpl_smoke.specs.Points.{point_at}
-use Rattle.bpl_smoke.specs.Put.{proc_with, proc_with_point}
-use Rattle.bpl_smoke.proofs.Found.{HaveLike}
+use Rattle.smoke_report.specs.declared.point.Point.{Point}
+use Rattle.smoke_report.specs.Points.{point_at}
+use Rattle.smoke_report.specs.Put.{proc_with, proc_with_point}
+use Rattle.smoke_report.proofs.Found.{HaveLike}
 
 abbrev pub IsCalledAs : Proc → Proc → Type 0
 IsCalledAs c d = (d.ins ≡ c.ins) × (d.outs ≡ c.outs) × (d.specs ≡ c.specs)

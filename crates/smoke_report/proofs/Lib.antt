@@ -1,4 +1,4 @@
-mod Points
+mod PointsOfPrograms
 mod Unreached
 mod Shown
 mod Named
@@ -7,3 +7,10 @@ mod Called
 mod OverOthers
 mod PointedGoals
 mod Batches
+mod Counts
+pub mod Numbered
+mod Lists
+mod Steps
+pub mod Found
+pub mod StaysTyped
+pub mod GoesForward

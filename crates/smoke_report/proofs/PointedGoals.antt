@@ -9,10 +9,10 @@ use Rattle.bpl_goto.specs.Forward.{AllGoForward}
 use Rattle.bpl_goto.specs.Removed.{removed, remove_gotos}
 use Rattle.bpl_goto.proofs.NoneLeft.{none_left}
 use Rattle.bpl_goto.proofs.StaysTyped.{remove_gotos_stays_typed}
-use Rattle.bpl_smoke.specs.Put.{proc_with_point, procs_with, with_point}
-use Rattle.bpl_smoke.proofs.Found.{found_in}
-use Rattle.bpl_smoke.proofs.StaysTyped.{moved_proc, moved_procs, with_point_stays_typed}
-use Rattle.bpl_smoke.proofs.GoesForward.{with_point_goes_forward}
+use Rattle.smoke_report.specs.Put.{proc_with_point, procs_with, with_point}
+use Rattle.smoke_report.proofs.Found.{found_in}
+use Rattle.smoke_report.proofs.StaysTyped.{moved_proc, moved_procs, with_point_stays_typed}
+use Rattle.smoke_report.proofs.GoesForward.{with_point_goes_forward}
 use Rattle.vc_build.proofs.Joined.{all_join}
 use Rattle.vc_build.specs.Goals.{goals_by_passes, goals_of_found, goals_at}
 use Rattle.smoke_report.specs.declared.program_point.ProgramPoint.{ProgramPoint}

@@ -13,9 +13,9 @@ use Rattle.proof_core.specs.Proof.{Proof}
 use Rattle.proof_core.specs.Soundness.{AcceptanceIsSound}
 use Rattle.bpl_model.specs.Module.{Proc, Module}
 use Rattle.bpl_goto.specs.Removed.{removed, remove_gotos}
-use Rattle.bpl_smoke.specs.Put.{proc_with_point, with_point}
-use Rattle.bpl_smoke.specs.Kept.{WithPointStaysTyped, WithPointGoesForward}
-use Rattle.bpl_smoke.proofs.Numbered.{kind_is}
+use Rattle.smoke_report.specs.Put.{proc_with_point, with_point}
+use Rattle.smoke_report.specs.Kept.{WithPointStaysTyped, WithPointGoesForward}
+use Rattle.smoke_report.proofs.Numbered.{kind_is}
 use Rattle.tableau.specs.Search.{answer, is_proved, FindsAccepted, FindsWhereProved}
 use Rattle.vc_build.specs.declared.goal.Goal.{Goal}
 use Rattle.vc_build.specs.Goals.{goals, goals_of_found}
@@ -25,7 +25,7 @@ use Rattle.smoke_report.specs.ProgramPoints.{program_points}
 use Rattle.smoke_report.specs.Smoke.{point_goals, is_point, is_mark_of, is_shown, is_shown_or_another, is_unreachable, unreachable}
 use Rattle.smoke_report.specs.Unreached.{IsUnreached}
 use Rattle.smoke_report.specs.Sound.{ValidPointsAreUnreached, UnreachableIsUnreached}
-use Rattle.smoke_report.proofs.Points.{IsAt, each_is, chosen}
+use Rattle.smoke_report.proofs.PointsOfPrograms.{IsAt, each_is, chosen}
 use Rattle.smoke_report.proofs.Unreached.{contained, in_module}
 
 -- the goals of a point are those of its procedure with the point

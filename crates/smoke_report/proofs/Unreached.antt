@@ -8,11 +8,11 @@ use Rattle.flow_core.specs.declared.mark.Mark.{Mark}
 use Rattle.bpl_model.specs.Module.{Proc, Module}
 use Rattle.bpl_model.specs.World.{IsEntry}
 use Rattle.bpl_goto.proofs.StillFails.{of_contained}
-use Rattle.bpl_smoke.specs.declared.point.Point.{Point}
-use Rattle.bpl_smoke.specs.Points.{point_at}
-use Rattle.bpl_smoke.specs.Put.{proc_with, proc_with_point, procs_with, with_point}
-use Rattle.bpl_smoke.specs.Kept.{WithPointStaysTyped, WithPointGoesForward}
-use Rattle.bpl_smoke.proofs.Found.{set_found}
+use Rattle.smoke_report.specs.declared.point.Point.{Point}
+use Rattle.smoke_report.specs.Points.{point_at}
+use Rattle.smoke_report.specs.Put.{proc_with, proc_with_point, procs_with, with_point}
+use Rattle.smoke_report.specs.Kept.{WithPointStaysTyped, WithPointGoesForward}
+use Rattle.smoke_report.proofs.Found.{set_found}
 use Rattle.vc_build.specs.declared.goal.Goal.{Goal}
 use Rattle.vc_build.specs.Goals.{goals}
 use Rattle.vc_build.specs.Sound.{FailuresHaveGoals}

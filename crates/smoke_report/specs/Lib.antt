@@ -3,3 +3,7 @@ pub mod Smoke
 pub mod Unreached
 pub mod Sound
 pub mod Pointed
+pub mod Points
+pub mod Put
+pub mod Reach
+pub mod Kept

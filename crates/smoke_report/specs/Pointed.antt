@@ -3,7 +3,7 @@ use Rattle.std.specs.Prelude.{ℕ, ◌<◌, List, [], ◌++◌, map, length, sli
 use Rattle.std.specs.List.{AllByRecursion}
 use Rattle.bpl_model.specs.Module.{Proc, Module}
 use Rattle.bpl_goto.specs.Removed.{removed}
-use Rattle.bpl_smoke.specs.Put.{proc_with_point}
+use Rattle.smoke_report.specs.Put.{proc_with_point}
 use Rattle.smoke_report.specs.declared.program_point.ProgramPoint.{ProgramPoint}
 
 -- they are points of these procedures

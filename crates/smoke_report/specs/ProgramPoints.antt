@@ -1,8 +1,8 @@
 -- The points of a program, procedure by procedure.
 use Rattle.std.specs.Prelude.{ℕ, ◌+◌, List, [], ◌∷◌, ◌++◌}
 use Rattle.bpl_model.specs.Module.{Name, Proc, Module}
-use Rattle.bpl_smoke.specs.declared.point.Point.{Point}
-use Rattle.bpl_smoke.specs.Points.{points}
+use Rattle.smoke_report.specs.declared.point.Point.{Point}
+use Rattle.smoke_report.specs.Points.{points}
 use Rattle.smoke_report.specs.declared.program_point.ProgramPoint.{ProgramPoint}
 
 -- points of the procedure of this number and name, numbered from n on

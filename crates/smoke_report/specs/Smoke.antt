@@ -9,7 +9,7 @@ use Rattle.flow_core.specs.declared.mark.Mark.{Mark}
 use Rattle.bpl_model.specs.Module.{Module}
 use Rattle.bpl_goto.specs.Removed.{remove_gotos}
 use Rattle.tableau.specs.Search.{answer, is_proved}
-use Rattle.bpl_smoke.specs.Put.{with_point}
+use Rattle.smoke_report.specs.Put.{with_point}
 use Rattle.vc_build.specs.declared.goal.Goal.{Goal}
 use Rattle.vc_build.specs.declared.fault.Measure.{Measure}
 use Rattle.vc_build.specs.Goals.{goals_at}

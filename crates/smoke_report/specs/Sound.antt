@@ -5,10 +5,10 @@ use Rattle.logic_core.specs.Valid.{Valid}
 use Rattle.bpl_model.specs.Module.{Proc, Module}
 use Rattle.bpl_model.specs.Typed.{IsTypedModule}
 use Rattle.bpl_goto.specs.Forward.{AllGoForward}
-use Rattle.bpl_smoke.specs.declared.point.Point.{Point}
-use Rattle.bpl_smoke.specs.Points.{point_at}
-use Rattle.bpl_smoke.specs.Put.{proc_with_point, with_point}
-use Rattle.bpl_smoke.specs.Reach.{Reaches}
+use Rattle.smoke_report.specs.declared.point.Point.{Point}
+use Rattle.smoke_report.specs.Points.{point_at}
+use Rattle.smoke_report.specs.Put.{proc_with_point, with_point}
+use Rattle.smoke_report.specs.Reach.{Reaches}
 use Rattle.vc_build.specs.Goals.{goals}
 use Rattle.report_text.specs.Lines.{text_of}
 use Rattle.smoke_report.specs.Smoke.{smoke_lines}

@@ -2,10 +2,10 @@
 use Rattle.std.specs.Prelude.{◌≡◌, ℕ, List, [], ◌∷◌, ◌++◌, map, length, slice_get, Some, codes, decimal}
 use Rattle.std.specs.List.{AllByRecursion}
 use Rattle.bpl_model.specs.Module.{Proc, Module}
-use Rattle.bpl_smoke.specs.declared.point.PointKind.{PointKind}
-use Rattle.bpl_smoke.specs.declared.point.PointKind.TheVariants.{Branch, Else, Loop, End}
-use Rattle.bpl_smoke.specs.Points.{point_at}
-use Rattle.bpl_smoke.specs.Reach.{Reaches}
+use Rattle.smoke_report.specs.declared.point.PointKind.{PointKind}
+use Rattle.smoke_report.specs.declared.point.PointKind.TheVariants.{Branch, Else, Loop, End}
+use Rattle.smoke_report.specs.Points.{point_at}
+use Rattle.smoke_report.specs.Reach.{Reaches}
 use Rattle.report_text.specs.Lines.{text_of}
 use Rattle.smoke_report.specs.declared.program_point.ProgramPoint.{ProgramPoint}
 

@@ -2,7 +2,7 @@
 //! law.
 ghost use Rattle.smoke_report.specs.Sound.{ValidPointsAreUnreached, UnreachableIsUnreached};
 
-use bpl_smoke::laws::{with_point_goes_forward, with_point_stays_typed};
+use crate::point_laws::{with_point_goes_forward, with_point_stays_typed};
 use proof_core::soundness::acceptance_is_sound;
 use tableau::laws::{finds_accepted, finds_where_proved};
 use vc_build::laws::failures_have_goals;

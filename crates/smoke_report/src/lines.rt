@@ -2,8 +2,8 @@
 ghost use Rattle.std.specs.Prelude.{◌≡◌, ◌++◌, IfOk, OnOk};
 ghost use Rattle.smoke_report.specs.Unreached.{kind_text, point_line, summary};
 
+use crate::point::PointKind;
 use crate::program_point::ProgramPoint;
-use bpl_smoke::PointKind;
 use itoa::Buffer;
 use std::alloc::{AllocError, Global};
 

@@ -1,14 +1,15 @@
 // Procedures in which points are put, behind those of their module.
 ghost use Rattle.std.specs.Prelude.{◌≡◌, ◌<◌, ◌≤◌, ◌++◌, IfOk, length, map};
 ghost use Rattle.bpl_goto.specs.Forward.{AllGoForward};
-ghost use Rattle.bpl_smoke.specs.Points.{points};
+ghost use Rattle.smoke_report.specs.Points.{points};
 ghost use Rattle.smoke_report.specs.Pointed.{AreOf, proc_at, pointed, with_points};
 
+use crate::proc_points::points;
 use crate::program_point::ProgramPoint;
+use crate::put::proc_with_point;
 use bpl_goto::module::removed;
 use bpl_model::copy_module::{copy_consts, copy_functions, copy_globals, copy_procs, copy_texts};
 use bpl_model::{Module, Parts, Proc};
-use bpl_smoke::{points, proc_with_point};
 use logic_core::copy::copy_terms;
 use std::alloc::{AllocError, Global};
 

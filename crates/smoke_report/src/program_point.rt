@@ -1,10 +1,11 @@
 // The points of a program.
 ghost use Rattle.std.specs.Prelude.{◌≡◌, ◌++◌, IfOk, OnOk};
-ghost use Rattle.bpl_smoke.specs.Points.{points};
+ghost use Rattle.smoke_report.specs.Points.{points};
 ghost use Rattle.smoke_report.specs.ProgramPoints.{points_on, program_points};
 
+use crate::point::Point;
+use crate::proc_points::points;
 use bpl_model::{Module, Name, Proc};
-use bpl_smoke::{Point, points};
 use std::alloc::{AllocError, Global};
 
 /// A point of a program: the number and the name of its procedure, its own number there, and which it

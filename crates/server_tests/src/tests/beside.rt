@@ -2,7 +2,7 @@
 use super::runs::words_of;
 use bv_base::{MemSink, MemSource};
 use edit_server::{Status, run};
-use proof_workers::{Gate, OpenGate};
+use obligation_board::{Gate, OpenGate};
 use std::alloc::AllocError;
 use std::sync::Wait;
 use std::sync::atomic::{AtomicU64, Ordering};

@@ -1,7 +1,7 @@
 // A cache by example.
 use super::questions::{Asked, Settled};
+use board_core::Cache;
 use bv_base::{Answered, Question};
-use proof_cache::Cache;
 use std::alloc::Global;
 use std::process::Abort;
 use std::sync::Arc;

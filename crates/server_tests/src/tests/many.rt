@@ -7,8 +7,7 @@ ghost use Rattle.obligation_board.specs.Passes.{IsPassOf};
 
 use super::questions::{Asked, Settled};
 use bv_base::Question;
-use obligation_board::{Pass, SharedBoard};
-use proof_workers::{Ended, Gate, Prover, Worked, work};
+use obligation_board::{Ended, Gate, Pass, Prover, SharedBoard, Worked, work};
 use std::alloc::{AllocError, Global};
 use std::sync::atomic::{AtomicU64, Ordering};
 use std::sync::{Arc, Wait};

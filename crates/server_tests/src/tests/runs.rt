@@ -3,7 +3,7 @@ ghost use Rattle.std.specs.Prelude.{◌<◌, ◌≤◌};
 
 use bv_base::{MemSink, MemSource, SureSource};
 use edit_server::{Status, run};
-use proof_workers::OpenGate;
+use obligation_board::OpenGate;
 use std::alloc::{AllocError, Global};
 use std::sync::Wait;
 use std::test::Fail;

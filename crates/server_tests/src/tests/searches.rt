@@ -1,7 +1,7 @@
 // Searches of the goals of small procedures, with so many turns, worked out by hand from the rules.
 use bv_base::{MemSink, MemSource};
 use edit_server::{Status, run};
-use proof_workers::OpenGate;
+use obligation_board::OpenGate;
 use std::alloc::AllocError;
 use std::sync::Wait;
 use std::test::Fail;

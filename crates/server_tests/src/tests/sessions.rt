@@ -2,7 +2,7 @@
 use super::runs::failing;
 use bv_base::{MemSink, MemSource};
 use edit_server::{Status, run};
-use proof_workers::OpenGate;
+use obligation_board::OpenGate;
 use std::alloc::AllocError;
 use std::sync::Wait;
 use std::test::Fail;

@@ -6,8 +6,7 @@ ghost use Rattle.obligation_board.specs.Passes.{IsPassOf};
 
 use super::many::close_when_done;
 use super::questions::{Asked, Settled, questions};
-use obligation_board::{Pass, SharedBoard};
-use proof_workers::{OpenGate, Prover, work};
+use obligation_board::{OpenGate, Pass, Prover, SharedBoard, work};
 use std::alloc::{AllocError, Global};
 use std::sync::atomic::{AtomicU64, Ordering};
 use std::sync::{Arc, Wait};

@@ -1,5 +1,5 @@
 use Rattle.std.proofs.Common.{◌≡◌, ◌∙◌, length, ap, subst, arith}
-use Rattle.proof_lines.specs.Parts.{program_in}
+use Rattle.recheck_report.specs.Parts.{program_in}
 use Rattle.program_opening.specs.Opening.{Opens}
 use Rattle.program_opening.specs.OpenedView.{IsOpenedText}
 use Rattle.edit_server.proofs.LineLengths.{program_is_shorter, proofs_are_shorter}

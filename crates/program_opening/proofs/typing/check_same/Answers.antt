@@ -2,7 +2,7 @@ use Rattle.std.proofs.Common.{◌≡◌, ◌∙◌, Some, List, ap, subst}
 use Rattle.bpl_ast.specs.Statement.{Decl}
 use Rattle.bpl_declaration_faults.specs.DeclFaults.{fault_of}
 use Rattle.bpl_resolve.specs.FirstFault.{IsFirstFault}
-use Rattle.bpl_first_fault.specs.FaultView.{fault_seen}
+use Rattle.bpl_resolve.specs.FaultView.{fault_seen}
 use Rattle.fault_text.specs.WrittenFault.{decl_fault}
 use Rattle.program_opening.proofs.SameDecls.{same_faulty}
 use Rattle.program_opening.proofs.typing.check_same.Goals as goal

@@ -1,6 +1,6 @@
 use Rattle.std.proofs.Common.{sym, subst, drop, true, List, ℕ}
 use Rattle.std.proofs.lemmas.List.{at_drop_all}
-use Rattle.proof_lines.specs.Lines.{lines}
+use Rattle.recheck_report.specs.Lines.{lines}
 use Rattle.recheck_report.specs.Recheck.{heads, Rechecks}
 use Rattle.recheck_report.proofs.ShortLines.{lines_short}
 use Rattle.recheck_report.proofs.Leading.{at_the_end}

@@ -1,5 +1,5 @@
 use Rattle.std.proofs.Common.{drop, map}
-use Rattle.proof_lines.specs.Lines.{lines}
+use Rattle.recheck_report.specs.Lines.{lines}
 use Rattle.recheck_report.specs.Recheck.{head_of}
 use Rattle.recheck_report.specs.AnswerView.{AreShort}
 use Rattle.recheck_report.proofs.Leading.{InProc}

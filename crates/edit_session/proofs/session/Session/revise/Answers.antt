@@ -1,6 +1,6 @@
 use Rattle.std.proofs.Common.{◌∙◌, sym, ap, subst, slice_set}
 use Rattle.std.specs.Prelude.{IfSome}
-use Rattle.canonical_laws.specs.RoundTrip.{AreWrittenDecls}
+use Rattle.canonical_text.specs.RoundTrip.{AreWrittenDecls}
 use Rattle.request_text.specs.RequestView.{request_view}
 use Rattle.program_edits.specs.Edited.{IsEdited, edited}
 use Rattle.program_edits.specs.declared.replaced.Replacement.{Replacement}

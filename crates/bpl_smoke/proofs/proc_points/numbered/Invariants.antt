@@ -1,7 +1,0 @@
-use Rattle.std.proofs.Common.{◌≡◌, ◌+◌, ◌++◌, drop}
-use Rattle.bpl_smoke.specs.Points.{numbered}
-use Rattle.bpl_smoke.proofs.proc_points.numbered.Given as goal
-
--- the points so far, and then those that are left, are all
-abbrev pub invariant-loop-i : goal.invariant-loop-i
-invariant-loop-i l = l.points.items ++ numbered (l.i + 1) (drop l.i l.spots) ≡ numbered 1 l.spots

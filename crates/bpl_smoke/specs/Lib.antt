@@ -1,4 +1,0 @@
-pub mod Points
-pub mod Put
-pub mod Reach
-pub mod Kept

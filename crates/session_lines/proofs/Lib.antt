@@ -1,4 +1,0 @@
-pub mod Sessions
-pub mod LongLines
-pub mod Replies
-pub mod Served

@@ -1,4 +1,0 @@
-pub mod Limits
-pub mod Replying
-pub mod Laws
-pub mod Served
