@@ -21,7 +21,7 @@ import time
 import measured
 
 NAME = "boarded"
-STANDS_ON = "atomic_table bv_base proof_cache board_core turn_lock obligation_board proof_workers"
+STANDS_ON = "atomic_table bv_base board_core turn_lock obligation_board"
 
 PROGRAM = """//! Opens a board with so many goals, and settles them as the word says.
 #![tactic(auto)]
@@ -32,8 +32,7 @@ ghost use Rattle.turn_lock.specs.Lock.{number};
 ghost use Rattle.obligation_board.specs.Passes.{IsPassOf};
 
 use bv_base::{Answered, Question};
-use obligation_board::{Pass, SharedBoard};
-use proof_workers::{OpenGate, Prover, work};
+use obligation_board::{OpenGate, Pass, Prover, SharedBoard, work};
 use std::alloc::{AllocError, Global};
 use std::env;
 use std::io;
