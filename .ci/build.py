@@ -21,6 +21,7 @@ PROGRAM = os.path.join(TOP, "crates", NAME, "out", NAME)
 BUILD_FAILED = 70
 USUAL_COST = "0.6", "1500"  # processor minutes and megabytes of a crate that bench/costs.txt doesn't have
 MEMORY, MEMORY_EACH = 8000, 2000  # megabytes for all proofs, or for each processor where that is more
+LONG = 3  # a proof of so many minutes gets several processors where all else would wait for it
 DISK = 12000  # megabytes of free disk, below which the kit may not keep all
 
 
@@ -75,7 +76,6 @@ class Build:
         self.memory = min(0.85 * free, max(MEMORY, MEMORY_EACH * self.processors))
         self.is_kept = is_kept  # where the kit keeps nothing, one run proves all
         self.waiting = sorted(self.crates, key=lambda c: -self.chain[c]) if is_kept else [NAME]
-        self.lanes = self.processors if is_kept else 1
         self.proved, self.running, self.jobs = set(), {}, []
         self.planned = self.spent = 0.0  # minutes of the crates that this run proved, by plan and by the clock
 
@@ -83,25 +83,32 @@ class Build:
         """The minutes that are left, as the crates usually cost, on processors as quick as these were."""
         lacking = [c for c in self.crates if c not in self.proved]
         slow = self.spent / self.planned if self.planned > 1 else 1
-        done = {c: (time.monotonic() - begun) / 60 / slow for c, begun in list(self.running.values())}
+        done = {c: width * (time.monotonic() - begun) / 60 / slow for c, width, begun in list(self.running.values())}
         costs = sum(max(0, self.minutes[c] - done.get(c, 0)) for c in lacking)
         return slow * max([1, costs / self.processors] + [self.chain[c] - done.get(c, 0) for c in lacking])
 
     def next_crate(self):
-        """The crate to begin now: that with the longest chain of others above."""
+        """The crate to begin now, with the longest chain of others above, and its processors, if any."""
         self.waiting = [c for c in self.waiting if c not in self.proved]
-        room = self.memory - sum(self.megabytes[c] for c, _ in self.running.values())
-        if len(self.running) == self.lanes:
+        needs = lambda c, width: self.megabytes[c] * (1 + 0.6 * (width - 1))
+        idle = self.processors - sum(width for _, width, _ in self.running.values())
+        room = self.memory - sum(needs(c, width) for c, width, _ in self.running.values())
+        if not self.is_kept:
+            return (NAME, max(1, min(idle, int(room // MEMORY_EACH)))) if self.waiting else None
+        fits = [c for c in self.waiting if not self.running or needs(c, 1) <= room]
+        name = next((c for c in fits if self.proved.issuperset(self.stands_on[c])), None)
+        if name is None or idle <= 0:
             return None
-        fits = [c for c in self.waiting if not self.running or self.megabytes[c] <= room]
-        return next((c for c in fits if not self.is_kept or self.proved.issuperset(self.stands_on[c])), None)
+        half = min(4, self.processors // 2)  # what rt takes where it may choose
+        is_last = self.minutes[name] >= LONG and self.chain[name] > 0.9 * self.left()
+        return name, half if is_last and 1 < half <= idle and needs(name, half) <= room else 1
 
-    def prove(self, name):
+    def prove(self, name, width):
         """Proves a crate; where that fails, the crate that isn't proved and what was said."""
         temporary = os.path.join(self.folder, "tmp")
-        # a second job of one proof would begin a prover for each function, and take twice as long for each
-        jobs = 1 if self.is_kept else max(1, min(self.processors, int(self.memory // MEMORY_EACH)))
-        environment = {**os.environ, "TMPDIR": temporary, "RT_JOBS": str(jobs), "CI": ""}
+        environment = {**os.environ, "TMPDIR": temporary, "RT_JOBS": str(width), "CI": ""}
+        if width > 1 and self.is_kept:
+            del environment["RT_JOBS"]
         said, told, begun = [], None, time.monotonic()
         with subprocess.Popen(["rt", "ci", name], cwd=self.folder, env=environment, stdin=subprocess.DEVNULL,
                               stdout=subprocess.PIPE, stderr=subprocess.STDOUT, text=True, errors="replace") as job:
@@ -116,7 +123,7 @@ class Build:
                             self.take(glob.glob(f"{temporary}/rt-copy-{job.pid}-*/repo/crates/{NAME}/out/{NAME}")[0])
                         if told[1] == name and told[2] == "proved":
                             self.planned += self.minutes[name]
-                            self.spent += (time.monotonic() - begun) / 60
+                            self.spent += width * (time.monotonic() - begun) / 60
                         self.note(told[1])
                     if told and (told[1] == name or told[2] == "NOT PROVED"):
                         break
@@ -140,12 +147,12 @@ class Build:
 
     def go_on(self, pool):
         """Begins what can begin, and waits until a proof ends, or for a minute."""
-        for name in iter(self.next_crate, None):
+        for name, width in iter(self.next_crate, None):
             self.waiting.remove(name)
-            self.running[pool.submit(self.prove, name)] = name, time.monotonic()
+            self.running[pool.submit(self.prove, name, width)] = name, width, time.monotonic()
         done = wait(self.running, timeout=60, return_when=FIRST_COMPLETED).done
         if not done:
-            tell(f"proving {', '.join(c for c, _ in self.running.values())}, about {self.left():.0f} minutes left")
+            tell(f"proving {', '.join(c for c, _, _ in self.running.values())}, about {self.left():.0f} minutes left")
         for job in done:
             del self.running[job]
             if job.result():
