@@ -1,15 +1,14 @@
 -- Lists that a loop keeps of another, the first item of a list, and what is kept of numbers.
 use Rattle.std.proofs.Common.{◌≡◌, refl, true≢false, sym, ap, subst, ◌∙◌, ℕ, ◌+◌, ◌<◌, ◌≤◌, nat_eq, Bool, true, false, cond, Option, Some, None, is_some, List, [], ◌∷◌, ◌++◌, map, filter, find, length, take, drop, get_or}
 use Rattle.std.specs.List.{AllByRecursion}
-use Rattle.std.specs.Map.{lookup}
 use Rattle.std.proofs.lemmas.Bool.{eq-eqb}
 use Rattle.std.proofs.lemmas.List.{at_drop_all}
 use Rattle.std.proofs.lemmas.List.Elements.{filter_more}
-use Rattle.indexmap.specs.IndexMap.{insert_entry}
 use Rattle.logic_core.specs.Tree.{Tree}
 use Rattle.logic_core.specs.Subterm.{outside}
 use Rattle.tableau_branch.proofs.Lists.{drop_item}
 use Rattle.term_bank.specs.Numbered.{at}
+use Rattle.numbered_terms.specs.Slots.{kept_at, IsPut}
 use Rattle.logic_rules.specs.Instantiating.{each_once}
 use Rattle.numbered_facts.specs.Answers.{StandsFor, AreAt}
 use Rattle.numbered_facts.proofs.AtomsIn.{kept_all}
@@ -52,17 +51,8 @@ module _ (ts : List Tree) (p : Tree → Bool) where
   kept_outside is js t h e = (subst (AllByRecursion (λ j. j < length ts)) (sym e) (kept_all (λ i. p (at ts i)) (λ j. j < length ts) is h.0), ap (map (at ts)) e ∙ kept_terms is ∙ ap (filter p) h.1 ∙ once_kept p [] (outside t))
 
 -- of what is kept something is there
-module _ {A : Type 0} (i : ℕ) (a : A) where
-  put_in : (x : ℕ × A) (xs : List (ℕ × A)) (b : Bool) → nat_eq i x.0 ≡ b → is_some (lookup (nat_eq i) (insert_entry nat_eq xs i a)) ≡ true → is_some (lookup (nat_eq i) (cond b ((x.0, a) ∷ xs) (x ∷ insert_entry nat_eq xs i a))) ≡ true
-  put_in x xs true q r = ap (λ b. is_some (cond b (Some a) (lookup (nat_eq i) xs))) q
-  put_in x xs false q r = ap (λ b. is_some (cond b (Some x.1) (lookup (nat_eq i) (insert_entry nat_eq xs i a)))) q ∙ r
-
-  inserted : (xs : List (ℕ × A)) → is_some (lookup (nat_eq i) (insert_entry nat_eq xs i a)) ≡ true
-  inserted [] = ap (λ b. is_some (cond b (Some a) None)) (eq-eqb i i refl)
-  inserted (x ∷ xs) = put_in x xs (nat_eq i x.0) refl (inserted xs)
-
-  pub there_now : (old new : List (ℕ × A)) → new ≡ insert_entry nat_eq old i a → is_some (lookup (nat_eq i) new) ≡ true
-  there_now old new e = ap (λ xs. is_some (lookup (nat_eq i) xs)) e ∙ inserted old
+pub there_now : {A : Type 0} (i : ℕ) (a : A) (old new : List (Option A)) → IsPut old i a new → is_some (kept_at new i) ≡ true
+there_now i a old new e = ap is_some (e i) ∙ ap (λ b. is_some (cond b (Some a) (kept_at old i))) (eq-eqb i i refl)
 
 -- nothing is found where something is there
 pub not_none : {A : Type 0} (o : Option A) → is_some o ≡ true → None ≡ o → ⊥

@@ -16,7 +16,8 @@ use Rattle.numbered_forms.proofs.LongerStores.{terms_stay, numbers_stay}
 use Rattle.numbered_forms.proofs.NormalParts.{forms_later}
 use Rattle.numbered_facts.specs.Answers.{StandsFor, AreAt}
 use Rattle.numbered_facts.specs.Atoms.{is_atom}
-use Rattle.numbered_facts.specs.Memos.{AreKept, IsNegation, IsLeft, AreAtoms, IsStanding, AreMemos}
+use Rattle.numbered_terms.specs.Slots.{AreKept}
+use Rattle.numbered_facts.specs.Memos.{IsNegation, IsLeft, AreAtoms, IsStanding, AreMemos}
 use Rattle.numbered_facts.specs.declared.standing.Standing.{Standing}
 
 module _ (ts us : List Tree) (b : Begins ts us) where
@@ -27,11 +28,11 @@ module _ (ts us : List Tree) (b : Begins ts us) where
   pub are_later : (is : List ℕ) (ws : List Tree) → AreAt ts is ws → AreAt us is ws
   are_later is ws h = (numbers_stay ts us b is h.0, terms_stay ts us b is h.0 ∙ h.1)
 
-  pub negations_later : (ns : List (ℕ × Option ℕ)) → AreKept (IsNegation ts) ns → AreKept (IsNegation us) ns
+  pub negations_later : (ns : List (Option (Option ℕ))) → AreKept (IsNegation ts) ns → AreKept (IsNegation us) ns
   negations_later ns h = λ i o e. let r = h i o e in
       (still_below ts us i b r.0, subst (λ t. StandsFor us o (negated t)) (sym (begins_at ts us i b r.0)) (stands_later o (negated (at ts i)) r.1))
 
-  pub atoms_later : (as' : List (ℕ × Vec ℕ Global)) → AreKept (AreAtoms ts) as' → AreKept (AreAtoms us) as'
+  pub atoms_later : (as' : List (Option (Vec ℕ Global))) → AreKept (AreAtoms ts) as' → AreKept (AreAtoms us) as'
   atoms_later as' h = λ i v e. let r = h i v e in record {
     whole = still_below ts us i b r.whole;
     within = r.within;
@@ -41,7 +42,7 @@ module _ (ts us : List Tree) (b : Begins ts us) where
         r.are j l ∙ (λ k. is_atom (one k) && occurs (one k) (whole k));
   }
 
-  pub standing_later : (ss : List (ℕ × Standing)) → AreKept (IsStanding ts) ss → AreKept (IsStanding us) ss
+  pub standing_later : (ss : List (Option Standing)) → AreKept (IsStanding ts) ss → AreKept (IsStanding us) ss
   standing_later ss h = λ i s e. let r = h i s e in let same = sym (begins_at ts us i b r.whole) in record {
     whole = still_below ts us i b r.whole;
     ground = subst (λ t. AreAt us s.ground.items (each_once [] (filter is_application (outside t)))) same (are_later s.ground.items (each_once [] (filter is_application (outside (at ts i)))) r.ground);
@@ -50,11 +51,11 @@ module _ (ts us : List Tree) (b : Begins ts us) where
     access = subst (λ t. StandsFor us s.access (find is_access (outside t))) same (stands_later s.access (find is_access (outside (at ts i))) r.access);
   }
 
-pub lefts_later : (ts us : List Tree) (vars : List Kind) (defs : List Def) (b : Begins ts us) (ls : List (ℕ × Option ℕ)) → AreKept (IsLeft (record { terms = ts; vars = vars; defs = defs })) ls → AreKept (IsLeft (record { terms = us; vars = vars; defs = defs })) ls
+pub lefts_later : (ts us : List Tree) (vars : List Kind) (defs : List Def) (b : Begins ts us) (ls : List (Option (Option ℕ))) → AreKept (IsLeft (record { terms = ts; vars = vars; defs = defs })) ls → AreKept (IsLeft (record { terms = us; vars = vars; defs = defs })) ls
 lefts_later ts us vars defs b ls h = λ i o e. let r = h i o e in
     (still_below ts us i b r.0, subst (λ t. StandsFor us o (left_side vars defs t)) (sym (begins_at ts us i b r.0)) (stands_later ts us b o (left_side vars defs (at ts i)) r.1))
 
-module _ (ts us : List Tree) (vars : List Kind) (defs : List Def) (fs : List (ℕ × ℕ)) (ls ns : List (ℕ × Option ℕ)) (as' : List (ℕ × Vec ℕ Global)) (ss : List (ℕ × Standing)) (b : Begins ts us) where
+module _ (ts us : List Tree) (vars : List Kind) (defs : List Def) (fs : List (Option ℕ)) (ls ns : List (Option (Option ℕ))) (as' : List (Option (Vec ℕ Global))) (ss : List (Option Standing)) (b : Begins ts us) where
   pub memos_later : AreMemos (record { terms = ts; vars = vars; defs = defs }) fs ls ns as' ss → AreMemos (record { terms = us; vars = vars; defs = defs }) fs ls ns as' ss
   memos_later h = record {
     forms = forms_later vars defs ts us fs b h.forms;

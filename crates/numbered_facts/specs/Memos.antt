@@ -1,7 +1,6 @@
 -- What a store keeps of terms, by number.
 use Rattle.std.specs.Prelude.{◌≡◌, ℕ, Vec, ◌+◌, ◌<◌, ◌≤◌, nat_eq, ◌&&◌, Option, Some, List, [], length, filter, find}
 use Rattle.std.specs.List.{list_any, AllByRecursion}
-use Rattle.std.specs.Map.{lookup}
 use Rattle.std.specs.declared.alloc.Global.{Global}
 use Rattle.logic_core.specs.Tree.{Tree}
 use Rattle.logic_core.specs.Junction.{negated}
@@ -10,15 +9,12 @@ use Rattle.tableau_branch.specs.Oriented.{is_application, left_side}
 use Rattle.tableau_branch.specs.Shapes.{is_call, is_choice, is_access}
 use Rattle.logic_rules.specs.Instantiating.{each_once}
 use Rattle.term_bank.specs.Numbered.{at}
+use Rattle.numbered_terms.specs.Slots.{AreKept}
 use Rattle.numbered_terms.specs.Stored.{Numbered}
 use Rattle.numbered_forms.specs.Forms.{AreForms}
 use Rattle.numbered_facts.specs.Answers.{StandsFor, AreAt}
 use Rattle.numbered_facts.specs.Atoms.{is_atom, AreOnce}
 use Rattle.numbered_facts.specs.declared.standing.Standing.{Standing}
-
--- what is kept of numbers is right
-abbrev pub AreKept : {A : Type 0} → (ℕ → A → Type 0) → List (ℕ × A) → Type 0
-AreKept {A} Right kept = (i : ℕ) (a : A) → lookup (nat_eq i) kept ≡ Some a → Right i a
 
 module _ (ts : List Tree) where
   -- a normal Not, where there is one
@@ -45,7 +41,7 @@ abbrev pub IsLeft : Numbered → ℕ → Option ℕ → Type 0
 IsLeft n i o = (i < length n.terms) × StandsFor n.terms o (left_side n.vars n.defs (at n.terms i))
 
 -- all that a store keeps
-pub record AreMemos (n : Numbered) (fs : List (ℕ × ℕ)) (ls ns : List (ℕ × Option ℕ)) (as' : List (ℕ × Vec ℕ Global)) (ss : List (ℕ × Standing)) : Type 0 where
+pub record AreMemos (n : Numbered) (fs : List (Option ℕ)) (ls ns : List (Option (Option ℕ))) (as' : List (Option (Vec ℕ Global))) (ss : List (Option Standing)) : Type 0 where
   pub forms : AreForms n.vars n.defs n.terms fs
   pub lefts : AreKept (IsLeft n) ls
   pub negations : AreKept (IsNegation n.terms) ns

@@ -1,20 +1,19 @@
 // The atoms in terms, found once.
-ghost use Rattle.std.specs.Prelude.{◌≡◌, ◌<◌, nat_eq, true, length, filter, IfOk, OnOk, OnErr};
+ghost use Rattle.std.specs.Prelude.{◌≡◌, ◌<◌, true, length, filter, IfOk, OnOk, OnErr};
 ghost use Rattle.std.specs.List.{AllByRecursion};
-ghost use Rattle.std.specs.Map.{lookup};
 ghost use Rattle.std.specs.Option.{option_copied};
-ghost use Rattle.indexmap.specs.IndexMap.{insert_entry};
 ghost use Rattle.logic_core.specs.Subterm.{occurs};
 ghost use Rattle.term_bank.specs.Numbered.{at};
 ghost use Rattle.numbered_facts.specs.Atoms.{is_atom, AreAtomsIn};
-ghost use Rattle.numbered_facts.specs.Memos.{AreKept, AreAtoms};
+ghost use Rattle.numbered_terms.specs.Slots.{kept_at, AreAlike, IsPut, AreKept};
+ghost use Rattle.numbered_facts.specs.Memos.{AreAtoms};
 
 use crate::inside::is_atom;
 use crate::numbers::push_where;
 use crate::occurring::{is_among, occurring, occurs};
-use indexmap::IndexMap;
 use numbered_terms::Terms;
 use numbered_terms::renumber::copy_numbers;
+use numbered_terms::slots::Slots;
 use std::alloc::AllocError;
 use term_bank::TermId;
 
@@ -41,34 +40,33 @@ fn atoms_of(terms: &Terms, id: TermId) -> Result<Vec<TermId>, AllocError>
 }
 
 // The atoms that are kept of a number.
-fn kept_atoms(memo: &IndexMap<usize, Vec<TermId>>, id: TermId) -> Option<&Vec<TermId>>
-    ensures { option_copied result ≡ lookup (nat_eq id) memo.now.entries }
+fn kept_atoms(memo: &Slots<Vec<TermId>>, id: TermId) -> Option<&Vec<TermId>>
+    ensures { option_copied result ≡ kept_at memo.now.slots.items id }
 {
-    memo.get(&id.number)
+    memo.get(id)
 }
 
 // From now on these are kept of the number.
 fn keep_atoms(
-    memo: &mut IndexMap<usize, Vec<TermId>>,
+    memo: &mut Slots<Vec<TermId>>,
     id: TermId,
     atoms: Vec<TermId>,
 ) -> Result<(), AllocError>
-    ensures ok { OnOk result (memo.new.entries ≡ insert_entry nat_eq memo.old.entries id atoms) }
-    ensures memory { OnErr result (memo.new.entries ≡ memo.old.entries) }
+    ensures ok { OnOk result (IsPut memo.old.slots.items id atoms memo.new.slots.items) }
+    ensures memory { OnErr result (AreAlike memo.old.slots.items memo.new.slots.items) }
 {
-    memo.insert(id.number, atoms)?;
-    Ok(())
+    memo.put(id, atoms)
 }
 
 /// The atoms in a term, which are kept.
 pub(crate) fn atoms(
     terms: &Terms,
-    memo: &mut IndexMap<usize, Vec<TermId>>,
+    memo: &mut Slots<Vec<TermId>>,
     id: TermId,
 ) -> Result<Vec<TermId>, AllocError>
     requires id { id < length terms.now }
-    requires right { AreKept (AreAtoms terms.now) memo.old.entries }
-    ensures right { AreKept (AreAtoms terms.now) memo.new.entries }
+    requires right { AreKept (AreAtoms terms.now) memo.old.slots.items }
+    ensures right { AreKept (AreAtoms terms.now) memo.new.slots.items }
     ensures atoms { IfOk result (λ v. AreAtomsIn terms.now id v.items) }
 {
     terms.are_stored();
@@ -84,15 +82,15 @@ pub(crate) fn atoms(
 // Whether the atom occurs in a term, whose atoms are kept.
 fn atom_occurs(
     terms: &Terms,
-    memo: &mut IndexMap<usize, Vec<TermId>>,
+    memo: &mut Slots<Vec<TermId>>,
     part: TermId,
     id: TermId,
 ) -> Result<bool, AllocError>
     requires part { part < length terms.now }
     requires id { id < length terms.now }
     requires atom { is_atom (at terms.now part) ≡ true }
-    requires right { AreKept (AreAtoms terms.now) memo.old.entries }
-    ensures right { AreKept (AreAtoms terms.now) memo.new.entries }
+    requires right { AreKept (AreAtoms terms.now) memo.old.slots.items }
+    ensures right { AreKept (AreAtoms terms.now) memo.new.slots.items }
     ensures gives { IfOk result (λ b. b ≡ occurs (at terms.now part) (at terms.now id)) }
 {
     terms.are_stored();
@@ -108,14 +106,14 @@ fn atom_occurs(
 /// Whether the first term occurs in the second.
 pub(crate) fn part_occurs(
     terms: &Terms,
-    memo: &mut IndexMap<usize, Vec<TermId>>,
+    memo: &mut Slots<Vec<TermId>>,
     part: TermId,
     id: TermId,
 ) -> Result<bool, AllocError>
     requires part { part < length terms.now }
     requires id { id < length terms.now }
-    requires right { AreKept (AreAtoms terms.now) memo.old.entries }
-    ensures right { AreKept (AreAtoms terms.now) memo.new.entries }
+    requires right { AreKept (AreAtoms terms.now) memo.old.slots.items }
+    ensures right { AreKept (AreAtoms terms.now) memo.new.slots.items }
     ensures gives { IfOk result (λ b. b ≡ occurs (at terms.now part) (at terms.now id)) }
 {
     terms.are_stored();

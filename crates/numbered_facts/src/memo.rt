@@ -1,17 +1,16 @@
 // What is kept of numbers.
-ghost use Rattle.std.specs.Prelude.{◌≡◌, nat_eq, OnOk, OnErr};
-ghost use Rattle.std.specs.Map.{lookup};
-ghost use Rattle.indexmap.specs.IndexMap.{insert_entry};
+ghost use Rattle.std.specs.Prelude.{◌≡◌, OnOk, OnErr};
+ghost use Rattle.numbered_terms.specs.Slots.{kept_at, AreAlike, IsPut};
 
-use indexmap::IndexMap;
+use numbered_terms::slots::Slots;
 use std::alloc::AllocError;
 use term_bank::TermId;
 
 /// What is kept of a number: a number, or that there is none.
-pub(crate) fn kept(memo: &IndexMap<usize, Option<TermId>>, id: TermId) -> Option<Option<TermId>>
-    ensures { result ≡ lookup (nat_eq id) memo.now.entries }
+pub(crate) fn kept(memo: &Slots<Option<TermId>>, id: TermId) -> Option<Option<TermId>>
+    ensures { result ≡ kept_at memo.now.slots.items id }
 {
-    match memo.get(&id.number) {
+    match memo.get(id) {
         Some(found) => Some(*found),
         None => None,
     }
@@ -19,13 +18,12 @@ pub(crate) fn kept(memo: &IndexMap<usize, Option<TermId>>, id: TermId) -> Option
 
 /// From now on this is kept of the number.
 pub(crate) fn keep(
-    memo: &mut IndexMap<usize, Option<TermId>>,
+    memo: &mut Slots<Option<TermId>>,
     id: TermId,
     found: &Option<TermId>,
 ) -> Result<(), AllocError>
-    ensures ok { OnOk result (memo.new.entries ≡ insert_entry nat_eq memo.old.entries id found.now) }
-    ensures memory { OnErr result (memo.new.entries ≡ memo.old.entries) }
+    ensures ok { OnOk result (IsPut memo.old.slots.items id found.now memo.new.slots.items) }
+    ensures memory { OnErr result (AreAlike memo.old.slots.items memo.new.slots.items) }
 {
-    memo.insert(id.number, *found)?;
-    Ok(())
+    memo.put(id, *found)
 }

@@ -3,13 +3,14 @@ ghost use Rattle.std.specs.Prelude.{◌≡◌, ◌<◌, length, IfOk};
 ghost use Rattle.logic_core.specs.Junction.{negated};
 ghost use Rattle.term_bank.specs.Numbered.{at, Begins};
 ghost use Rattle.numbered_facts.specs.Answers.{StandsFor};
-ghost use Rattle.numbered_facts.specs.Memos.{AreKept, IsNegation};
+ghost use Rattle.numbered_terms.specs.Slots.{AreKept};
+ghost use Rattle.numbered_facts.specs.Memos.{IsNegation};
 
 use crate::memo::{keep, kept};
-use indexmap::IndexMap;
 use logic_core::NormalFault;
 use numbered_forms::negation::negated;
 use numbered_terms::Terms;
+use numbered_terms::slots::Slots;
 use std::alloc::AllocError;
 use term_bank::TermId;
 
@@ -29,13 +30,13 @@ fn negation_of(terms: &mut Terms, id: TermId) -> Result<Option<TermId>, AllocErr
 /// The same, which is kept.
 pub(crate) fn negation(
     terms: &mut Terms,
-    negations: &mut IndexMap<usize, Option<TermId>>,
+    negations: &mut Slots<Option<TermId>>,
     id: TermId,
 ) -> Result<Option<TermId>, AllocError>
     requires id { id < length terms.old }
-    requires right { AreKept (IsNegation terms.old) negations.old.entries }
+    requires right { AreKept (IsNegation terms.old) negations.old.slots.items }
     ensures grows { Begins terms.old terms.new }
-    ensures right { AreKept (IsNegation terms.new) negations.new.entries }
+    ensures right { AreKept (IsNegation terms.new) negations.new.slots.items }
     ensures gives { IfOk result (λ o. StandsFor terms.new o (negated (at terms.old id))) }
 {
     if let Some(found) = kept(negations, id) {

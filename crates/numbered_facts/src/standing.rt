@@ -1,23 +1,23 @@
 // What stands in terms outside quantifiers, found once.
 ghost use Rattle.std.specs.Prelude.{◌≡◌, ◌<◌, ◌≤◌, [], true, length, map, filter, find, is_some, nat_eq, IfOk, OnOk, OnErr};
 ghost use Rattle.std.specs.List.{flat_map, AllByRecursion};
-ghost use Rattle.std.specs.Map.{lookup};
 ghost use Rattle.std.specs.Option.{option_copied};
 ghost use Rattle.logic_core.specs.Subterm.{outside, is_quantifier};
 ghost use Rattle.logic_core.specs.Tree.{read};
 ghost use Rattle.tableau_branch.specs.Oriented.{is_application};
 ghost use Rattle.tableau_branch.specs.Shapes.{is_call, is_choice, is_access, has_shape};
 ghost use Rattle.logic_rules.specs.Instantiating.{each_once};
-ghost use Rattle.indexmap.specs.IndexMap.{insert_entry};
 ghost use Rattle.term_bank.specs.Numbered.{at};
 ghost use Rattle.numbered_facts.specs.Answers.{StandsFor, AreAt};
 ghost use Rattle.numbered_facts.specs.Inside.{inner, AreOutside};
-ghost use Rattle.numbered_facts.specs.Memos.{AreKept, IsStanding};
+ghost use Rattle.numbered_terms.specs.Slots.{kept_at, AreAlike, IsPut, AreKept};
+ghost use Rattle.numbered_facts.specs.Memos.{IsStanding};
 
 use crate::numbers::{add, is_in, list, push_where};
-use indexmap::{IndexMap, IndexSet};
+use indexmap::IndexSet;
 use numbered_terms::Terms;
 use numbered_terms::renumber::{copy_numbers, numbers};
+use numbered_terms::slots::Slots;
 use std::alloc::AllocError;
 use tableau_branch::outside::Shape;
 use term_bank::{Node, TermId};
@@ -237,41 +237,36 @@ fn standing_of(terms: &Terms, id: TermId) -> Result<Standing, AllocError>
 
 // From now on this is kept of the number.
 fn keep_standing(
-    memo: &mut IndexMap<usize, Standing>,
+    memo: &mut Slots<Standing>,
     id: TermId,
     standing: Standing,
 ) -> Result<(), AllocError>
-    ensures ok { OnOk result (memo.new.entries ≡ insert_entry nat_eq memo.old.entries id standing) }
-    ensures memory { OnErr result (memo.new.entries ≡ memo.old.entries) }
+    ensures ok { OnOk result (IsPut memo.old.slots.items id standing memo.new.slots.items) }
+    ensures memory { OnErr result (AreAlike memo.old.slots.items memo.new.slots.items) }
 {
-    memo.insert(id.number, standing)?;
-    Ok(())
+    memo.put(id, standing)
 }
 
 // What is kept of a number.
-fn standing_at(memo: &IndexMap<usize, Standing>, id: TermId) -> Option<&Standing>
-    ensures { option_copied result ≡ lookup (nat_eq id) memo.now.entries }
+fn standing_at(memo: &Slots<Standing>, id: TermId) -> Option<&Standing>
+    ensures { option_copied result ≡ kept_at memo.now.slots.items id }
 {
-    memo.get(&id.number)
+    memo.get(id)
 }
 
 // Whether something is kept of the number.
-fn is_kept(memo: &IndexMap<usize, Standing>, id: TermId) -> bool
-    ensures { result ≡ is_some (lookup (nat_eq id) memo.now.entries) }
+fn is_kept(memo: &Slots<Standing>, id: TermId) -> bool
+    ensures { result ≡ is_some (kept_at memo.now.slots.items id) }
 {
-    memo.contains_key(&id.number)
+    standing_at(memo, id).is_some()
 }
 
 /// What stands in the term outside quantifiers is kept.
-pub(crate) fn stand(
-    terms: &Terms,
-    memo: &mut IndexMap<usize, Standing>,
-    id: TermId,
-) -> Result<(), AllocError>
+pub(crate) fn stand(terms: &Terms, memo: &mut Slots<Standing>, id: TermId) -> Result<(), AllocError>
     requires id { id < length terms.now }
-    requires right { AreKept (IsStanding terms.now) memo.old.entries }
-    ensures right { AreKept (IsStanding terms.now) memo.new.entries }
-    ensures there { OnOk result (is_some (lookup (nat_eq id) memo.new.entries) ≡ true) }
+    requires right { AreKept (IsStanding terms.now) memo.old.slots.items }
+    ensures right { AreKept (IsStanding terms.now) memo.new.slots.items }
+    ensures there { OnOk result (is_some (kept_at memo.new.slots.items id) ≡ true) }
 {
     if is_kept(memo, id) {
         return Ok(());
@@ -284,11 +279,11 @@ pub(crate) fn stand(
 /// The Reads and Calls in a term outside quantifiers, which are kept.
 pub(crate) fn ground(
     terms: &Terms,
-    memo: &IndexMap<usize, Standing>,
+    memo: &Slots<Standing>,
     id: TermId,
 ) -> Result<Vec<TermId>, AllocError>
-    requires right { AreKept (IsStanding terms.now) memo.now.entries }
-    requires there { is_some (lookup (nat_eq id) memo.now.entries) ≡ true }
+    requires right { AreKept (IsStanding terms.now) memo.now.slots.items }
+    requires there { is_some (kept_at memo.now.slots.items id) ≡ true }
     ensures { IfOk result (λ v. AreAt terms.now v.items (each_once [] (filter is_application (outside (at terms.now id))))) }
 {
     match standing_at(memo, id) {
@@ -298,9 +293,9 @@ pub(crate) fn ground(
 }
 
 /// The first Call in a term outside quantifiers, which is kept.
-pub(crate) fn call(terms: &Terms, memo: &IndexMap<usize, Standing>, id: TermId) -> Option<TermId>
-    requires right { AreKept (IsStanding terms.now) memo.now.entries }
-    requires there { is_some (lookup (nat_eq id) memo.now.entries) ≡ true }
+pub(crate) fn call(terms: &Terms, memo: &Slots<Standing>, id: TermId) -> Option<TermId>
+    requires right { AreKept (IsStanding terms.now) memo.now.slots.items }
+    requires there { is_some (kept_at memo.now.slots.items id) ≡ true }
     ensures { StandsFor terms.now result (find is_call (outside (at terms.now id))) }
 {
     let _count = terms.len();
@@ -311,9 +306,9 @@ pub(crate) fn call(terms: &Terms, memo: &IndexMap<usize, Standing>, id: TermId) 
 }
 
 /// The first If in a term outside quantifiers, which is kept.
-pub(crate) fn choice(terms: &Terms, memo: &IndexMap<usize, Standing>, id: TermId) -> Option<TermId>
-    requires right { AreKept (IsStanding terms.now) memo.now.entries }
-    requires there { is_some (lookup (nat_eq id) memo.now.entries) ≡ true }
+pub(crate) fn choice(terms: &Terms, memo: &Slots<Standing>, id: TermId) -> Option<TermId>
+    requires right { AreKept (IsStanding terms.now) memo.now.slots.items }
+    requires there { is_some (kept_at memo.now.slots.items id) ≡ true }
     ensures { StandsFor terms.now result (find is_choice (outside (at terms.now id))) }
 {
     let _count = terms.len();
@@ -324,9 +319,9 @@ pub(crate) fn choice(terms: &Terms, memo: &IndexMap<usize, Standing>, id: TermId
 }
 
 /// The first Read of a Write in a term outside quantifiers, which is kept.
-pub(crate) fn access(terms: &Terms, memo: &IndexMap<usize, Standing>, id: TermId) -> Option<TermId>
-    requires right { AreKept (IsStanding terms.now) memo.now.entries }
-    requires there { is_some (lookup (nat_eq id) memo.now.entries) ≡ true }
+pub(crate) fn access(terms: &Terms, memo: &Slots<Standing>, id: TermId) -> Option<TermId>
+    requires right { AreKept (IsStanding terms.now) memo.now.slots.items }
+    requires there { is_some (kept_at memo.now.slots.items id) ≡ true }
     ensures { StandsFor terms.now result (find is_access (outside (at terms.now id))) }
 {
     let _count = terms.len();

@@ -7,12 +7,12 @@ ghost use Rattle.numbered_terms.specs.At.{IsAt};
 ghost use Rattle.numbered_terms.specs.Stored.{Grows};
 
 use crate::standing::Standing;
-use indexmap::IndexMap;
 use logic_core::copy::copy_sorts;
 use logic_core::same::equal_sorts;
 use logic_core::{Def, Sort, Term};
 use numbered_terms::Terms;
 use numbered_terms::number::number;
+use numbered_terms::slots::Slots;
 use std::alloc::{AllocError, Global};
 use std::marker::Model;
 use term_bank::{Node, TermId};
@@ -24,11 +24,11 @@ pub struct Store {
     pub(crate) terms: Terms,
     pub(crate) vars: Vec<Sort>,
     pub(crate) defs: Vec<Def>,
-    pub(crate) forms: IndexMap<usize, TermId>,
-    pub(crate) lefts: IndexMap<usize, Option<TermId>>,
-    pub(crate) negations: IndexMap<usize, Option<TermId>>,
-    pub(crate) atoms: IndexMap<usize, Vec<TermId>>,
-    pub(crate) standing: IndexMap<usize, Standing>,
+    pub(crate) forms: Slots<TermId>,
+    pub(crate) lefts: Slots<Option<TermId>>,
+    pub(crate) negations: Slots<Option<TermId>>,
+    pub(crate) atoms: Slots<Vec<TermId>>,
+    pub(crate) standing: Slots<Standing>,
 }
 
 impl Model for Store {
@@ -43,7 +43,7 @@ impl Model for Store {
 
     ghost view = { λ a. record { terms = a.terms; vars = a.vars.items; defs = a.defs.items } };
 
-    ghost invariant = { λ a. AreMemos (record { terms = a.terms; vars = a.vars.items; defs = a.defs.items }) a.forms.entries a.lefts.entries a.negations.entries a.atoms.entries a.standing.entries };
+    ghost invariant = { λ a. AreMemos (record { terms = a.terms; vars = a.vars.items; defs = a.defs.items }) a.forms.slots.items a.lefts.slots.items a.negations.slots.items a.atoms.slots.items a.standing.slots.items };
 }
 
 // The number of a term.
@@ -66,11 +66,11 @@ impl Store {
             terms,
             vars,
             defs,
-            forms: IndexMap::new(alloc),
-            lefts: IndexMap::new(alloc),
-            negations: IndexMap::new(alloc),
-            atoms: IndexMap::new(alloc),
-            standing: IndexMap::new(alloc),
+            forms: Slots::new(alloc),
+            lefts: Slots::new(alloc),
+            negations: Slots::new(alloc),
+            atoms: Slots::new(alloc),
+            standing: Slots::new(alloc),
         }
     }
 
@@ -109,8 +109,8 @@ impl Store {
             return Ok(());
         }
         let copies = copy_sorts(self.terms.alloc(), vars)?;
-        self.forms = IndexMap::new(self.terms.alloc());
-        self.lefts = IndexMap::new(self.terms.alloc());
+        self.forms = Slots::new(self.terms.alloc());
+        self.lefts = Slots::new(self.terms.alloc());
         self.vars = copies;
         Ok(())
     }

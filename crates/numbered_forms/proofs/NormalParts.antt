@@ -89,7 +89,7 @@ module _ {A B C D : Type 0} (p : Option A) (q : Option B) (r : Option C) where
 
 module _ (vars : List Kind) (defs : List Def) where
   -- forms are right in a longer store
-  pub forms_later : (ts us : List Tree) (forms : List (ℕ × ℕ)) → Begins ts us → AreForms vars defs ts forms → AreForms vars defs us forms
+  pub forms_later : (ts us : List Tree) (forms : List (Option ℕ)) → Begins ts us → AreForms vars defs ts forms → AreForms vars defs us forms
   forms_later ts us forms b h = λ i j e. let r = h i j e in
       (still_below ts us i b r.0, (still_below ts us j b r.1.0, ap (normal vars defs []) (begins_at ts us i b r.0) ∙ r.1.1 ∙ ap Some (sym (begins_at ts us j b r.1.0))))
 

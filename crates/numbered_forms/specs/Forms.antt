@@ -1,16 +1,16 @@
 -- Normal forms that are found for numbers.
-use Rattle.std.specs.Prelude.{◌≡◌, ℕ, ◌<◌, nat_eq, ℤ, Option, Some, List, [], length}
-use Rattle.std.specs.Map.{lookup}
+use Rattle.std.specs.Prelude.{◌≡◌, ℕ, ◌<◌, ℤ, Option, Some, List, [], length}
 use Rattle.logic_core.specs.Tree.{Kind, Tree, Patterns}
 use Rattle.logic_core.specs.Def.{Def}
 use Rattle.logic_core.specs.Wide.{◌>>=◌}
 use Rattle.logic_core.specs.Normal.{normal, normal_patterns}
 use Rattle.logic_core.specs.Sum.{Linear, add_term}
 use Rattle.term_bank.specs.Numbered.{at}
+use Rattle.numbered_terms.specs.Slots.{kept_at}
 
 -- each is the normal form of its number's term
-abbrev pub AreForms : List Kind → List Def → List Tree → List (ℕ × ℕ) → Type 0
-AreForms vars defs ts forms = (i j : ℕ) → lookup (nat_eq i) forms ≡ Some j → (i < length ts) × ((j < length ts) × (normal vars defs [] (at ts i) ≡ Some (at ts j)))
+abbrev pub AreForms : List Kind → List Def → List Tree → List (Option ℕ) → Type 0
+AreForms vars defs ts forms = (i j : ℕ) → kept_at forms i ≡ Some j → (i < length ts) × ((j < length ts) × (normal vars defs [] (at ts i) ≡ Some (at ts j)))
 
 -- the normal forms of two terms, and of three
 module _ (vars : List Kind) (defs : List Def) (bound : List Kind) where

@@ -18,17 +18,17 @@ use crate::listed::{normal_each, normal_parts, normal_three, normal_two};
 use crate::negation::negated;
 use crate::normal::normal_under;
 use crate::sorts::sort_of;
-use indexmap::IndexMap;
 use logic_core::junction::Connective;
 use logic_core::{Def, NormalFault, Sort};
 use numbered_terms::Terms;
+use numbered_terms::slots::Slots;
 use term_bank::{Node, TermId};
 
 // The normal form of a product.
 #[cycle(normal)]
 pub(crate) fn normal_product(
     terms: &mut Terms,
-    forms: &mut IndexMap<usize, TermId>,
+    forms: &mut Slots<TermId>,
     vars: &[Sort],
     defs: &[Def],
     bound: &[Sort],
@@ -39,9 +39,9 @@ pub(crate) fn normal_product(
     requires below { below ≤ length terms.old }
     requires a { a < below }
     requires b { b < below }
-    requires forms { AreForms vars.now defs.now terms.old forms.old.entries }
+    requires forms { AreForms vars.now defs.now terms.old forms.old.slots.items }
     ensures grows { Begins terms.old terms.new }
-    ensures forms { AreForms vars.now defs.now terms.new forms.new.entries }
+    ensures forms { AreForms vars.now defs.now terms.new forms.new.slots.items }
     ensures gives { GivesAt terms.new result (normal vars.now defs.now bound.now (mul (at terms.old a) (at terms.old b))) }
 {
     let (a, b) = normal_two(terms, forms, vars, defs, bound, below, a, b)?;
@@ -52,7 +52,7 @@ pub(crate) fn normal_product(
 #[cycle(normal)]
 pub(crate) fn normal_read(
     terms: &mut Terms,
-    forms: &mut IndexMap<usize, TermId>,
+    forms: &mut Slots<TermId>,
     vars: &[Sort],
     defs: &[Def],
     bound: &[Sort],
@@ -63,9 +63,9 @@ pub(crate) fn normal_read(
     requires below { below ≤ length terms.old }
     requires map { map < below }
     requires index { index < below }
-    requires forms { AreForms vars.now defs.now terms.old forms.old.entries }
+    requires forms { AreForms vars.now defs.now terms.old forms.old.slots.items }
     ensures grows { Begins terms.old terms.new }
-    ensures forms { AreForms vars.now defs.now terms.new forms.new.entries }
+    ensures forms { AreForms vars.now defs.now terms.new forms.new.slots.items }
     ensures gives { GivesAt terms.new result (normal vars.now defs.now bound.now (read (at terms.old map) (at terms.old index))) }
 {
     let (map, index) = normal_two(terms, forms, vars, defs, bound, below, map, index)?;
@@ -76,7 +76,7 @@ pub(crate) fn normal_read(
 #[cycle(normal)]
 pub(crate) fn normal_inequality(
     terms: &mut Terms,
-    forms: &mut IndexMap<usize, TermId>,
+    forms: &mut Slots<TermId>,
     vars: &[Sort],
     defs: &[Def],
     bound: &[Sort],
@@ -87,9 +87,9 @@ pub(crate) fn normal_inequality(
     requires below { below ≤ length terms.old }
     requires a { a < below }
     requires b { b < below }
-    requires forms { AreForms vars.now defs.now terms.old forms.old.entries }
+    requires forms { AreForms vars.now defs.now terms.old forms.old.slots.items }
     ensures grows { Begins terms.old terms.new }
-    ensures forms { AreForms vars.now defs.now terms.new forms.new.entries }
+    ensures forms { AreForms vars.now defs.now terms.new forms.new.slots.items }
     ensures gives { GivesAt terms.new result (normal vars.now defs.now bound.now (at_most (at terms.old a) (at terms.old b))) }
 {
     let (a, b) = normal_two(terms, forms, vars, defs, bound, below, a, b)?;
@@ -100,7 +100,7 @@ pub(crate) fn normal_inequality(
 #[cycle(normal)]
 pub(crate) fn normal_equation(
     terms: &mut Terms,
-    forms: &mut IndexMap<usize, TermId>,
+    forms: &mut Slots<TermId>,
     vars: &[Sort],
     defs: &[Def],
     bound: &[Sort],
@@ -111,9 +111,9 @@ pub(crate) fn normal_equation(
     requires below { below ≤ length terms.old }
     requires a { a < below }
     requires b { b < below }
-    requires forms { AreForms vars.now defs.now terms.old forms.old.entries }
+    requires forms { AreForms vars.now defs.now terms.old forms.old.slots.items }
     ensures grows { Begins terms.old terms.new }
-    ensures forms { AreForms vars.now defs.now terms.new forms.new.entries }
+    ensures forms { AreForms vars.now defs.now terms.new forms.new.slots.items }
     ensures gives { GivesAt terms.new result (normal vars.now defs.now bound.now (equal (at terms.old a) (at terms.old b))) }
 {
     let sort = sort_of(terms, vars, defs, bound, a)?;
@@ -125,7 +125,7 @@ pub(crate) fn normal_equation(
 #[cycle(normal)]
 pub(crate) fn normal_write(
     terms: &mut Terms,
-    forms: &mut IndexMap<usize, TermId>,
+    forms: &mut Slots<TermId>,
     vars: &[Sort],
     defs: &[Def],
     bound: &[Sort],
@@ -138,9 +138,9 @@ pub(crate) fn normal_write(
     requires map { map < below }
     requires index { index < below }
     requires value { value < below }
-    requires forms { AreForms vars.now defs.now terms.old forms.old.entries }
+    requires forms { AreForms vars.now defs.now terms.old forms.old.slots.items }
     ensures grows { Begins terms.old terms.new }
-    ensures forms { AreForms vars.now defs.now terms.new forms.new.entries }
+    ensures forms { AreForms vars.now defs.now terms.new forms.new.slots.items }
     ensures gives { GivesAt terms.new result (normal vars.now defs.now bound.now (write (at terms.old map) (at terms.old index) (at terms.old value))) }
 {
     let (map, index, value) = normal_three(
@@ -153,7 +153,7 @@ pub(crate) fn normal_write(
 #[cycle(normal)]
 pub(crate) fn normal_choice(
     terms: &mut Terms,
-    forms: &mut IndexMap<usize, TermId>,
+    forms: &mut Slots<TermId>,
     vars: &[Sort],
     defs: &[Def],
     bound: &[Sort],
@@ -166,9 +166,9 @@ pub(crate) fn normal_choice(
     requires c { c < below }
     requires a { a < below }
     requires b { b < below }
-    requires forms { AreForms vars.now defs.now terms.old forms.old.entries }
+    requires forms { AreForms vars.now defs.now terms.old forms.old.slots.items }
     ensures grows { Begins terms.old terms.new }
-    ensures forms { AreForms vars.now defs.now terms.new forms.new.entries }
+    ensures forms { AreForms vars.now defs.now terms.new forms.new.slots.items }
     ensures gives { GivesAt terms.new result (normal vars.now defs.now bound.now (choose (at terms.old c) (at terms.old a) (at terms.old b))) }
 {
     let (c, a, b) = normal_three(terms, forms, vars, defs, bound, below, c, a, b)?;
@@ -179,7 +179,7 @@ pub(crate) fn normal_choice(
 #[cycle(normal)]
 pub(crate) fn normal_call(
     terms: &mut Terms,
-    forms: &mut IndexMap<usize, TermId>,
+    forms: &mut Slots<TermId>,
     vars: &[Sort],
     defs: &[Def],
     bound: &[Sort],
@@ -189,9 +189,9 @@ pub(crate) fn normal_call(
 ) -> Result<TermId, NormalFault>
     requires below { below ≤ length terms.old }
     requires ids { AllByRecursion (λ j. j < below) ids.now }
-    requires forms { AreForms vars.now defs.now terms.old forms.old.entries }
+    requires forms { AreForms vars.now defs.now terms.old forms.old.slots.items }
     ensures grows { Begins terms.old terms.new }
-    ensures forms { AreForms vars.now defs.now terms.new forms.new.entries }
+    ensures forms { AreForms vars.now defs.now terms.new forms.new.slots.items }
     ensures gives { GivesAt terms.new result (normal vars.now defs.now bound.now (call f (trees_of (terms_at terms.old ids.now)))) }
 {
     let args = normal_each(terms, forms, vars, defs, bound, below, ids)?;
@@ -202,7 +202,7 @@ pub(crate) fn normal_call(
 #[cycle(normal)]
 pub(crate) fn normal_conjunction(
     terms: &mut Terms,
-    forms: &mut IndexMap<usize, TermId>,
+    forms: &mut Slots<TermId>,
     vars: &[Sort],
     defs: &[Def],
     bound: &[Sort],
@@ -211,9 +211,9 @@ pub(crate) fn normal_conjunction(
 ) -> Result<TermId, NormalFault>
     requires below { below ≤ length terms.old }
     requires ids { AllByRecursion (λ j. j < below) ids.now }
-    requires forms { AreForms vars.now defs.now terms.old forms.old.entries }
+    requires forms { AreForms vars.now defs.now terms.old forms.old.slots.items }
     ensures grows { Begins terms.old terms.new }
-    ensures forms { AreForms vars.now defs.now terms.new forms.new.entries }
+    ensures forms { AreForms vars.now defs.now terms.new forms.new.slots.items }
     ensures gives { GivesAt terms.new result (normal vars.now defs.now bound.now (all (trees_of (terms_at terms.old ids.now)))) }
 {
     let parts = normal_each(terms, forms, vars, defs, bound, below, ids)?;
@@ -224,7 +224,7 @@ pub(crate) fn normal_conjunction(
 #[cycle(normal)]
 pub(crate) fn normal_disjunction(
     terms: &mut Terms,
-    forms: &mut IndexMap<usize, TermId>,
+    forms: &mut Slots<TermId>,
     vars: &[Sort],
     defs: &[Def],
     bound: &[Sort],
@@ -233,9 +233,9 @@ pub(crate) fn normal_disjunction(
 ) -> Result<TermId, NormalFault>
     requires below { below ≤ length terms.old }
     requires ids { AllByRecursion (λ j. j < below) ids.now }
-    requires forms { AreForms vars.now defs.now terms.old forms.old.entries }
+    requires forms { AreForms vars.now defs.now terms.old forms.old.slots.items }
     ensures grows { Begins terms.old terms.new }
-    ensures forms { AreForms vars.now defs.now terms.new forms.new.entries }
+    ensures forms { AreForms vars.now defs.now terms.new forms.new.slots.items }
     ensures gives { GivesAt terms.new result (normal vars.now defs.now bound.now (some (trees_of (terms_at terms.old ids.now)))) }
 {
     let parts = normal_each(terms, forms, vars, defs, bound, below, ids)?;
@@ -246,7 +246,7 @@ pub(crate) fn normal_disjunction(
 #[cycle(normal)]
 pub(crate) fn normal_negation(
     terms: &mut Terms,
-    forms: &mut IndexMap<usize, TermId>,
+    forms: &mut Slots<TermId>,
     vars: &[Sort],
     defs: &[Def],
     bound: &[Sort],
@@ -255,9 +255,9 @@ pub(crate) fn normal_negation(
 ) -> Result<TermId, NormalFault>
     requires below { below ≤ length terms.old }
     requires a { a < below }
-    requires forms { AreForms vars.now defs.now terms.old forms.old.entries }
+    requires forms { AreForms vars.now defs.now terms.old forms.old.slots.items }
     ensures grows { Begins terms.old terms.new }
-    ensures forms { AreForms vars.now defs.now terms.new forms.new.entries }
+    ensures forms { AreForms vars.now defs.now terms.new forms.new.slots.items }
     ensures gives { GivesAt terms.new result (normal vars.now defs.now bound.now (negation (at terms.old a))) }
 {
     let a = normal_under(terms, forms, vars, defs, bound, a)?;
@@ -268,7 +268,7 @@ pub(crate) fn normal_negation(
 #[cycle(normal)]
 pub(crate) fn normal_for_all(
     terms: &mut Terms,
-    forms: &mut IndexMap<usize, TermId>,
+    forms: &mut Slots<TermId>,
     vars: &[Sort],
     defs: &[Def],
     bound: &[Sort],
@@ -280,9 +280,9 @@ pub(crate) fn normal_for_all(
     requires below { below ≤ length terms.old }
     requires lists { AllByRecursion (λ j. j < below) (in_lists lists.now) }
     requires body { body < below }
-    requires forms { AreForms vars.now defs.now terms.old forms.old.entries }
+    requires forms { AreForms vars.now defs.now terms.old forms.old.slots.items }
     ensures grows { Begins terms.old terms.new }
-    ensures forms { AreForms vars.now defs.now terms.new forms.new.entries }
+    ensures forms { AreForms vars.now defs.now terms.new forms.new.slots.items }
     ensures gives { GivesAt terms.new result (normal vars.now defs.now bound.now (for_all sorts.items (patterns_of (lists_at terms.old lists.now)) (at terms.old body))) }
 {
     let within = within_binder(terms.alloc(), &sorts, bound)?;
@@ -294,7 +294,7 @@ pub(crate) fn normal_for_all(
 #[cycle(normal)]
 pub(crate) fn normal_exists(
     terms: &mut Terms,
-    forms: &mut IndexMap<usize, TermId>,
+    forms: &mut Slots<TermId>,
     vars: &[Sort],
     defs: &[Def],
     bound: &[Sort],
@@ -306,9 +306,9 @@ pub(crate) fn normal_exists(
     requires below { below ≤ length terms.old }
     requires lists { AllByRecursion (λ j. j < below) (in_lists lists.now) }
     requires body { body < below }
-    requires forms { AreForms vars.now defs.now terms.old forms.old.entries }
+    requires forms { AreForms vars.now defs.now terms.old forms.old.slots.items }
     ensures grows { Begins terms.old terms.new }
-    ensures forms { AreForms vars.now defs.now terms.new forms.new.entries }
+    ensures forms { AreForms vars.now defs.now terms.new forms.new.slots.items }
     ensures gives { GivesAt terms.new result (normal vars.now defs.now bound.now (exists sorts.items (patterns_of (lists_at terms.old lists.now)) (at terms.old body))) }
 {
     let within = within_binder(terms.alloc(), &sorts, bound)?;

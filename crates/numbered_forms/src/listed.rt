@@ -15,16 +15,16 @@ ghost use Rattle.numbered_forms.specs.Sums.{sum_at};
 
 use crate::normal::normal_under;
 use crate::sum::NumberedSum;
-use indexmap::IndexMap;
 use logic_core::{Def, NormalFault, Sort};
 use numbered_terms::Terms;
+use numbered_terms::slots::Slots;
 use term_bank::TermId;
 
 // The normal forms of two terms.
 #[cycle(normal)]
 pub(crate) fn normal_two(
     terms: &mut Terms,
-    forms: &mut IndexMap<usize, TermId>,
+    forms: &mut Slots<TermId>,
     vars: &[Sort],
     defs: &[Def],
     bound: &[Sort],
@@ -35,9 +35,9 @@ pub(crate) fn normal_two(
     requires below { below ≤ length terms.old }
     requires a { a < below }
     requires b { b < below }
-    requires forms { AreForms vars.now defs.now terms.old forms.old.entries }
+    requires forms { AreForms vars.now defs.now terms.old forms.old.slots.items }
     ensures grows { Begins terms.old terms.new }
-    ensures forms { AreForms vars.now defs.now terms.new forms.new.entries }
+    ensures forms { AreForms vars.now defs.now terms.new forms.new.slots.items }
     ensures gives { GivesAs (λ p. (at terms.new p.0, at terms.new p.1)) result (normal_two vars.now defs.now bound.now (at terms.old a) (at terms.old b)) }
     ensures first { IfOk result (λ p. p.0 < length terms.new) }
     ensures second { IfOk result (λ p. p.1 < length terms.new) }
@@ -51,7 +51,7 @@ pub(crate) fn normal_two(
 #[cycle(normal)]
 pub(crate) fn normal_three(
     terms: &mut Terms,
-    forms: &mut IndexMap<usize, TermId>,
+    forms: &mut Slots<TermId>,
     vars: &[Sort],
     defs: &[Def],
     bound: &[Sort],
@@ -64,9 +64,9 @@ pub(crate) fn normal_three(
     requires a { a < below }
     requires b { b < below }
     requires c { c < below }
-    requires forms { AreForms vars.now defs.now terms.old forms.old.entries }
+    requires forms { AreForms vars.now defs.now terms.old forms.old.slots.items }
     ensures grows { Begins terms.old terms.new }
-    ensures forms { AreForms vars.now defs.now terms.new forms.new.entries }
+    ensures forms { AreForms vars.now defs.now terms.new forms.new.slots.items }
     ensures gives { GivesAs (λ p. (at terms.new p.0, at terms.new p.1, at terms.new p.2)) result (normal_three vars.now defs.now bound.now (at terms.old a) (at terms.old b) (at terms.old c)) }
     ensures first { IfOk result (λ p. p.0 < length terms.new) }
     ensures second { IfOk result (λ p. p.1 < length terms.new) }
@@ -81,7 +81,7 @@ pub(crate) fn normal_three(
 #[cycle(normal)]
 pub(crate) fn normal_each(
     terms: &mut Terms,
-    forms: &mut IndexMap<usize, TermId>,
+    forms: &mut Slots<TermId>,
     vars: &[Sort],
     defs: &[Def],
     bound: &[Sort],
@@ -90,9 +90,9 @@ pub(crate) fn normal_each(
 ) -> Result<Vec<TermId>, NormalFault>
     requires below { below ≤ length terms.old }
     requires ids { AllByRecursion (λ j. j < below) ids.now }
-    requires forms { AreForms vars.now defs.now terms.old forms.old.entries }
+    requires forms { AreForms vars.now defs.now terms.old forms.old.slots.items }
     ensures grows { Begins terms.old terms.new }
-    ensures forms { AreForms vars.now defs.now terms.new forms.new.entries }
+    ensures forms { AreForms vars.now defs.now terms.new forms.new.slots.items }
     ensures gives { GivesAs (λ v. trees_of (terms_at terms.new v.items)) result (normal_each vars.now defs.now bound.now (trees_of (terms_at terms.old ids.now))) }
     ensures within { IfOk result (λ v. AllByRecursion (λ j. j < length terms.new) v.items) }
 {
@@ -108,7 +108,7 @@ pub(crate) fn normal_each(
 #[cycle(normal)]
 pub(crate) fn normal_lists(
     terms: &mut Terms,
-    forms: &mut IndexMap<usize, TermId>,
+    forms: &mut Slots<TermId>,
     vars: &[Sort],
     defs: &[Def],
     bound: &[Sort],
@@ -117,9 +117,9 @@ pub(crate) fn normal_lists(
 ) -> Result<Vec<Vec<TermId>>, NormalFault>
     requires below { below ≤ length terms.old }
     requires lists { AllByRecursion (λ j. j < below) (in_lists lists.now) }
-    requires forms { AreForms vars.now defs.now terms.old forms.old.entries }
+    requires forms { AreForms vars.now defs.now terms.old forms.old.slots.items }
     ensures grows { Begins terms.old terms.new }
-    ensures forms { AreForms vars.now defs.now terms.new forms.new.entries }
+    ensures forms { AreForms vars.now defs.now terms.new forms.new.slots.items }
     ensures gives { GivesAs (λ v. patterns_of (lists_at terms.new v.items)) result (normal_patterns vars.now defs.now bound.now (patterns_of (lists_at terms.old lists.now))) }
     ensures within { IfOk result (λ v. AllByRecursion (λ j. j < length terms.new) (in_lists v.items)) }
 {
@@ -135,7 +135,7 @@ pub(crate) fn normal_lists(
 #[cycle(normal)]
 pub(crate) fn normal_parts(
     terms: &mut Terms,
-    forms: &mut IndexMap<usize, TermId>,
+    forms: &mut Slots<TermId>,
     vars: &[Sort],
     defs: &[Def],
     bound: &[Sort],
@@ -146,9 +146,9 @@ pub(crate) fn normal_parts(
     requires below { below ≤ length terms.old }
     requires lists { AllByRecursion (λ j. j < below) (in_lists lists.now) }
     requires body { body < below }
-    requires forms { AreForms vars.now defs.now terms.old forms.old.entries }
+    requires forms { AreForms vars.now defs.now terms.old forms.old.slots.items }
     ensures grows { Begins terms.old terms.new }
-    ensures forms { AreForms vars.now defs.now terms.new forms.new.entries }
+    ensures forms { AreForms vars.now defs.now terms.new forms.new.slots.items }
     ensures gives { GivesAs (λ p. (patterns_of (lists_at terms.new p.0.items), at terms.new p.1)) result (normal_parts vars.now defs.now bound.now (patterns_of (lists_at terms.old lists.now)) (at terms.old body)) }
     ensures lists { IfOk result (λ p. AllByRecursion (λ j. j < length terms.new) (in_lists p.0.items)) }
     ensures body { IfOk result (λ p. p.1 < length terms.new) }
@@ -162,7 +162,7 @@ pub(crate) fn normal_parts(
 #[cycle(normal)]
 pub(crate) fn normal_sum(
     terms: &mut Terms,
-    forms: &mut IndexMap<usize, TermId>,
+    forms: &mut Slots<TermId>,
     vars: &[Sort],
     defs: &[Def],
     bound: &[Sort],
@@ -172,9 +172,9 @@ pub(crate) fn normal_sum(
 ) -> Result<TermId, NormalFault>
     requires below { below ≤ length terms.old }
     requires parts { AtomsBelow below parts.now }
-    requires forms { AreForms vars.now defs.now terms.old forms.old.entries }
+    requires forms { AreForms vars.now defs.now terms.old forms.old.slots.items }
     ensures grows { Begins terms.old terms.new }
-    ensures forms { AreForms vars.now defs.now terms.new forms.new.entries }
+    ensures forms { AreForms vars.now defs.now terms.new forms.new.slots.items }
     ensures gives { GivesAt terms.new result (normal vars.now defs.now bound.now (linear (parts_of (atoms_at terms.old parts.now)) c)) }
 {
     let sum = normal_atoms(terms, forms, vars, defs, bound, below, parts, c)?;
@@ -185,7 +185,7 @@ pub(crate) fn normal_sum(
 #[cycle(normal)]
 pub(crate) fn normal_atoms(
     terms: &mut Terms,
-    forms: &mut IndexMap<usize, TermId>,
+    forms: &mut Slots<TermId>,
     vars: &[Sort],
     defs: &[Def],
     bound: &[Sort],
@@ -195,9 +195,9 @@ pub(crate) fn normal_atoms(
 ) -> Result<NumberedSum, NormalFault>
     requires below { below ≤ length terms.old }
     requires parts { AtomsBelow below parts.now }
-    requires forms { AreForms vars.now defs.now terms.old forms.old.entries }
+    requires forms { AreForms vars.now defs.now terms.old forms.old.slots.items }
     ensures grows { Begins terms.old terms.new }
-    ensures forms { AreForms vars.now defs.now terms.new forms.new.entries }
+    ensures forms { AreForms vars.now defs.now terms.new forms.new.slots.items }
     ensures gives { GivesAs (sum_at terms.new) result (normal_sum vars.now defs.now bound.now (parts_of (atoms_at terms.old parts.now)) (constant c)) }
     ensures within { IfOk result (λ s. AtomsBelow (length terms.new) s.parts.items) }
 {
@@ -212,7 +212,7 @@ pub(crate) fn normal_atoms(
 #[cycle(normal)]
 pub(crate) fn normal_atom(
     terms: &mut Terms,
-    forms: &mut IndexMap<usize, TermId>,
+    forms: &mut Slots<TermId>,
     vars: &[Sort],
     defs: &[Def],
     bound: &[Sort],
@@ -222,9 +222,9 @@ pub(crate) fn normal_atom(
 ) -> Result<NumberedSum, NormalFault>
     requires id { id < length terms.old }
     requires sum { AtomsBelow (length terms.old) sum.parts.items }
-    requires forms { AreForms vars.now defs.now terms.old forms.old.entries }
+    requires forms { AreForms vars.now defs.now terms.old forms.old.slots.items }
     ensures grows { Begins terms.old terms.new }
-    ensures forms { AreForms vars.now defs.now terms.new forms.new.entries }
+    ensures forms { AreForms vars.now defs.now terms.new forms.new.slots.items }
     ensures gives { GivesAs (sum_at terms.new) result (normal_atom vars.now defs.now bound.now k (at terms.old id) (sum_at terms.old sum)) }
     ensures within { IfOk result (λ s. AtomsBelow (length terms.new) s.parts.items) }
 {

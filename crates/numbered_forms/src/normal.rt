@@ -1,10 +1,10 @@
 // The normal form of a term, by number, made from the parts up. Outside binders the form of a term
 // is kept by its number.
-ghost use Rattle.std.specs.Prelude.{◌≡◌, ◌<◌, nat_eq, [], length, IsTrue};
-ghost use Rattle.std.specs.Map.{lookup};
+ghost use Rattle.std.specs.Prelude.{◌≡◌, ◌<◌, [], length, IsTrue};
 ghost use Rattle.logic_core.specs.Normal.{normal};
 ghost use Rattle.term_bank.specs.Numbered.{at, Begins};
 ghost use Rattle.numbered_terms.specs.At.{GivesAt};
+ghost use Rattle.numbered_terms.specs.Slots.{kept_at};
 ghost use Rattle.numbered_forms.specs.Forms.{AreForms};
 
 use crate::constructs::{
@@ -13,18 +13,18 @@ use crate::constructs::{
     normal_write,
 };
 use crate::listed::normal_sum;
-use indexmap::IndexMap;
 use logic_core::copy::copy_sorts;
 use logic_core::{Def, NormalFault, Sort};
 use numbered_terms::Terms;
-use numbered_terms::renumber::{copy_atoms, copy_lists, copy_numbers, note};
+use numbered_terms::renumber::{copy_atoms, copy_lists, copy_numbers};
+use numbered_terms::slots::Slots;
 use term_bank::{Node, TermId};
 
 // The form that is kept of a number.
-fn form_of(forms: &IndexMap<usize, TermId>, id: TermId) -> Option<TermId>
-    ensures { result ≡ lookup (nat_eq id) forms.now.entries }
+fn form_of(forms: &Slots<TermId>, id: TermId) -> Option<TermId>
+    ensures { result ≡ kept_at forms.now.slots.items id }
 {
-    match forms.get(&id.number) {
+    match forms.get(id) {
         Some(form) => Some(*form),
         None => None,
     }
@@ -41,16 +41,16 @@ fn is_closed(bound: &[Sort]) -> bool
 #[cycle(normal)]
 pub(crate) fn normal_under(
     terms: &mut Terms,
-    forms: &mut IndexMap<usize, TermId>,
+    forms: &mut Slots<TermId>,
     vars: &[Sort],
     defs: &[Def],
     bound: &[Sort],
     id: TermId,
 ) -> Result<TermId, NormalFault>
     requires id { id < length terms.old }
-    requires forms { AreForms vars.now defs.now terms.old forms.old.entries }
+    requires forms { AreForms vars.now defs.now terms.old forms.old.slots.items }
     ensures grows { Begins terms.old terms.new }
-    ensures forms { AreForms vars.now defs.now terms.new forms.new.entries }
+    ensures forms { AreForms vars.now defs.now terms.new forms.new.slots.items }
     ensures gives { GivesAt terms.new result (normal vars.now defs.now bound.now (at terms.old id)) }
 {
     if is_closed(bound) {
@@ -63,7 +63,7 @@ pub(crate) fn normal_under(
 #[cycle(normal)]
 fn normal_closed(
     terms: &mut Terms,
-    forms: &mut IndexMap<usize, TermId>,
+    forms: &mut Slots<TermId>,
     vars: &[Sort],
     defs: &[Def],
     bound: &[Sort],
@@ -71,16 +71,16 @@ fn normal_closed(
 ) -> Result<TermId, NormalFault>
     requires id { id < length terms.old }
     requires bound { bound.now ≡ [] }
-    requires forms { AreForms vars.now defs.now terms.old forms.old.entries }
+    requires forms { AreForms vars.now defs.now terms.old forms.old.slots.items }
     ensures grows { Begins terms.old terms.new }
-    ensures forms { AreForms vars.now defs.now terms.new forms.new.entries }
+    ensures forms { AreForms vars.now defs.now terms.new forms.new.slots.items }
     ensures gives { GivesAt terms.new result (normal vars.now defs.now bound.now (at terms.old id)) }
 {
     if let Some(form) = form_of(forms, id) {
         return Ok(form);
     }
     let form = normal_node(terms, forms, vars, defs, bound, id)?;
-    note(forms, id, form)?;
+    forms.put(id, form)?;
     Ok(form)
 }
 
@@ -88,16 +88,16 @@ fn normal_closed(
 #[cycle(normal)]
 fn normal_node(
     terms: &mut Terms,
-    forms: &mut IndexMap<usize, TermId>,
+    forms: &mut Slots<TermId>,
     vars: &[Sort],
     defs: &[Def],
     bound: &[Sort],
     id: TermId,
 ) -> Result<TermId, NormalFault>
     requires id { id < length terms.old }
-    requires forms { AreForms vars.now defs.now terms.old forms.old.entries }
+    requires forms { AreForms vars.now defs.now terms.old forms.old.slots.items }
     ensures grows { Begins terms.old terms.new }
-    ensures forms { AreForms vars.now defs.now terms.new forms.new.entries }
+    ensures forms { AreForms vars.now defs.now terms.new forms.new.slots.items }
     ensures gives { GivesAt terms.new result (normal vars.now defs.now bound.now (at terms.old id)) }
 {
     match terms.node(id) {
@@ -181,15 +181,15 @@ fn normal_node(
 /// `forms`. Wide exactly where a coefficient or a constant on the way leaves 128 bits.
 pub fn normal_over(
     terms: &mut Terms,
-    forms: &mut IndexMap<usize, TermId>,
+    forms: &mut Slots<TermId>,
     vars: &[Sort],
     defs: &[Def],
     id: TermId,
 ) -> Result<TermId, NormalFault>
     requires id { id < length terms.old }
-    requires forms { AreForms vars.now defs.now terms.old forms.old.entries }
+    requires forms { AreForms vars.now defs.now terms.old forms.old.slots.items }
     ensures grows { Begins terms.old terms.new }
-    ensures forms { AreForms vars.now defs.now terms.new forms.new.entries }
+    ensures forms { AreForms vars.now defs.now terms.new forms.new.slots.items }
     ensures gives { GivesAt terms.new result (normal vars.now defs.now [] (at terms.old id)) }
 {
     let unbound = Vec::new(terms.alloc());

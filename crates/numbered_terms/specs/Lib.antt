@@ -8,3 +8,4 @@ pub mod Renumbered
 pub mod At
 pub mod Measures
 pub mod Lists
+pub mod Slots

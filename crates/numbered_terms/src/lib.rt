@@ -26,4 +26,7 @@ pub mod parts;
 // Walks.
 pub mod replace;
 
+// What is kept of numbers.
+pub mod slots;
+
 pub use terms::Terms;

@@ -19,76 +19,76 @@ use Rattle.numbered_terms.proofs.Items.{item_below, atom_below, row_below, all_l
 use Rattle.numbered_terms.proofs.Walking.{still_below}
 use Rattle.numbered_forms.specs.Sums.{sum_at}
 use Rattle.numbered_forms.proofs.LongerStores.{lists_stay, numbers_stay}
-use Rattle.numbered_forms.proofs.Memos.{kept_more}
+use Rattle.numbered_forms.proofs.Memos.{kept_more, kept_alike}
 use Rattle.numbered_forms.proofs.Negations.{copies_all, copies_same, next_below}
 use Rattle.numbered_forms.proofs.NormalParts.{pair_made, sum_stays, forms_later, each_next, each_all, rows_next, rows_none, rows_all, rows_below, atom_next, atom_none}
 use Rattle.numbered_forms.proofs.+normal.Goals as goal
 
 pub constructs::normal_call-returns-in_err-make-clause-forms : goal.constructs::normal_call-returns-in_err-make-clause-forms
-constructs::normal_call-returns-in_err-make-clause-forms t c = forms_later c.args.vars.now c.args.defs.now c.normal_each.new.terms c.make.new.self c.normal_each.new.forms.entries c.make.ensures.grows c.normal_each.ensures.forms
+constructs::normal_call-returns-in_err-make-clause-forms t c = forms_later c.args.vars.now c.args.defs.now c.normal_each.new.terms c.make.new.self c.normal_each.new.forms.slots.items c.make.ensures.grows c.normal_each.ensures.forms
 
 pub constructs::normal_call-returns-clause-forms : goal.constructs::normal_call-returns-clause-forms
-constructs::normal_call-returns-clause-forms t c = forms_later c.args.vars.now c.args.defs.now c.normal_each.new.terms c.make.new.self c.normal_each.new.forms.entries c.make.ensures.grows c.normal_each.ensures.forms
+constructs::normal_call-returns-clause-forms t c = forms_later c.args.vars.now c.args.defs.now c.normal_each.new.terms c.make.new.self c.normal_each.new.forms.slots.items c.make.ensures.grows c.normal_each.ensures.forms
 
 pub constructs::normal_choice-returns-in_err-choice-clause-forms : goal.constructs::normal_choice-returns-in_err-choice-clause-forms
-constructs::normal_choice-returns-in_err-choice-clause-forms t c = forms_later c.args.vars.now c.args.defs.now c.normal_three.new.terms c.choice.new.terms c.normal_three.new.forms.entries c.choice.ensures.grows c.normal_three.ensures.forms
+constructs::normal_choice-returns-in_err-choice-clause-forms t c = forms_later c.args.vars.now c.args.defs.now c.normal_three.new.terms c.choice.new.terms c.normal_three.new.forms.slots.items c.choice.ensures.grows c.normal_three.ensures.forms
 
 pub constructs::normal_choice-returns-clause-forms : goal.constructs::normal_choice-returns-clause-forms
-constructs::normal_choice-returns-clause-forms t c = forms_later c.args.vars.now c.args.defs.now c.normal_three.new.terms c.choice.new.terms c.normal_three.new.forms.entries c.choice.ensures.grows c.normal_three.ensures.forms
+constructs::normal_choice-returns-clause-forms t c = forms_later c.args.vars.now c.args.defs.now c.normal_three.new.terms c.choice.new.terms c.normal_three.new.forms.slots.items c.choice.ensures.grows c.normal_three.ensures.forms
 
 pub constructs::normal_conjunction-returns-in_err-junction-clause-forms : goal.constructs::normal_conjunction-returns-in_err-junction-clause-forms
-constructs::normal_conjunction-returns-in_err-junction-clause-forms t c = forms_later c.args.vars.now c.args.defs.now c.normal_each.new.terms c.junction.new.terms c.normal_each.new.forms.entries c.junction.ensures.grows c.normal_each.ensures.forms
+constructs::normal_conjunction-returns-in_err-junction-clause-forms t c = forms_later c.args.vars.now c.args.defs.now c.normal_each.new.terms c.junction.new.terms c.normal_each.new.forms.slots.items c.junction.ensures.grows c.normal_each.ensures.forms
 
 pub constructs::normal_conjunction-returns-clause-forms : goal.constructs::normal_conjunction-returns-clause-forms
-constructs::normal_conjunction-returns-clause-forms t c = forms_later c.args.vars.now c.args.defs.now c.normal_each.new.terms c.junction.new.terms c.normal_each.new.forms.entries c.junction.ensures.grows c.normal_each.ensures.forms
+constructs::normal_conjunction-returns-clause-forms t c = forms_later c.args.vars.now c.args.defs.now c.normal_each.new.terms c.junction.new.terms c.normal_each.new.forms.slots.items c.junction.ensures.grows c.normal_each.ensures.forms
 
 pub constructs::normal_disjunction-returns-in_err-junction-clause-forms : goal.constructs::normal_disjunction-returns-in_err-junction-clause-forms
-constructs::normal_disjunction-returns-in_err-junction-clause-forms t c = forms_later c.args.vars.now c.args.defs.now c.normal_each.new.terms c.junction.new.terms c.normal_each.new.forms.entries c.junction.ensures.grows c.normal_each.ensures.forms
+constructs::normal_disjunction-returns-in_err-junction-clause-forms t c = forms_later c.args.vars.now c.args.defs.now c.normal_each.new.terms c.junction.new.terms c.normal_each.new.forms.slots.items c.junction.ensures.grows c.normal_each.ensures.forms
 
 pub constructs::normal_disjunction-returns-clause-forms : goal.constructs::normal_disjunction-returns-clause-forms
-constructs::normal_disjunction-returns-clause-forms t c = forms_later c.args.vars.now c.args.defs.now c.normal_each.new.terms c.junction.new.terms c.normal_each.new.forms.entries c.junction.ensures.grows c.normal_each.ensures.forms
+constructs::normal_disjunction-returns-clause-forms t c = forms_later c.args.vars.now c.args.defs.now c.normal_each.new.terms c.junction.new.terms c.normal_each.new.forms.slots.items c.junction.ensures.grows c.normal_each.ensures.forms
 
 pub constructs::normal_equation-returns-clause-forms : goal.constructs::normal_equation-returns-clause-forms
-constructs::normal_equation-returns-clause-forms t c = forms_later c.args.vars.now c.args.defs.now c.normal_two.new.terms c.equation.new.terms c.normal_two.new.forms.entries c.equation.ensures.grows c.normal_two.ensures.forms
+constructs::normal_equation-returns-clause-forms t c = forms_later c.args.vars.now c.args.defs.now c.normal_two.new.terms c.equation.new.terms c.normal_two.new.forms.slots.items c.equation.ensures.grows c.normal_two.ensures.forms
 
 pub constructs::normal_exists-returns-in_err-exists-clause-forms : goal.constructs::normal_exists-returns-in_err-exists-clause-forms
-constructs::normal_exists-returns-in_err-exists-clause-forms t c = forms_later c.args.vars.now c.args.defs.now c.normal_parts.new.terms c.exists.new.terms c.normal_parts.new.forms.entries c.exists.ensures.grows c.normal_parts.ensures.forms
+constructs::normal_exists-returns-in_err-exists-clause-forms t c = forms_later c.args.vars.now c.args.defs.now c.normal_parts.new.terms c.exists.new.terms c.normal_parts.new.forms.slots.items c.exists.ensures.grows c.normal_parts.ensures.forms
 
 pub constructs::normal_exists-returns-clause-forms : goal.constructs::normal_exists-returns-clause-forms
-constructs::normal_exists-returns-clause-forms t c = forms_later c.args.vars.now c.args.defs.now c.normal_parts.new.terms c.exists.new.terms c.normal_parts.new.forms.entries c.exists.ensures.grows c.normal_parts.ensures.forms
+constructs::normal_exists-returns-clause-forms t c = forms_later c.args.vars.now c.args.defs.now c.normal_parts.new.terms c.exists.new.terms c.normal_parts.new.forms.slots.items c.exists.ensures.grows c.normal_parts.ensures.forms
 
 pub constructs::normal_for_all-returns-in_err-for_all-clause-forms : goal.constructs::normal_for_all-returns-in_err-for_all-clause-forms
-constructs::normal_for_all-returns-in_err-for_all-clause-forms t c = forms_later c.args.vars.now c.args.defs.now c.normal_parts.new.terms c.for_all.new.terms c.normal_parts.new.forms.entries c.for_all.ensures.grows c.normal_parts.ensures.forms
+constructs::normal_for_all-returns-in_err-for_all-clause-forms t c = forms_later c.args.vars.now c.args.defs.now c.normal_parts.new.terms c.for_all.new.terms c.normal_parts.new.forms.slots.items c.for_all.ensures.grows c.normal_parts.ensures.forms
 
 pub constructs::normal_for_all-returns-clause-forms : goal.constructs::normal_for_all-returns-clause-forms
-constructs::normal_for_all-returns-clause-forms t c = forms_later c.args.vars.now c.args.defs.now c.normal_parts.new.terms c.for_all.new.terms c.normal_parts.new.forms.entries c.for_all.ensures.grows c.normal_parts.ensures.forms
+constructs::normal_for_all-returns-clause-forms t c = forms_later c.args.vars.now c.args.defs.now c.normal_parts.new.terms c.for_all.new.terms c.normal_parts.new.forms.slots.items c.for_all.ensures.grows c.normal_parts.ensures.forms
 
 pub constructs::normal_inequality-returns-clause-forms : goal.constructs::normal_inequality-returns-clause-forms
-constructs::normal_inequality-returns-clause-forms t c = forms_later c.args.vars.now c.args.defs.now c.normal_two.new.terms c.inequality.new.terms c.normal_two.new.forms.entries c.inequality.ensures.grows c.normal_two.ensures.forms
+constructs::normal_inequality-returns-clause-forms t c = forms_later c.args.vars.now c.args.defs.now c.normal_two.new.terms c.inequality.new.terms c.normal_two.new.forms.slots.items c.inequality.ensures.grows c.normal_two.ensures.forms
 
 pub constructs::normal_negation-returns-clause-forms : goal.constructs::normal_negation-returns-clause-forms
-constructs::normal_negation-returns-clause-forms t c = forms_later c.args.vars.now c.args.defs.now c.normal_under.new.terms c.negated.new.terms c.normal_under.new.forms.entries c.negated.ensures.grows c.normal_under.ensures.forms
+constructs::normal_negation-returns-clause-forms t c = forms_later c.args.vars.now c.args.defs.now c.normal_under.new.terms c.negated.new.terms c.normal_under.new.forms.slots.items c.negated.ensures.grows c.normal_under.ensures.forms
 
 pub constructs::normal_product-returns-clause-forms : goal.constructs::normal_product-returns-clause-forms
-constructs::normal_product-returns-clause-forms t c = forms_later c.args.vars.now c.args.defs.now c.normal_two.new.terms c.product.new.terms c.normal_two.new.forms.entries c.product.ensures.grows c.normal_two.ensures.forms
+constructs::normal_product-returns-clause-forms t c = forms_later c.args.vars.now c.args.defs.now c.normal_two.new.terms c.product.new.terms c.normal_two.new.forms.slots.items c.product.ensures.grows c.normal_two.ensures.forms
 
 pub constructs::normal_read-returns-in_err-make-clause-forms : goal.constructs::normal_read-returns-in_err-make-clause-forms
-constructs::normal_read-returns-in_err-make-clause-forms t c = forms_later c.args.vars.now c.args.defs.now c.normal_two.new.terms c.make.new.self c.normal_two.new.forms.entries c.make.ensures.grows c.normal_two.ensures.forms
+constructs::normal_read-returns-in_err-make-clause-forms t c = forms_later c.args.vars.now c.args.defs.now c.normal_two.new.terms c.make.new.self c.normal_two.new.forms.slots.items c.make.ensures.grows c.normal_two.ensures.forms
 
 pub constructs::normal_read-returns-clause-forms : goal.constructs::normal_read-returns-clause-forms
-constructs::normal_read-returns-clause-forms t c = forms_later c.args.vars.now c.args.defs.now c.normal_two.new.terms c.make.new.self c.normal_two.new.forms.entries c.make.ensures.grows c.normal_two.ensures.forms
+constructs::normal_read-returns-clause-forms t c = forms_later c.args.vars.now c.args.defs.now c.normal_two.new.terms c.make.new.self c.normal_two.new.forms.slots.items c.make.ensures.grows c.normal_two.ensures.forms
 
 pub constructs::normal_write-returns-in_err-make-clause-forms : goal.constructs::normal_write-returns-in_err-make-clause-forms
-constructs::normal_write-returns-in_err-make-clause-forms t c = forms_later c.args.vars.now c.args.defs.now c.normal_three.new.terms c.make.new.self c.normal_three.new.forms.entries c.make.ensures.grows c.normal_three.ensures.forms
+constructs::normal_write-returns-in_err-make-clause-forms t c = forms_later c.args.vars.now c.args.defs.now c.normal_three.new.terms c.make.new.self c.normal_three.new.forms.slots.items c.make.ensures.grows c.normal_three.ensures.forms
 
 pub constructs::normal_write-returns-clause-forms : goal.constructs::normal_write-returns-clause-forms
-constructs::normal_write-returns-clause-forms t c = forms_later c.args.vars.now c.args.defs.now c.normal_three.new.terms c.make.new.self c.normal_three.new.forms.entries c.make.ensures.grows c.normal_three.ensures.forms
+constructs::normal_write-returns-clause-forms t c = forms_later c.args.vars.now c.args.defs.now c.normal_three.new.terms c.make.new.self c.normal_three.new.forms.slots.items c.make.ensures.grows c.normal_three.ensures.forms
 
 pub listed::normal_sum-returns-in_err-make-clause-forms : goal.listed::normal_sum-returns-in_err-make-clause-forms
-listed::normal_sum-returns-in_err-make-clause-forms t c = forms_later c.args.vars.now c.args.defs.now c.normal_atoms.new.terms c.make.new.terms c.normal_atoms.new.forms.entries c.make.ensures.grows c.normal_atoms.ensures.forms
+listed::normal_sum-returns-in_err-make-clause-forms t c = forms_later c.args.vars.now c.args.defs.now c.normal_atoms.new.terms c.make.new.terms c.normal_atoms.new.forms.slots.items c.make.ensures.grows c.normal_atoms.ensures.forms
 
 pub listed::normal_sum-returns-clause-forms : goal.listed::normal_sum-returns-clause-forms
-listed::normal_sum-returns-clause-forms t c = forms_later c.args.vars.now c.args.defs.now c.normal_atoms.new.terms c.make.new.terms c.normal_atoms.new.forms.entries c.make.ensures.grows c.normal_atoms.ensures.forms
+listed::normal_sum-returns-clause-forms t c = forms_later c.args.vars.now c.args.defs.now c.normal_atoms.new.terms c.make.new.terms c.normal_atoms.new.forms.slots.items c.make.ensures.grows c.normal_atoms.ensures.forms
 
 pub listed::normal_sum-returns-clause-grows : goal.listed::normal_sum-returns-clause-grows
 listed::normal_sum-returns-clause-grows t c = begins_then c.args.terms.now c.normal_atoms.new.terms c.make.new.terms c.normal_atoms.ensures.grows c.make.ensures.grows
@@ -181,13 +181,14 @@ listed::normal_parts-returns-clause-lists t c = numbers_stay c.normal_lists.new.
 pub normal::normal_closed-returns-in-Some-clause-gives : goal.normal::normal_closed-returns-in-Some-clause-gives
 normal::normal_closed-returns-in-Some-clause-gives t c = let r = c.requires.forms c.args.id c.in-Some.form (sym c.form_of.ensures ∙ c.in-Some.is) in (r.1.0, ap (λ b. normal c.args.vars.now c.args.defs.now b (at c.args.terms.now c.args.id)) c.requires.bound ∙ r.1.1)
 
-pub normal::normal_closed-returns-in_err-note-clause-forms : goal.normal::normal_closed-returns-in_err-note-clause-forms
-normal::normal_closed-returns-in_err-note-clause-forms t c = rw c.in_err-note.ensures.memory c.in_ok-form.ensures.forms
+pub normal::normal_closed-returns-in_err-put-clause-forms : goal.normal::normal_closed-returns-in_err-put-clause-forms
+normal::normal_closed-returns-in_err-put-clause-forms t c = let us = c.normal_node.new.terms in
+    kept_alike (λ i j. (i < length us) × ((j < length us) × (normal c.args.vars.now c.args.defs.now [] (at us i) ≡ Some (at us j)))) c.normal_node.new.forms.slots.items c.put.new.self.slots.items c.in_err-put.ensures.memory c.in_ok-form.ensures.forms
 
 pub normal::normal_closed-returns-clause-forms : goal.normal::normal_closed-returns-clause-forms
 normal::normal_closed-returns-clause-forms t c = let us = c.normal_node.new.terms in let b = c.in_ok-form.ensures.grows in let g = c.in_ok-form.ensures.gives in
     let e = (λ k. normal c.args.vars.now c.args.defs.now (sym c.requires.bound k) (begins_at c.args.terms.now us c.args.id b c.requires.id k)) ∙ g.1 in
-    kept_more (λ i j. (i < length us) × ((j < length us) × (normal c.args.vars.now c.args.defs.now [] (at us i) ≡ Some (at us j)))) c.normal_node.new.forms.entries c.note.new.found.entries c.args.id c.in_ok-form.form c.in_ok-note.ensures.ok c.in_ok-form.ensures.forms (still_below c.args.terms.now us c.args.id b c.requires.id, (g.0, e))
+    kept_more (λ i j. (i < length us) × ((j < length us) × (normal c.args.vars.now c.args.defs.now [] (at us i) ≡ Some (at us j)))) c.normal_node.new.forms.slots.items c.put.new.self.slots.items c.args.id c.in_ok-form.form c.in_ok-put.ensures.ok c.in_ok-form.ensures.forms (still_below c.args.terms.now us c.args.id b c.requires.id, (g.0, e))
 
 pub normal::normal_node-normal_for_all-requires : goal.normal::normal_node-normal_for_all-requires
 normal::normal_node-normal_for_all-requires t c =

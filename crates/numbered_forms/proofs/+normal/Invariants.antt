@@ -85,7 +85,7 @@ abbrev pub invariant-listed::normal_each-loop-id : goal.invariant-listed::normal
 invariant-listed::normal_each-loop-id l = record {
   made : option_map (before tree_before (terms_at l.terms l.done.items)) (normal_each l.vars l.defs l.bound (trees_of (terms_at l.fn.terms (drop l.id-index l.ids)))) ≡ normal_each l.vars l.defs l.bound (trees_of (terms_at l.fn.terms l.ids));
   within : AllByRecursion (λ j. j < length l.terms) l.done.items;
-  forms : AreForms l.vars l.defs l.terms l.forms.entries;
+  forms : AreForms l.vars l.defs l.terms l.forms.slots.items;
   grows : Begins l.fn.terms l.terms;
 }
 
@@ -93,7 +93,7 @@ abbrev pub invariant-listed::normal_lists-loop-list : goal.invariant-listed::nor
 invariant-listed::normal_lists-loop-list l = record {
   made : option_map (before row_before (lists_at l.terms l.done.items)) (normal_patterns l.vars l.defs l.bound (patterns_of (lists_at l.fn.terms (drop l.list-index l.lists)))) ≡ normal_patterns l.vars l.defs l.bound (patterns_of (lists_at l.fn.terms l.lists));
   within : AllByRecursion (λ j. j < length l.terms) (in_lists l.done.items);
-  forms : AreForms l.vars l.defs l.terms l.forms.entries;
+  forms : AreForms l.vars l.defs l.terms l.forms.slots.items;
   grows : Begins l.fn.terms l.terms;
 }
 
@@ -101,6 +101,6 @@ abbrev pub invariant-listed::normal_atoms-loop-part : goal.invariant-listed::nor
 invariant-listed::normal_atoms-loop-part l = record {
   left : normal_sum l.vars l.defs l.bound (parts_of (atoms_at l.fn.terms (drop l.part-index l.parts))) (sum_at l.terms l.sum) ≡ normal_sum l.vars l.defs l.bound (parts_of (atoms_at l.fn.terms l.parts)) (constant l.fn.c);
   within : AtomsBelow (length l.terms) l.sum.parts.items;
-  forms : AreForms l.vars l.defs l.terms l.forms.entries;
+  forms : AreForms l.vars l.defs l.terms l.forms.slots.items;
   grows : Begins l.fn.terms l.terms;
 }

@@ -1,5 +1,5 @@
 use Rattle.std.proofs.Common.{sym, nat_eq}
-use Rattle.std.specs.Map.{lookup}
+use Rattle.numbered_terms.specs.Slots.{kept_at}
 use Rattle.numbered_facts.proofs.Found.{not_none}
 use Rattle.numbered_facts.proofs.standing.choice.Goals as goal
 
@@ -7,4 +7,4 @@ pub returns-in-Some : goal.returns-in-Some
 returns-in-Some c = (c.requires.right c.args.id c.in-Some.standing.now (sym c.in-Some.ensures)).choice
 
 pub returns-in-None : goal.returns-in-None
-returns-in-None c = absurd (not_none (lookup (nat_eq c.args.id) c.args.memo.now.entries) c.requires.there c.in-None.ensures)
+returns-in-None c = absurd (not_none (kept_at c.args.memo.now.slots.items c.args.id) c.requires.there c.in-None.ensures)

@@ -1,5 +1,5 @@
 use Rattle.std.proofs.Common.{◌≡◌, ◌∙◌, sym, subst, ℕ, Vec, [], nat_eq, filter}
-use Rattle.std.specs.Map.{lookup}
+use Rattle.numbered_terms.specs.Slots.{kept_at}
 use Rattle.std.specs.declared.alloc.Global.{Global}
 use Rattle.std.proofs.lemmas.Result.{IfOk-weaker}
 use Rattle.logic_core.specs.Subterm.{outside}
@@ -17,4 +17,4 @@ returns-in-Some c = let ts = c.args.terms.now in let whole = each_once [] (filte
     (λ v e. subst (λ is. AreAt ts is whole) (sym (e ∙ c.deref.ensures.value)) r.ground) c.copy_numbers.ensures
 
 pub returns-in-None : goal.returns-in-None
-returns-in-None c = absurd (not_none (lookup (nat_eq c.args.id) c.args.memo.now.entries) c.requires.there c.in-None.ensures)
+returns-in-None c = absurd (not_none (kept_at c.args.memo.now.slots.items c.args.id) c.requires.there c.in-None.ensures)

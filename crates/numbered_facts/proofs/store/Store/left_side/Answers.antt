@@ -3,12 +3,12 @@ use Rattle.numbered_facts.specs.Memos.{AreKept, IsLeft}
 use Rattle.numbered_facts.proofs.store.Store.left_side.Goals as goal
 
 pub left-requires-clause-right : goal.left-requires-clause-right
-left-requires-clause-right c = let ts = c.self.inside.terms in let ls = c.self.inside.lefts.entries in
+left-requires-clause-right c = let ts = c.self.inside.terms in let ls = c.self.inside.lefts.slots.items in
     subst (λ vs. AreKept (IsLeft (record { terms = ts; vars = vs; defs = c.deref-2.result.now })) ls) (sym c.deref.ensures.value)
     (subst (λ ds. AreKept (IsLeft (record { terms = ts; vars = c.self.inside.vars.items; defs = ds })) ls) (sym c.deref-2.ensures.value) c.self.invariant.lefts)
 
 pub invariant_of-self : goal.invariant_of-self
-invariant_of-self c = let ts = c.self.inside.terms in let ls = c.left.new.lefts.entries in record {
+invariant_of-self c = let ts = c.self.inside.terms in let ls = c.left.new.lefts.slots.items in record {
   forms = c.self.invariant.forms;
   lefts = subst (λ vs. AreKept (IsLeft (record { terms = ts; vars = vs; defs = c.self.inside.defs.items })) ls) c.deref.ensures.value
       (subst (λ ds. AreKept (IsLeft (record { terms = ts; vars = c.deref.result.now; defs = ds })) ls) c.deref-2.ensures.value c.left.ensures.right);
