@@ -20,6 +20,7 @@ use numbered_logic::closing::close;
 use numbered_logic::flattening::flatten;
 use numbered_logic::splitting::split;
 use numbered_logic::unfolding::unfold;
+use numbered_terms::number_set::NumberSet;
 use numbered_theory::back::back;
 use numbered_theory::combining::combine;
 use numbered_theory::past::past;
@@ -47,6 +48,7 @@ const ORDER: [Rule; 13] = [
 /// What the rules list anew at each step, whose room is kept.
 #[derive(Drop)]
 pub struct Tables {
+    facts: NumberSet,
     shared: Shared,
     instances: Instances,
 }
@@ -55,6 +57,7 @@ impl Tables {
     /// Nothing is listed.
     pub fn new(alloc: Global) -> Tables {
         Tables {
+            facts: NumberSet::new(alloc),
             shared: Shared::new(alloc),
             instances: Instances::new(alloc),
         }
@@ -77,7 +80,7 @@ fn try_rule(
         Rule::Skolem => skolem(store, branch),
         Rule::Condition => condition(store, branch),
         Rule::Differ => differ(store, branch),
-        Rule::Close => close(store, branch),
+        Rule::Close => close(store, &mut tables.facts, branch),
         Rule::Flatten => flatten(store, branch),
         Rule::Split => split(store, branch),
         Rule::Unfold => unfold(store, branch),

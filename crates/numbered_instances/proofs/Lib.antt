@@ -11,7 +11,6 @@ pub mod Instantiated
 pub mod Attempted
 pub mod RestRewritten
 pub mod ByFact
-pub mod FlagsKept
 pub mod FoundAt
 pub mod MatchedTuples
 pub mod Patterns

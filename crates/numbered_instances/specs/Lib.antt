@@ -2,5 +2,4 @@ pub mod Instances
 pub mod Candidates
 pub mod Shared
 pub mod Lefts
-pub mod Flags
 pub mod Finding

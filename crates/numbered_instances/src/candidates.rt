@@ -11,11 +11,11 @@ ghost use Rattle.numbered_instances.specs.Candidates.{candidate_at, IsFoundOver}
 
 use crate::ground::list_ground;
 use crate::marks::first_new;
-use crate::number_set::NumberSet;
 use crate::tuples::tuples_of;
 use numbered_branches::branch::{Branch, Fact};
 use numbered_facts::Store;
 use numbered_terms::Terms;
+use numbered_terms::number_set::NumberSet;
 use std::alloc::{AllocError, Global};
 use term_bank::{Node, TermId};
 

@@ -11,9 +11,9 @@ ghost use Rattle.numbered_facts.specs.Answers.{AreAt};
 ghost use Rattle.numbered_branches.specs.Branches.{IsFactBelow, IsBranchOver, fact_at, branch_at};
 ghost use Rattle.numbered_branches.specs.Counts.{once};
 
-use crate::number_set::NumberSet;
 use numbered_branches::branch::{Branch, Fact};
 use numbered_facts::Store;
+use numbered_terms::number_set::NumberSet;
 use std::alloc::AllocError;
 use term_bank::TermId;
 

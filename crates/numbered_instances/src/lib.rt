@@ -9,9 +9,6 @@
 //! what a walk through the branch finds, so that no list shows in what a rule gives.
 #![tactic(auto)]
 
-// Numbers, each once.
-pub mod number_set;
-
 // The sort of a term.
 pub mod sorts;
 

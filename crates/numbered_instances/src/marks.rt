@@ -11,9 +11,9 @@ ghost use Rattle.numbered_terms.specs.Stored.{AreStored, Grows};
 ghost use Rattle.numbered_branches.specs.Branches.{IsMarkOver, IsTuple, mark_at, terms_in};
 ghost use Rattle.numbered_instances.specs.Instances.{is_new, is_marked};
 
-use crate::number_set::NumberSet;
 use numbered_branches::branch::Mark;
 use numbered_facts::Store;
+use numbered_terms::number_set::NumberSet;
 use std::alloc::AllocError;
 use term_bank::{Node, TermId};
 

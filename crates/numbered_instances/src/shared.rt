@@ -6,11 +6,11 @@ ghost use Rattle.numbered_terms.specs.Stored.{Grows};
 ghost use Rattle.numbered_branches.specs.Branches.{IsFactBelow};
 ghost use Rattle.numbered_instances.specs.Shared.{AreShared, in_two};
 
-use crate::number_set::NumberSet;
 use numbered_branches::branch::Fact;
 use numbered_facts::Store;
 use numbered_facts::inside::is_atom;
 use numbered_terms::Terms;
+use numbered_terms::number_set::NumberSet;
 use std::alloc::{AllocError, Global};
 use term_bank::TermId;
 

@@ -15,14 +15,14 @@ ghost use Rattle.numbered_logic.specs.Forms.{branch_over};
 ghost use Rattle.numbered_logic.specs.Denied.{IsDenied, AreDenied, denied_at, is_among, IsListed};
 
 use crate::found::term_of;
-use indexmap::IndexSet;
 use logic_core::NormalFault;
 use numbered_branches::branch::{Branch, Fact};
 use numbered_branches::played::{Attempt, Ending, Move};
 use numbered_facts::Store;
 use numbered_forms::junction::is_truth;
 use numbered_terms::Terms;
-use std::alloc::{AllocError, Global};
+use numbered_terms::number_set::NumberSet;
+use std::alloc::AllocError;
 use term_bank::TermId;
 
 /// A fact with the number of its normal Not, where there is one.
@@ -58,10 +58,10 @@ fn with_negations(store: &mut Store, facts: &[Fact]) -> Result<Vec<Denied>, Allo
 }
 
 // The number of one more fact.
-fn note(numbers: &mut IndexSet<usize>, one: &Denied) -> Result<(), AllocError>
-    ensures { OnOk result (numbers.new.keys ≡ insert_key nat_eq numbers.old.keys one.now.fact.term) }
+fn note(numbers: &mut NumberSet, one: &Denied) -> Result<(), AllocError>
+    ensures { OnOk result (numbers.new ≡ insert_key nat_eq numbers.old one.now.fact.term) }
 {
-    numbers.insert(one.fact.term.number)?;
+    numbers.insert(one.fact.term)?;
     Ok(())
 }
 
@@ -73,40 +73,40 @@ fn is_false(terms: &Terms, one: &Denied) -> bool
     is_truth(terms, one.fact.term, false)
 }
 
-// The numbers of the facts.
-fn numbers_of(alloc: Global, denied: &[Denied]) -> Result<IndexSet<usize>, AllocError>
-    ensures { IfOk result (λ s. AllByRecursion (IsListed s.keys) denied.now) }
+// Lists the numbers of the facts.
+fn list_numbers(numbers: &mut NumberSet, denied: &[Denied]) -> Result<(), AllocError>
+    ensures { OnOk result (AllByRecursion (IsListed numbers.new) denied.now) }
 {
-    let mut numbers = IndexSet::new(alloc);
+    numbers.clear();
     for one in denied {
-        note(&mut numbers, one)?;
+        note(numbers, one)?;
     }
-    Ok(numbers)
+    Ok(())
 }
 
 // Whether the number, if there is one, is among these.
-fn is_among(numbers: &IndexSet<usize>, id: Option<TermId>) -> bool
-    ensures { result ≡ is_among numbers.now.keys id }
+fn is_among(numbers: &NumberSet, id: Option<TermId>) -> bool
+    ensures { result ≡ is_among numbers.now id }
 {
     match id {
-        Some(id) => numbers.contains(&id.number),
+        Some(id) => numbers.contains(id),
         None => false,
     }
 }
 
 // Whether the fact may close the branch: it is false, or its normal Not is among these numbers.
-fn may_close_by(terms: &Terms, numbers: &IndexSet<usize>, one: &Denied) -> bool
+fn may_close_by(terms: &Terms, numbers: &NumberSet, one: &Denied) -> bool
     requires { IsDenied terms.now one.now }
-    ensures { result ≡ (is_truth false (at terms.now one.now.fact.term) || is_among numbers.now.keys one.now.negation) }
+    ensures { result ≡ (is_truth false (at terms.now one.now.fact.term) || is_among numbers.now one.now.negation) }
 {
     is_false(terms, one) || is_among(numbers, one.negation)
 }
 
 // Whether a fact is false, or the normal Not of one is among the numbers, which are those of the facts.
 // Else none closes the branch.
-fn may_close(terms: &Terms, numbers: &IndexSet<usize>, denied: &[Denied]) -> bool
+fn may_close(terms: &Terms, numbers: &NumberSet, denied: &[Denied]) -> bool
     requires denied { AllByRecursion (IsDenied terms.now) denied.now }
-    requires numbers { AllByRecursion (IsListed numbers.now.keys) denied.now }
+    requires numbers { AllByRecursion (IsListed numbers.now) denied.now }
     ensures { result ≡ false → pair_from [] (map (denied_at terms.now) denied.now) ≡ None }
 {
     terms.are_stored();
@@ -204,25 +204,33 @@ fn closing_numbers(terms: &Terms, denied: &[Denied]) -> Option<(u64, u64)>
 }
 
 // The same, where the branch may be closed.
-fn numbers_that_close(terms: &Terms, denied: &[Denied]) -> Result<Option<(u64, u64)>, AllocError>
+fn numbers_that_close(
+    terms: &Terms,
+    numbers: &mut NumberSet,
+    denied: &[Denied],
+) -> Result<Option<(u64, u64)>, AllocError>
     requires { AllByRecursion (IsDenied terms.now) denied.now }
     ensures { IfOk result (λ o. close_of o ≡ close (with_facts (branch_over []) (map (denied_at terms.now) denied.now))) }
 {
-    let numbers = numbers_of(terms.alloc(), denied)?;
-    if may_close(terms, &numbers, denied) {
+    list_numbers(numbers, denied)?;
+    if may_close(terms, numbers, denied) {
         return Ok(closing_numbers(terms, denied));
     }
     Ok(None)
 }
 
 /// A fact that is false, or two facts of which one is the normal Not of the other, close the branch.
-pub fn close(store: &mut Store, branch: Branch) -> Result<Attempt, NormalFault>
+pub fn close(
+    store: &mut Store,
+    numbers: &mut NumberSet,
+    branch: Branch,
+) -> Result<Attempt, NormalFault>
     requires { IsBranchOver store.old.terms branch }
     ensures grows { Grows store.old store.new }
     ensures tries { TriesAt store.new.terms (branch_at store.old.terms branch) result (close (branch_at store.old.terms branch)) }
 {
     let denied = with_negations(store, &branch.facts)?;
-    match numbers_that_close(store.terms(), &denied)? {
+    match numbers_that_close(store.terms(), numbers, &denied)? {
         Some((first, second)) => Ok(Attempt::Gives(Move {
             ending: Ending::Closes { first, second },
             made: Vec::new(store.alloc()),

@@ -10,3 +10,4 @@ pub mod Measuring
 pub mod Items
 pub mod Replacing
 pub mod Rows
+pub mod FlagsKept

@@ -9,3 +9,4 @@ pub mod At
 pub mod Measures
 pub mod Lists
 pub mod Slots
+pub mod Flags

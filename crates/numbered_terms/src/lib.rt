@@ -26,7 +26,8 @@ pub mod parts;
 // Walks.
 pub mod replace;
 
-// What is kept of numbers.
+// What is kept of numbers, and numbers, each once.
+pub mod number_set;
 pub mod slots;
 
 pub use terms::Terms;

@@ -16,12 +16,12 @@ may_close_by-requires c = all_at (IsDenied c.args.terms.now) c.args.denied.now c
 
 pub loop-one-preserved : goal.loop-one-preserved
 loop-one-preserved c =
-    let ts = c.args.terms.now in let keys = c.args.numbers.now.keys in let d = c.one-item.result in let i = c.loop-one.one-index in let ds = c.args.denied.now in
+    let ts = c.args.terms.now in let keys = c.args.numbers.now in let d = c.one-item.result in let i = c.loop-one.one-index in let ds = c.args.denied.now in
     let denied = all_at (IsDenied ts) ds i d c.requires.denied c.loop-one-test.true c.one-item.is in
     let listed = all_at (IsListed keys) ds i d c.requires.numbers c.loop-one-test.true c.one-item.is in
     subst (AllByRecursion (IsApart ts keys)) (sym (take_item ds i d c.loop-one-test.true c.one-item.is))
     (all_append (IsApart ts keys) (take i ds) (d ∷ []) c.loop-one.invariant (apart_by ts keys d c.may_close_by.result denied listed c.may_close_by.ensures c.if-may_close_by.false, tt))
 
 pub returns : goal.returns
-returns c = λ e. none_close c.args.terms.now c.args.numbers.now.keys c.are_stored.ensures c.args.denied.now
-    (subst (AllByRecursion (IsApart c.args.terms.now c.args.numbers.now.keys)) (take_all c.loop-one.one-index c.args.denied.now (omega (arith, c.loop-one-test.false))) c.loop-one.invariant)
+returns c = λ e. none_close c.args.terms.now c.args.numbers.now c.are_stored.ensures c.args.denied.now
+    (subst (AllByRecursion (IsApart c.args.terms.now c.args.numbers.now)) (take_all c.loop-one.one-index c.args.denied.now (omega (arith, c.loop-one-test.false))) c.loop-one.invariant)

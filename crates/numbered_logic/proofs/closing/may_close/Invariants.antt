@@ -4,4 +4,4 @@ use Rattle.numbered_logic.proofs.Apart.{IsApart}
 use Rattle.numbered_logic.proofs.closing.may_close.Given as goal
 
 abbrev pub invariant-loop-one : goal.invariant-loop-one
-invariant-loop-one l = AllByRecursion (IsApart l.terms l.numbers.keys) (take l.one-index l.denied)
+invariant-loop-one l = AllByRecursion (IsApart l.terms l.numbers) (take l.one-index l.denied)

@@ -3,7 +3,7 @@ use Rattle.std.proofs.Common.{◌≡◌, refl, sym, ap, ◌∙◌, ℕ, nat_eq, 
 use Rattle.std.specs.List.{list_any}
 use Rattle.logic_core.proofs.Anywhere.{any_append}
 use Rattle.logic_core.proofs.Booleans.{or_second, or_false}
-use Rattle.numbered_instances.specs.Flags.{AreFlags}
+use Rattle.numbered_terms.specs.Flags.{AreFlags}
 
 same_or : (b c : Bool) → cond b true c ≡ (c || (b || false))
 same_or true c = sym (or_second c true refl)

@@ -19,7 +19,7 @@ impl Model for NumberSet {
 
     ghost Value = { List ℕ };
 
-    ghost use Rattle.numbered_instances.specs.Flags.{AreFlags};
+    ghost use Rattle.numbered_terms.specs.Flags.{AreFlags};
 
     ghost view = { λ a. a.members.items };
 

@@ -1,5 +1,5 @@
 use Rattle.std.proofs.Common.{◌≡◌, ℕ, ◌+◌, ◌-◌, false, length, get_or}
-use Rattle.numbered_instances.proofs.number_set.make_room.Given as goal
+use Rattle.numbered_terms.proofs.number_set.make_room.Given as goal
 
 -- flags that are added aren't set
 abbrev pub invariant-loop-id : goal.invariant-loop-id
