@@ -63,7 +63,9 @@ fn count_fact(store: &mut Store, shared: &mut Shared, fact: &Fact) -> Result<(),
 
 impl Shared {
     /// No atoms.
-    pub fn new(alloc: Global) -> Shared {
+    pub fn new(alloc: Global) -> Shared
+        ensures { result ≡ record { seen = []; again = [] } }
+    {
         Shared {
             seen: NumberSet::new(alloc),
             again: NumberSet::new(alloc),

@@ -1,5 +1,6 @@
 use Rattle.std.proofs.Common.{sym, subst}
-use Rattle.numbered_facts.specs.Memos.{AreKept, IsLeft}
+use Rattle.numbered_terms.specs.Slots.{AreKept}
+use Rattle.numbered_facts.specs.Memos.{IsLeft}
 use Rattle.numbered_facts.proofs.store.Store.left_side.Goals as goal
 
 pub left-requires-clause-right : goal.left-requires-clause-right
