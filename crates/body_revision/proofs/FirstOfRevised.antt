@@ -1,7 +1,6 @@
 -- The first fault of a program without faults in which one procedure gets another body: that of this procedure.
-use Rattle.std.proofs.Common.{◌≡◌, refl, sym, ap, ◌∙◌, ℕ, zero, suc, ◌+◌, ◌<◌, arith, Bool, List, [], ◌∷◌, ◌++◌, length, take, slice_get, slice_set, get_or, Option, Some, None, is_none, IsTrue}
-use Rattle.std.proofs.lemmas.Bool.{false≢true}
-use Rattle.std.proofs.lemmas.Option.{none-some, slice_get-get_or}
+use Rattle.std.proofs.Common.{◌≡◌, refl, sym, ap, ◌∙◌, ℕ, zero, suc, ◌+◌, arith, List, [], ◌∷◌, ◌++◌, take, slice_get, slice_set, Option, Some, None}
+use Rattle.std.proofs.lemmas.Option.{none-some}
 use Rattle.std.proofs.lemmas.List.{append_assoc}
 use Rattle.bpl_ast.specs.Statement.{DeclBody, Decl}
 use Rattle.bpl_scopes.specs.declared.fault.Fault.{Fault}
@@ -54,23 +53,3 @@ revised_fault ds at d e is r none =
     (λ i. first_from 0 (faults_after (same_table ds at d e is r i) (same_counts ds at d e is r i) nothing_before (slice_set ds at e)))
     ∙ revised_from (table_of ds) (counts_after no_counts ds) 0 [] [] ds at d e is r none
     ∙ ap (λ k. in_decl k (first_fault (decl_faults (table_of ds) (counts_after no_counts ds) (earlier_decls (take at ds)) e.body)) None) place
-
-none_at : (k : ℕ) (f : Option Fault) → is_none f ≡ is_none (in_decl k f None)
-none_at k None = refl
-none_at k (Some f) = refl
-
--- the first fault where these stand before the revised declaration
-abbrev pub fault_at : List Decl → ℕ → Decl → Option Fault
-fault_at ds at e = first_fault (decl_faults (table_of ds) (counts_after no_counts ds) (earlier_decls (take at ds)) e.body)
-
--- it is one of the program, and no other is there
-pub none_where_none : (ds : List Decl) (at : ℕ) (e : Decl) → at < length ds → ((d : Decl) → slice_get ds at ≡ Some d → IsRevised d.body e.body) → fault_of ds ≡ None
-    → is_none (fault_at ds at e) ≡ is_none (fault_of (slice_set ds at e))
-none_where_none ds at e there revised none =
-    let d = get_or ds at e in
-    let found = slice_get-get_or ds at e there in
-    none_at at (fault_at ds at e) ∙ sym (ap is_none (revised_fault ds at d e found (revised d found) none))
-
-pub none_said : {A : Type 0} (b : Bool) (f : Option A) → b ≡ is_none f → IsTrue b → f ≡ None
-none_said b None is h = refl
-none_said b (Some a) is h = absurd (false≢true (sym is ∙ h))

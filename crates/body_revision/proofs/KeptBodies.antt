@@ -1,6 +1,5 @@
 -- A procedure with another body leaves what the others are.
-use Rattle.std.proofs.Common.{◌≡◌, refl, sym, ap, ◌∙◌, ℕ, zero, suc, ◌<◌, List, [], ◌∷◌, length, set, get_or, slice_get, Some, IsTrue}
-use Rattle.std.proofs.lemmas.Option.{slice_get-get_or}
+use Rattle.std.proofs.Common.{◌≡◌, refl, sym, ap, ◌∙◌, ℕ, zero, suc, List, [], ◌∷◌, set, slice_get, Some, IsTrue}
 use Rattle.bpl_ast.specs.Statement.{DeclBody, constant, function, axiom_of, variables, synonym, procedure, implementation, Decl}
 use Rattle.bpl_scopes.specs.Scopes.{Text, Table, Counts}
 use Rattle.bpl_resolve.specs.Elaborate.{or_else, own_body, implements, implementation_of, proc_of, procs_in}
@@ -25,8 +24,5 @@ same_procs ds es h t c (implementation m ps g b) = refl
 pub same_of_bodies : {A : Type 0} (f : DeclBody → A) → ((n : _) (ps : _) (g : _) (ss : _) (a b : _) → f (procedure n ps g ss (Some a)) ≡ f (procedure n ps g ss (Some b))) → (d e : DeclBody) → IsRevised d e → f e ≡ f d
 same_of_bodies f h d e r = ap f r.new ∙ (h r.name r.params r.signature r.specs r.after r.before ∙ sym (ap f r.old))
 
-own_stands : (d e : DeclBody) → IsRevised d e → IsTrue (has_own_body e)
+pub own_stands : (d e : DeclBody) → IsRevised d e → IsTrue (has_own_body e)
 own_stands d e r = ap has_own_body r.new
-
-pub own_stands_there : (ds : List Decl) (at : ℕ) (e : Decl) → at < length ds → ((d : Decl) → slice_get ds at ≡ Some d → IsRevised d.body e.body) → IsTrue (has_own_body e.body)
-own_stands_there ds at e lt revised = own_stands (get_or ds at e).body e.body (revised (get_or ds at e) (slice_get-get_or ds at e lt))

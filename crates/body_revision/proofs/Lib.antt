@@ -1,7 +1,11 @@
 pub mod Injective
 pub mod SameTable
 pub mod FirstOfRevised
-pub mod EarlierSteps
+pub mod OwnFaults
 pub mod SetParts
 pub mod KeptBodies
 pub mod RevisedModule
+pub mod StillNew
+pub mod StayFaultless
+pub mod HeadNames
+pub mod ReadBodies

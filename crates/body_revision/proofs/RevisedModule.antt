@@ -1,18 +1,17 @@
 -- The module after one procedure has got another body.
 use Rattle.std.proofs.Common.{◌≡◌, refl, sym, ap, ◌∙◌, subst, arith, ℕ, ◌<◌, List, [], ◌∷◌, map, length, take, set, get_or, flat_map, slice_get, Some, cond, sum_by, count_by}
 use Rattle.std.proofs.lemmas.List.{length-set, length-map, map-set}
-use Rattle.std.proofs.lemmas.Option.{slice_get-get_or, slice_get_within, get_or_from_slice_get}
+use Rattle.std.proofs.lemmas.Option.{slice_get_within, get_or_from_slice_get}
 use Rattle.std.proofs.lemmas.List.Concat.{length-flat_map}
 use Rattle.std.proofs.lemmas.List.Folds.{length-flat_map-take}
 use Rattle.bpl_ast.specs.Statement.{DeclBody, constant, function, axiom_of, variables, synonym, procedure, implementation, Decl}
-use Rattle.bpl_model.specs.Module.{Proc, DeclText, with_procedure}
+use Rattle.bpl_model.specs.Module.{Proc, with_procedure}
 use Rattle.bpl_scopes.specs.Functions.{function_in, in_number_order}
 use Rattle.bpl_scopes.specs.Scopes.{Text, Table, table_of, Counts, no_counts, counts_after, entity_of}
 use Rattle.bpl_resolve.specs.Elaborate.{implements, implementation_of, consts_in, globals_in, axioms_in, function_def, procs_in, decl_text, typed_module, module_of}
 use Rattle.body_revision.specs.Revised.{IsRevised}
 use Rattle.body_revision.proofs.SameTable.{same_table, same_counts}
 use Rattle.body_revision.specs.Procedures.{is_procedure}
-use Rattle.body_revision.specs.Revision.{IsRevision}
 use Rattle.body_revision.proofs.SetParts.{same_parts, other_part}
 use Rattle.body_revision.proofs.KeptBodies.{same_implementation, same_procs, same_of_bodies}
 
@@ -55,11 +54,11 @@ module _ (ds : List Decl) (at : ℕ) (d e : Decl) (g : slice_get ds at ≡ Some 
       texts : map (decl_text t (length (set ds at e))) (set ds at e) ≡ set (map (decl_text t (length ds)) ds) at (decl_text t (length ds) e)
       texts = (λ i. map (decl_text t (length-set ds at e i)) (set ds at e)) ∙ map-set (decl_text t (length ds)) ds at e
 
-  module_revised : (p : Proc) → procs_in [] (table_of ds) (counts_after no_counts ds) e.body ≡ p ∷ []
+  pub module_revised : (p : Proc) → procs_in [] (table_of ds) (counts_after no_counts ds) e.body ≡ p ∷ []
       → module_of (set ds at e) ≡ with_procedure (count_by (λ (x : Decl). is_procedure x.body) (take at ds)) p at (decl_text (table_of ds) (length ds) e) (module_of ds)
   module_revised p made = (λ i. typed_module (set ds at e) (same_table ds at d e g r i) (same_counts ds at d e g r i)) ∙ parts_revised (table_of ds) (counts_after no_counts ds) p made
 
-  procs_there : count_by (λ (x : Decl). is_procedure x.body) (take at ds) < length (module_of ds).procs
+  pub procs_there : count_by (λ (x : Decl). is_procedure x.body) (take at ds) < length (module_of ds).procs
   procs_there =
       let t : Table = table_of ds in
       let c : Counts = counts_after no_counts ds in
@@ -68,19 +67,5 @@ module _ (ds : List Decl) (at : ℕ) (d e : Decl) (g : slice_get ds at ≡ Some 
       let own : length (procs_in ds t c (get_or ds at d).body) ≡ 1 = ap (λ (x : Decl). length (procs_in ds t c x.body)) same ∙ one in
       omega (arith, own, how_many ds t c (take at ds), length-flat_map-take (λ (x : Decl). procs_in ds t c x.body) ds at d (slice_get_within ds at d g))
 
-  texts_there : at < length (module_of ds).texts
+  pub texts_there : at < length (module_of ds).texts
   texts_there = subst (λ n. at < n) (sym (length-map ds (decl_text (table_of ds) (length ds)))) (slice_get_within ds at d g)
-
-pub is_revision : (ds : List Decl) (at : ℕ) (e : Decl) (t : Table) (c : Counts) (k : ℕ) (p : Proc) (x : DeclText) → at < length ds → ((d : Decl) → slice_get ds at ≡ Some d → IsRevised d.body e.body)
-    → t ≡ table_of ds → c ≡ counts_after no_counts ds → k ≡ count_by (λ (x : Decl). is_procedure x.body) (take at ds) → procs_in [] t c e.body ≡ p ∷ [] → x ≡ decl_text t (length ds) e
-    → IsRevision ds at e (record { proc_at = k; declared = record { proc = p; text = x } })
-is_revision ds at e t c k p x lt revised table counts count made text =
-    let g : slice_get ds at ≡ Some (get_or ds at e) = slice_get-get_or ds at e lt in
-    let r : IsRevised (get_or ds at e).body e.body = revised (get_or ds at e) g in
-    let own : procs_in [] (table_of ds) (counts_after no_counts ds) e.body ≡ p ∷ [] = sym (λ i. procs_in [] (table i) (counts i) e.body) ∙ made in
-    let words : x ≡ decl_text (table_of ds) (length ds) e = text ∙ (λ i. decl_text (table i) (length ds) e) in
-    record {
-      there = subst (λ n. n < length (module_of ds).procs) (sym count) (procs_there ds at (get_or ds at e) e g r);
-      texts = texts_there ds at (get_or ds at e) e g r;
-      changed = module_revised ds at (get_or ds at e) e g r p own ∙ sym (λ i. with_procedure (count i) p at (words i) (module_of ds));
-    }

@@ -13,5 +13,7 @@ mod StaySpelled
 mod ErasedWritten
 mod EditedWritten
 pub mod OpenResolved
+mod PlainNames
+mod ReadRevisions
 mod Revised
 mod OnePut

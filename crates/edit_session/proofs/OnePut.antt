@@ -1,4 +1,4 @@
--- A session after a program got one declaration in the place of another, or stayed as it was.
+-- A session after a program got declarations in the places of others, or stayed as it was.
 use Rattle.std.proofs.Common.{◌≡◌, refl, sym, ap, subst, ℕ, ◌+◌, List, Ok}
 use Rattle.bpl_ast.specs.Statement.{Decl}
 use Rattle.vc_build.specs.Rebuild.{built, rebuilt}

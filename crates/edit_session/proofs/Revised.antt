@@ -1,25 +1,26 @@
--- A program in which one declaration takes the place of another.
-use Rattle.std.proofs.Common.{◌≡◌, ◌∙◌, refl, sym, ap, subst, arith, ℕ, zero, suc, ◌<◌, ◌^◌, false, ◌||◌, List, [], ◌∷◌, length, slice_get, slice_set, Option, Some, None}
+-- A program in which declarations take the places of others.
+use Rattle.std.proofs.Common.{◌≡◌, ◌∙◌, refl, sym, ap, subst, ℕ, zero, suc, ◌<◌, ◌^◌, List, [], ◌∷◌, ◌++◌, length, slice_get, slice_set, Option, Some, None, option_map}
 use Rattle.std.specs.Prelude.{IfSome}
 use Rattle.std.proofs.lemmas.List.{length-set}
-use Rattle.logic_core.proofs.Booleans.{neither}
-use Rattle.bpl_ast.specs.Statement.{DeclBody, Decl}
+use Rattle.bv_base.specs.declared.place.Place.{Place}
+use Rattle.bpl_ast.specs.Statement.{Decl}
 use Rattle.bpl_scopes.specs.declared.fault.Fault.{Fault}
 use Rattle.bpl_declaration_faults.specs.DeclFaults.{fault_of}
 use Rattle.bpl_goto.specs.Forward.{AllGoForward}
 use Rattle.bpl_model.specs.Module.{Proc, DeclText, Module, with_procedure}
 use Rattle.bpl_model.specs.Typed.{IsTypedModule}
+use Rattle.bpl_sorts.specs.Erased.{erased, told_apart}
 use Rattle.canonical_text.specs.RoundTrip.{AreWrittenDecls}
 use Rattle.fault_text.specs.FaultView.{SourcesAreShort}
-use Rattle.fault_text.specs.Written.{Written}
-use Rattle.fault_text.specs.WrittenFault.{decl_fault}
 use Rattle.bpl_resolve.specs.Elaborate.{module_of}
 use Rattle.bpl_resolve.proofs.GoesForward.{goes_forward}
 use Rattle.bpl_resolve.proofs.TypedModules.{module_typed}
 use Rattle.rebuild_laws.specs.Resolved.{IsResolved}
-use Rattle.body_revision.specs.Revised.{IsRevised}
-use Rattle.body_revision.specs.Revision.{IsRevision}
+use Rattle.body_revision.specs.Revision.{AreNew, revised, all_put, all_revised}
+use Rattle.body_revision.proofs.StayFaultless.{as_many_put, stay_faultless}
+use Rattle.body_revision.proofs.StillNew.{go_together, new_there, over_all}
 use Rattle.body_revision.specs.declared.revised.Revision.{Revision}
+use Rattle.body_revision.proofs.ReadBodies.{readings_keep, all_apart}
 use Rattle.vc_build.specs.Large.{program_large}
 use Rattle.vc_build.specs.Rebuild.{BuiltProc, built, rebuilt}
 use Rattle.vc_rebuild.specs.Kept.{Program}
@@ -27,46 +28,26 @@ use Rattle.goal_board.specs.Calls.{Board, BoardCall}
 use Rattle.request_text.specs.Request.{Reply}
 use Rattle.request_text.specs.ReplyView.{reply_view}
 use Rattle.request_text.specs.declared.reply.Reply.{Reply as Told}
-use Rattle.program_opening.specs.Opening.{Typing, typed, ill_typed, typing}
-use Rattle.program_opening.specs.NoUsers.{is_user_type, has_user_types}
-use Rattle.program_opening.proofs.Openings.{typed_of}
-use Rattle.program_opening.proofs.SameDecls.{same_typed, same_faulty}
+use Rattle.program_opening.specs.Opening.{typed, typing}
+use Rattle.program_opening.proofs.Openings.{program_of, faultless_is, carriers_right}
 use Rattle.edit_session.specs.Program.{IsModuleOf}
 use Rattle.edit_session.specs.Kept.{IsOpen}
 use Rattle.edit_session.specs.Told.{IsOpened}
-use Rattle.edit_session.specs.Revising.{revised, Revises, IsReopened}
-use Rattle.edit_session.proofs.OpenResolved.{as_many_texts}
+use Rattle.edit_session.specs.Revising.{changes, AreRevisions, CanBePut, IsReopened}
+use Rattle.program_edits.specs.Replaced.{with_replacements, AreThere}
+use Rattle.program_edits.specs.declared.replaced.Replacement.{Replacement}
+use Rattle.edit_session.proofs.OpenResolved.{as_many_texts, typed_resolved}
 use Rattle.edit_session.proofs.Programs.{opens_so}
 
--- ---- declarations without user types
+-- ---- the readings
 
-typed_is : (m n : Module) (t : Typing) → t ≡ typed n → t ≡ typed m → m ≡ n
-typed_is m n t a b = let same : ◌≡◌ {A = Typing} (typed m) (typed n) = sym b ∙ a in cc
+some_is_none : (o : Option (ℕ × Fault)) → option_map {U = ℕ × Place} (λ (p : ℕ × Fault). (p.0, p.1.at)) o ≡ None → o ≡ None
+some_is_none None h = refl
+some_is_none (Some p) h = absurd (cc)
 
-ill_is_not : (m : Module) (t : Typing) (w : Written) → t ≡ ill_typed w → t ≡ typed m → ⊥
-ill_is_not m t w a b = let same : ◌≡◌ {A = Typing} (ill_typed w) (typed m) = sym a ∙ b in absurd (cc)
-
--- they have no fault where they are open, and their module is theirs as they stand
-plain_open : (ds : List Decl) (m : Module) → IsModuleOf ds m → has_user_types ds ≡ false → (fault_of ds ≡ None) × (m ≡ module_of ds)
-plain_open ds m is plain = by_fault (fault_of ds) refl
-  where
-    by_fault : (o : Option (ℕ × Fault)) → fault_of ds ≡ o → (fault_of ds ≡ None) × (m ≡ module_of ds)
-    by_fault None e = (e, typed_is m (module_of ds) (typing ds) (same_typed ds (module_of ds) plain e refl) (typed_of ds m (sym is)))
-    by_fault (Some p) e = absurd (ill_is_not m (typing ds) (decl_fault ds p) (same_faulty ds p (decl_fault ds p) plain e refl) (typed_of ds m (sym is)))
-
-pub no_fault : (ds : List Decl) (m : Module) → IsModuleOf ds m → has_user_types ds ≡ false → fault_of ds ≡ None
-no_fault ds m is plain = (plain_open ds m is plain).0
-
-procedure_plain : (d e : DeclBody) → IsRevised d e → is_user_type e ≡ false
-procedure_plain d e r = ap is_user_type r.new
-
-set_plain : (ds : List Decl) (at : ℕ) (e : Decl) → has_user_types ds ≡ false → is_user_type e.body ≡ false → has_user_types (slice_set ds at e) ≡ false
-set_plain [] at e h k = refl
-set_plain (d ∷ ds) zero e h k = let p = neither (is_user_type d.body) (has_user_types ds) h in λ i. k i || p.1 i
-set_plain (d ∷ ds) (suc at) e h k = let p = neither (is_user_type d.body) (has_user_types ds) h in λ i. p.0 i || set_plain ds at e p.1 k i
-
-pub revises : (ds : List Decl) (at : ℕ) (d e : Decl) (r : Revision) → has_user_types ds ≡ false → IsRevised d.body e.body → fault_of (slice_set ds at e) ≡ None → IsRevision ds at e r → Revises ds at e r
-revises ds at d e r plain revised faultless is = record { plain = plain; stays_plain = set_plain ds at e plain (procedure_plain d.body e.body revised); faultless = faultless; is = is }
+puts_are : (ds : List Decl) (rs : List Replacement) → all_put ds (changes rs) ≡ with_replacements ds rs
+puts_are ds [] = refl
+puts_are ds (r ∷ rs) = ap (λ (es : List Decl). slice_set es r.at r.decl) (puts_are ds rs)
 
 -- ---- what stood there is put back
 
@@ -79,44 +60,134 @@ pub put_back : (m n : Module) (k at : ℕ) (p q : Proc) (x y : DeclText) → n �
 put_back m n k at p q x y put proc text =
     ap (with_procedure k q at y) put ∙ (λ i. record m { procs = set_back m.procs k q p proc i; texts = set_back m.texts at y x text i })
 
+-- its places are there still
+pub still_there : (m n : Module) (k at : ℕ) (p : Proc) (x : DeclText) → n ≡ with_procedure k p at x m → k < length m.procs → at < length m.texts → (k < length n.procs) × (at < length n.texts)
+still_there m n k at p x put proc text = (
+  subst (λ l. k < l) (sym (ap (λ (y : Module). length y.procs) put ∙ length-set m.procs k p)) proc,
+  subst (λ l. at < l) (sym (ap (λ (y : Module). length y.texts) put ∙ length-set m.texts at x)) text,
+)
+
+-- ---- the last is put first
+
+revised_last : (m : Module) (vs : List Revision) (v : Revision) → all_revised m (vs ++ v ∷ []) ≡ all_revised (revised v m) vs
+revised_last m [] v = refl
+revised_last m (w ∷ vs) v = ap (revised w) (revised_last m vs v)
+
+pub record LastPut (m : Module) (vs : List Revision) (v : Revision) : Type 0 where
+  pub proc : v.proc_at < length m.procs
+  pub text : v.decl_at < length m.texts
+  pub before : IsTypedModule m
+  pub after : IsTypedModule (revised v m)
+  pub rest : CanBePut (revised v m) vs
+
+pub last_put : (m : Module) (vs : List Revision) (v : Revision) → CanBePut m (vs ++ v ∷ []) → LastPut m vs v
+last_put m [] v h = record { proc = h.1; text = h.2; before = h.0; after = h.3; rest = h.3 }
+last_put m (w ∷ vs) v h =
+    let r = last_put m vs v h.0 in
+    record {
+      proc = r.proc;
+      text = r.text;
+      before = r.before;
+      after = r.after;
+      rest = (r.rest, subst (λ (x : Module). w.proc_at < length x.procs) (revised_last m vs v) h.1, subst (λ (x : Module). w.decl_at < length x.texts) (revised_last m vs v) h.2, subst IsTypedModule (revised_last m (w ∷ vs) v) h.3);
+    }
+
+pub none_revised : (m : Module) (vs : List Revision) → vs ≡ [] → all_revised m vs ≡ m
+none_revised m vs none = ap (all_revised m) none
+
+pub last_revised : (m : Module) (vs ws : List Revision) (v : Revision) → ws ≡ vs ++ v ∷ [] → all_revised m ws ≡ all_revised (revised v m) vs
+last_revised m vs ws v e = ap (all_revised m) e ∙ revised_last m vs v
+
+can_be_put : (ds : List Decl) (cs : List (ℕ × Decl)) (vs : List Revision) → fault_of ds ≡ None → AreNew ds cs vs → CanBePut (module_of ds) vs
+can_be_put ds [] [] none new = module_typed ds none
+can_be_put ds [] (v ∷ vs) none new = absurd new
+can_be_put ds (c ∷ cs) [] none new = absurd new
+can_be_put ds (c ∷ cs) (v ∷ vs) none new =
+    let rest = go_together ds cs vs none new.1 in
+    let all = go_together ds (c ∷ cs) (v ∷ vs) none new in
+    let there = new_there (all_put ds cs) c.0 c.1 v (over_all ds cs vs c.0 c.1 v new.1 new.0) in (
+      can_be_put ds cs vs none new.1,
+      subst (λ (x : Module). v.proc_at < length x.procs) rest.1 there.0,
+      subst (λ (x : Module). v.decl_at < length x.texts) rest.1 there.1,
+      subst IsTypedModule all.1 (module_typed (all_put ds (c ∷ cs)) all.0),
+    )
+
 -- ---- the module with what is new
 
-module _ (ds : List Decl) (at : ℕ) (e : Decl) (r : Revision) (m : Module) (is : IsModuleOf ds m) (h : Revises ds at e r) where
-  before : m ≡ module_of ds
-  before = (plain_open ds m is h.plain).1
+pub as_many_declared : (ds : List Decl) (m : Module) → IsModuleOf ds m → length m.texts ≡ length (erased ds)
+as_many_declared ds m is = ap (λ (x : Module). length x.texts) ((program_of ds m (sym is)).1) ∙ as_many_texts (erased ds)
 
-  after : revised at r m ≡ module_of (slice_set ds at e)
-  after = ap (revised at r) before ∙ sym h.is.changed
+module _ (ds : List Decl) (rs : List Replacement) (vs : List Revision) (m : Module) (is : IsModuleOf ds m) (h : AreRevisions ds rs vs) where
+  before : m ≡ module_of (erased ds)
+  before = (program_of ds m (sym is)).1
 
-  pub proc_there : r.proc_at < length m.procs
-  proc_there = subst (λ (x : Module). r.proc_at < length x.procs) (sym before) h.is.there
+  none_before : fault_of (erased ds) ≡ None
+  none_before = (program_of ds m (sym is)).0
 
-  pub text_there : at < length m.texts
-  text_there = subst (λ (x : Module). at < length x.texts) (sym before) h.is.texts
+  apart_before : fault_of (told_apart ds) ≡ None
+  apart_before = some_is_none (fault_of (told_apart ds)) (program_of ds m (sym is)).2
 
-  pub typed_before : IsTypedModule m
-  typed_before = subst IsTypedModule (sym before) (module_typed ds (plain_open ds m is h.plain).0)
+  reading_after : (erased (with_replacements ds rs) ≡ all_put (erased ds) (changes rs)) × (told_apart (with_replacements ds rs) ≡ all_put (told_apart ds) (changes rs))
+  reading_after =
+      let keep = readings_keep ds (changes rs) h.brought.revised in
+      (ap erased (sym (puts_are ds rs)) ∙ keep.0, ap told_apart (sym (puts_are ds rs)) ∙ keep.1)
 
-  pub typed_after : IsTypedModule (revised at r m)
-  typed_after = subst IsTypedModule (sym after) (module_typed (slice_set ds at e) h.faultless)
+  none_after : fault_of (erased (with_replacements ds rs)) ≡ None
+  none_after = ap fault_of reading_after.0 ∙ (go_together (erased ds) (changes rs) vs none_before h.brought.new).0
 
-  pub forward_after : AllGoForward (revised at r m)
-  forward_after = subst AllGoForward (sym after) (goes_forward (slice_set ds at e) h.faultless)
+  apart_after : fault_of (told_apart (with_replacements ds rs)) ≡ None
+  apart_after = ap fault_of reading_after.1 ∙ stay_faultless (told_apart ds) (changes rs) apart_before (all_apart ds (changes rs) h.brought.revised) h.apart
 
-  pub resolved_after : AreWrittenDecls 0 (slice_set ds at e) → length m.texts < 2 ^ 64 → IsResolved (revised at r m)
-  resolved_after written few =
-      let many : length m.texts ≡ length ds = ap (λ (x : Module). length x.texts) before ∙ as_many_texts ds in
-      let below : length (slice_set ds at e) < 2 ^ 64 = omega (few, many, length-set ds at e, arith) in
-      record { decls = slice_set ds at e; written = written; faultless = h.faultless; few = below; is = after }
+  after : all_revised m vs ≡ module_of (erased (with_replacements ds rs))
+  after = ap (λ (x : Module). all_revised x vs) before ∙ sym ((go_together (erased ds) (changes rs) vs none_before h.brought.new).1) ∙ ap module_of (sym reading_after.0)
 
-  opens_after : (n : Module) → n ≡ revised at r m → program_large n ≡ None → IsModuleOf (slice_set ds at e) n
-  opens_after n same within = opens_so (slice_set ds at e) n (same_typed (slice_set ds at e) n h.stays_plain h.faultless (same ∙ after)) within
+  typed_after : (n : Module) → n ≡ all_revised m vs → typing (with_replacements ds rs) ≡ typed n
+  typed_after n same =
+      faultless_is (with_replacements ds rs) none_after
+      ∙ carriers_right (with_replacements ds rs) n (ap (λ o. option_map {U = ℕ × Place} (λ (p : ℕ × Fault). (p.0, p.1.at)) o) apart_after) (same ∙ after)
+
+  pub each_put : CanBePut m vs
+  each_put = subst (λ (x : Module). CanBePut x vs) (sym before) (can_be_put (erased ds) (changes rs) vs none_before h.brought.new)
+
+  pub forward_after : AllGoForward (all_revised m vs)
+  forward_after = subst AllGoForward (sym after) (goes_forward (erased (with_replacements ds rs)) none_after)
+
+  as_many_after : length (all_revised m vs).texts ≡ length m.texts
+  as_many_after =
+      ap (λ (x : Module). length x.texts) after ∙ as_many_texts (erased (with_replacements ds rs)) ∙ ap length reading_after.0 ∙ as_many_put (erased ds) (changes rs) ∙ sym (as_many_declared ds m is)
+
+  pub resolved_after : AreWrittenDecls 0 (with_replacements ds rs) → length m.texts < 2 ^ 64 → IsResolved (all_revised m vs)
+  resolved_after written few = typed_resolved (with_replacements ds rs) (all_revised m vs) written (subst (λ n. n < 2 ^ 64) (sym as_many_after) few) (typed_after (all_revised m vs) refl)
+
+  opens_after : (n : Module) → n ≡ all_revised m vs → program_large n ≡ None → IsModuleOf (with_replacements ds rs) n
+  opens_after n same within = opens_so (with_replacements ds rs) n (typed_after n same) within
 
   -- by the result of building it and opening its goals
-  pub is_opened : (workers : ℕ) (s : Board) (noted : List BoardCall) (t : Board) (noted' : List BoardCall) (turns : ℕ) (n : Module) (old new : List BuiltProc) (o : Option Told) → IfSome o (λ x. n ≡ revised at r m)
-      → IfSome o (λ x. IsReopened workers s noted t noted' turns n old new (reply_view x)) → IfSome o (λ x. IsModuleOf (slice_set ds at e) n)
+  pub is_opened : (workers : ℕ) (s : Board) (noted : List BoardCall) (t : Board) (noted' : List BoardCall) (turns : ℕ) (n : Module) (old new : List BuiltProc) (o : Option Told) → IfSome o (λ x. n ≡ all_revised m vs)
+      → IfSome o (λ x. IsReopened workers s noted t noted' turns n old new (reply_view x)) → IfSome o (λ x. IsModuleOf (with_replacements ds rs) n)
   is_opened workers s noted t noted' turns n old new None same opened = tt
   is_opened workers s noted t noted' turns n old new (Some x) same opened = opens_after n same opened.within
+
+-- ---- the declarations, the last first
+
+placed_last : (ds : List Decl) (rs : List Replacement) (r : Replacement) → with_replacements ds (rs ++ r ∷ []) ≡ with_replacements (slice_set ds r.at r.decl) rs
+placed_last ds [] r = refl
+placed_last ds (q ∷ rs) r = ap (λ (es : List Decl). slice_set es q.at q.decl) (placed_last ds rs r)
+
+there_last : (ds : List Decl) (rs : List Replacement) (r : Replacement) → AreThere ds (rs ++ r ∷ []) → (r.at < length ds) × AreThere (slice_set ds r.at r.decl) rs
+there_last ds [] r h = (h.0, tt)
+there_last ds (q ∷ rs) r h =
+    let rest = there_last ds rs r h.1 in
+    (rest.0, (subst (λ n. q.at < n) (sym (length-set ds r.at r.decl)) h.0, rest.1))
+
+pub last_there : (ds : List Decl) (rs qs : List Replacement) (r : Replacement) → qs ≡ rs ++ r ∷ [] → AreThere ds qs → r.at < length ds
+last_there ds rs qs r e h = (there_last ds rs r (subst (AreThere ds) e h)).0
+
+pub others_there : (ds : List Decl) (rs qs : List Replacement) (r : Replacement) → qs ≡ rs ++ r ∷ [] → AreThere ds qs → AreThere (slice_set ds r.at r.decl) rs
+others_there ds rs qs r e h = (there_last ds rs r (subst (AreThere ds) e h)).1
+
+pub last_placed : (ds : List Decl) (rs qs : List Replacement) (r : Replacement) → qs ≡ rs ++ r ∷ [] → with_replacements ds qs ≡ with_replacements (slice_set ds r.at r.decl) rs
+last_placed ds rs qs r e = ap (with_replacements ds) e ∙ placed_last ds rs r
 
 -- ---- the program is open with what was built
 

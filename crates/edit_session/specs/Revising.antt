@@ -1,27 +1,42 @@
--- A declaration takes the place of one from which it differs in the procedure's body alone: what is new then.
-use Rattle.std.specs.Prelude.{◌≡◌, ℕ, false, List, None, slice_set}
+-- Declarations take the places of ones from which they differ in the procedures' bodies alone: what is new then.
+use Rattle.std.specs.Prelude.{◌≡◌, ℕ, ◌<◌, List, [], ◌∷◌, map, length, slice_get, Some, None}
 use Rattle.bpl_ast.specs.Statement.{Decl}
-use Rattle.bpl_declaration_faults.specs.DeclFaults.{fault_of}
-use Rattle.bpl_model.specs.Module.{Module, with_procedure}
-use Rattle.body_revision.specs.Revision.{IsRevision}
+use Rattle.bpl_model.specs.Module.{Module}
+use Rattle.bpl_model.specs.Typed.{IsTypedModule}
+use Rattle.bpl_sorts.specs.Erased.{erased, told_apart}
+use Rattle.body_revision.specs.Revised.{IsRevised}
+use Rattle.body_revision.specs.Revision.{IsNew, AreNew, AreRevised, HaveNoFaults, all_revised}
 use Rattle.body_revision.specs.declared.revised.Revision.{Revision}
 use Rattle.vc_build.specs.Large.{program_large}
 use Rattle.vc_build.specs.Rebuild.{BuiltProc, built, rebuilt}
-use Rattle.program_opening.specs.NoUsers.{has_user_types}
+use Rattle.program_edits.specs.declared.replaced.Replacement.{Replacement}
 use Rattle.goal_board.specs.Calls.{Board, BoardCall}
 use Rattle.request_text.specs.Request.{Reply}
 use Rattle.edit_session.specs.Told.{IsOpened}
 
--- the module with the procedure and the texts that are new
-abbrev pub revised : ℕ → Revision → Module → Module
-revised at r m = with_procedure r.proc_at r.declared.proc at r.declared.text m
+abbrev pub changes : List Replacement → List (ℕ × Decl)
+changes rs = map (λ (r : Replacement). (r.at, r.decl)) rs
 
--- e takes the place `at` in ds, and none is a user type: there is no fault then, and this is new in the module
-pub record Revises (ds : List Decl) (at : ℕ) (e : Decl) (r : Revision) : Type 0 where
-  pub plain : has_user_types ds ≡ false
-  pub stays_plain : has_user_types (slice_set ds at e) ≡ false
-  pub faultless : fault_of (slice_set ds at e) ≡ None
-  pub is : IsRevision ds at e r
+-- each takes the place of a procedure from which it differs in the body alone, and this is what it brings where user types are integers
+pub record AreBrought (ds : List Decl) (rs : List Replacement) (vs : List Revision) : Type 0 where
+  pub revised : AreRevised ds (changes rs)
+  pub new : AreNew (erased ds) (changes rs) vs
+
+-- and none has a fault where they are told apart
+pub record AreRevisions (ds : List Decl) (rs : List Replacement) (vs : List Revision) : Type 0 where
+  pub brought : AreBrought ds rs vs
+  pub apart : HaveNoFaults (told_apart ds) (changes rs)
+
+-- what one brings
+pub record IsRevision (ds : List Decl) (r : Replacement) (v : Revision) : Type 0 where
+  pub there : r.at < length ds
+  pub revised : (d : Decl) → slice_get ds r.at ≡ Some d → IsRevised d.body r.decl.body
+  pub new : IsNew (erased ds) r.at r.decl v
+
+-- each has its places in the module, and every module on the way is one
+abbrev pub CanBePut : Module → List Revision → Type 0
+CanBePut m [] = IsTypedModule m
+CanBePut m (v ∷ vs) = CanBePut m vs × (v.proc_at < length (all_revised m vs).procs) × (v.decl_at < length (all_revised m vs).texts) × IsTypedModule (all_revised m (v ∷ vs))
 
 -- the module exceeds no limit and is built, where this was built before, and the board has its goals
 pub record IsReopened (workers : ℕ) (s : Board) (noted : List BoardCall) (t : Board) (noted' : List BoardCall) (turns : ℕ) (m : Module) (old new : List BuiltProc) (x : Reply) : Type 0 where

@@ -8,6 +8,7 @@ ghost use Rattle.fault_text.specs.FaultView.{SourcesAreShort};
 ghost use Rattle.program_opening.specs.Opening.{typing, typed as typed_as};
 ghost use Rattle.program_opening.specs.ProcGoals.{goals_by_proc};
 ghost use Rattle.request_text.specs.ReplyView.{reply_view};
+ghost use Rattle.program_edits.specs.Replaced.{with_replacements, AreThere};
 ghost use Rattle.edit_session.specs.Program.{IsModuleOf};
 ghost use Rattle.edit_session.specs.Built.{proc_goals};
 ghost use Rattle.edit_session.specs.Judged.{IsJudged};
@@ -93,11 +94,12 @@ fn build<L: Ledger>(
     }
 }
 
-/// A module has fewer declarations than a number of 64 bits can tell.
-pub(crate) fn has_few(typed: &Module)
-    ensures { length typed.now.texts < 2 ^ 64 }
+/// How many declarations a module has: fewer than a number of 64 bits can tell.
+pub(crate) fn count_decls(typed: &Module) -> usize
+    ensures count { result ≡ length typed.now.texts }
+    ensures few { length typed.now.texts < 2 ^ 64 }
 {
-    let _count = typed.parts().texts.len();
+    typed.parts().texts.len()
 }
 
 // What the declarations are, where this was built before.
@@ -115,7 +117,7 @@ fn judge<L: Ledger>(
     let program = Program { decls };
     match type_check(alloc, &program)? {
         Typed::Module(typed) => {
-            has_few(&typed);
+            let _count = count_decls(&typed);
             build(alloc, old, program, typed, steps)
         }
         Typed::Refused(fault) => Ok(Judged::Refused(fault_reply(fault)?)),
@@ -129,6 +131,16 @@ fn put_decl(program: &mut Program, replacement: Replacement)
 {
     let Replacement { at, decl } = replacement;
     drop(mem::replace(&mut program.decls[at], decl));
+}
+
+// The declarations take the places of those that stand there.
+fn put_decls(program: &mut Program, mut replacements: Vec<Replacement>)
+    requires { AreThere program.old replacements.items }
+    ensures { program.new ≡ with_replacements program.old replacements.items }
+{
+    while let Some(replacement) = replacements.pop() {
+        put_decl(program, replacement);
+    }
 }
 
 impl OpenProgram {
@@ -202,23 +214,23 @@ impl OpenProgram {
         self.built.procs()
     }
 
-    /// The declaration takes the place of the one that stands there, if the two are procedures that
-    /// differ in their bodies alone and the program with it has no fault; the board has the goals of the
-    /// program then. Else nothing changes, and so it is without memory.
+    /// The declarations take the places of those that stand there, if the two are procedures each time
+    /// that differ in their bodies alone, and the program with them has no fault; the board has the goals
+    /// of the program then. Else nothing changes, and so it is without memory.
     #[tactic(auto, using(crate::proofs::Revised::stays_open, crate::proofs::Revised::opened_by))]
     pub fn revise<B: GoalBoard, L: Ledger>(
         &mut self,
         alloc: Global,
         board: &mut B,
-        replacement: Replacement,
+        replacements: Vec<Replacement>,
         turns: u64,
         steps: &mut Steps<L>,
     ) -> Option<Reply>
-        requires there { replacement.at < length self.old.decls }
-        requires short { SourcesAreShort (slice_set self.old.decls replacement.at replacement.decl) }
-        requires written { AreWrittenDecls 0 (slice_set self.old.decls replacement.at replacement.decl) }
+        requires there { AreThere self.old.decls replacements.items }
+        requires short { SourcesAreShort (with_replacements self.old.decls replacements.items) }
+        requires written { AreWrittenDecls 0 (with_replacements self.old.decls replacements.items) }
         requires room { B.workers ≡ 0 → (B.state board.old).version < 2 ^ 64 - 1 }
-        ensures decls { IfSome result (λ x. self.new.decls ≡ slice_set self.old.decls replacement.at replacement.decl) }
+        ensures decls { IfSome result (λ x. self.new.decls ≡ with_replacements self.old.decls replacements.items) }
         ensures is_module { IfSome result (λ x. IsModuleOf self.new.decls self.new.typed) }
         ensures opened { IfSome result (λ x. IsOpened B.workers (B.state board.old) (B.noted board.old) (B.state board.new) (B.noted board.new) turns (rebuilt (built self.old.typed) self.new.typed) self.new.typed (reply_view x)) }
         ensures same { IfNone result (self.new ≡ self.old) }
@@ -230,16 +242,16 @@ impl OpenProgram {
             &mut self.typed,
             &mut self.built,
             board,
-            &replacement,
+            &replacements,
             turns,
             steps,
         ) {
             Some(reply) => {
-                put_decl(&mut self.program, replacement);
+                put_decls(&mut self.program, replacements);
                 Some(reply)
             }
             None => {
-                drop(replacement);
+                drop(replacements);
                 None
             }
         }

@@ -1,23 +1,26 @@
-// The program after one of its procedures has got another body.
-ghost use Rattle.std.specs.Prelude.{◌≡◌, ◌<◌, ◌-◌, ◌^◌, length, slice_set, false, None, IsTrue, IfOk, OnErr, IfSome, IfNone};
-ghost use Rattle.bpl_declaration_faults.specs.DeclFaults.{fault_of};
+// The program after some of its procedures have got other bodies.
+ghost use Rattle.std.specs.Prelude.{◌≡◌, ◌<◌, ◌-◌, ◌^◌, length, false, is_none, IsTrue, IfOk, OnErr, IfSome, IfNone};
 ghost use Rattle.bpl_goto.specs.Forward.{AllGoForward};
-ghost use Rattle.bpl_model.specs.Typed.{IsTypedModule};
+ghost use Rattle.bpl_scopes.specs.Scopes.{table_of, no_counts, counts_after};
+ghost use Rattle.bpl_sorts.specs.Erased.{erased, told_apart};
 ghost use Rattle.canonical_text.specs.RoundTrip.{AreWrittenDecls};
 ghost use Rattle.rebuild_laws.specs.Resolved.{IsResolved};
+ghost use Rattle.body_revision.specs.Names.{AreNamesOf, own_fault};
 ghost use Rattle.body_revision.specs.Revised.{IsRevised};
+ghost use Rattle.body_revision.specs.Revision.{HaveNoFaults, all_revised};
 ghost use Rattle.program_opening.specs.NoUsers.{has_user_types};
+ghost use Rattle.program_edits.specs.Replaced.{with_replacements, AreThere};
 ghost use Rattle.request_text.specs.ReplyView.{reply_view};
 ghost use Rattle.edit_session.specs.Program.{IsModuleOf};
-ghost use Rattle.edit_session.specs.Revising.{revised, Revises, IsReopened};
+ghost use Rattle.edit_session.specs.Revising.{changes, AreBrought, AreRevisions, IsRevision, CanBePut, IsReopened};
 ghost use Rattle.edit_session.specs.Told.{IsUndone};
 
 use crate::board_calls::open_goals;
-use crate::program::has_few;
+use crate::program::count_decls;
+use body_revision::faultless::own_fault;
 use body_revision::module::revision;
-use body_revision::{Revision, is_revised, stays_faultless};
+use body_revision::{DeclaredNames, Reading, Revision, is_revised, read_heads};
 use bpl_ast::Decl;
-use bpl_dependencies::Declarations;
 use bpl_model::Module;
 use bv_base::Steps;
 use goal_board::GoalBoard;
@@ -29,6 +32,10 @@ use std::sync::ledger::Ledger;
 use vc_build::BuildFault;
 use vc_rebuild::{Built, rebuild};
 
+// So many procedures at most get other bodies at once: each takes a place on the stack while the module
+// is built.
+const MOST_BODIES: usize = 200;
+
 // Whether they are procedures that differ in their bodies alone.
 fn has_other_body(old: &Decl, new: &Decl) -> bool
     ensures { IsTrue result → IsRevised old.now.body new.now.body }
@@ -37,30 +44,162 @@ fn has_other_body(old: &Decl, new: &Decl) -> bool
 }
 
 // What is new in the module, if the declaration differs from the one in whose place it comes in the
-// procedure's body alone, and has no fault there.
-fn revision_of(
+// procedure's body alone, and has no fault of its own where user types are integers.
+fn revision_at<'a>(
     alloc: Global,
+    names: &DeclaredNames<'a>,
     decls: &[Decl],
-    replacement: &Replacement,
+    count: usize,
+    replacement: &'a Replacement,
 ) -> Result<Option<Revision>, AllocError>
+    requires names { AreNamesOf (erased decls.now) names.now }
+    requires count { count ≡ length (erased decls.now) }
     requires there { replacement.now.at < length decls.now }
-    requires faultless { has_user_types decls.now ≡ false → fault_of decls.now ≡ None }
-    ensures { IfOk result (λ o. IfSome o (Revises decls.now replacement.now.at replacement.now.decl)) }
+    ensures { IfOk result (λ o. IfSome o (IsRevision decls.now replacement.now)) }
 {
     let at = replacement.at;
     let decl = &replacement.decl;
+    if has_other_body(&decls[at], decl) {
+        revision(alloc, names, &decls[..at], count, decl)
+    } else {
+        Ok(None)
+    }
+}
+
+// What is new in the module of each, where each is so.
+fn revisions_at<'a>(
+    alloc: Global,
+    names: &DeclaredNames<'a>,
+    decls: &[Decl],
+    count: usize,
+    replacements: &'a [Replacement],
+) -> Result<Option<Vec<Revision>>, AllocError>
+    requires names { AreNamesOf (erased decls.now) names.now }
+    requires count { count ≡ length (erased decls.now) }
+    requires there { AreThere decls.now replacements.now }
+    ensures { IfOk result (λ o. IfSome o (λ v. AreBrought decls.now replacements.now v.items)) }
+{
+    let mut found = Vec::new(alloc);
+    for replacement in replacements {
+        match revision_at(alloc, names, decls, count, replacement)? {
+            Some(revision) => found.push(revision)?,
+            None => return Ok(None),
+        }
+    }
+    Ok(Some(found))
+}
+
+// Whether the declaration has no fault of its own.
+fn is_faultless<'a>(
+    alloc: Global,
+    names: &DeclaredNames<'a>,
+    decl: &'a Decl,
+) -> Result<bool, AllocError>
+    ensures { IfOk result (λ b. b ≡ is_none (own_fault (table_of names.now.declarations) (counts_after no_counts names.now.declarations) decl.now.body)) }
+{
+    let fault = own_fault(alloc, names, decl)?;
+    Ok(fault.is_none())
+}
+
+// Whether none of them has one.
+fn are_faultless<'a>(
+    alloc: Global,
+    names: &DeclaredNames<'a>,
+    replacements: &'a [Replacement],
+) -> Result<bool, AllocError>
+    ensures { IfOk result (λ b. IsTrue b → HaveNoFaults names.now.declarations (changes replacements.now)) }
+{
+    for replacement in replacements {
+        if !is_faultless(alloc, names, &replacement.decl)? {
+            return Ok(false);
+        }
+    }
+    Ok(true)
+}
+
+// Whether none of them has one where user types are told apart.
+fn are_faultless_apart(
+    alloc: Global,
+    decls: &[Decl],
+    replacements: &[Replacement],
+) -> Result<bool, AllocError>
+    ensures { IfOk result (λ b. IsTrue b → HaveNoFaults (told_apart decls.now) (changes replacements.now)) }
+{
+    let heads = read_heads(alloc, Reading::Apart, decls)?;
+    let names = DeclaredNames::of(alloc, &heads)?;
+    are_faultless(alloc, &names, replacements)
+}
+
+// What is new in the module of each, where each has another body without a fault where user types are
+// integers: names are those of the heads.
+fn erased_revisions(
+    alloc: Global,
+    decls: &[Decl],
+    count: usize,
+    replacements: &[Replacement],
+) -> Result<Option<Vec<Revision>>, AllocError>
+    requires count { count ≡ length (erased decls.now) }
+    requires there { AreThere decls.now replacements.now }
+    ensures { IfOk result (λ o. IfSome o (λ v. AreBrought decls.now replacements.now v.items)) }
+{
+    let heads = read_heads(alloc, Reading::Integers, decls)?;
+    let names = DeclaredNames::of(alloc, &heads)?;
+    revisions_at(alloc, &names, decls, count, replacements)
+}
+
+// The same, without a fault in either reading of user types.
+fn read_revisions(
+    alloc: Global,
+    decls: &[Decl],
+    count: usize,
+    replacements: &[Replacement],
+) -> Result<Option<Vec<Revision>>, AllocError>
+    requires count { count ≡ length (erased decls.now) }
+    requires there { AreThere decls.now replacements.now }
+    ensures { IfOk result (λ o. IfSome o (λ v. AreRevisions decls.now replacements.now v.items)) }
+{
+    if are_faultless_apart(alloc, decls, replacements)? {
+        erased_revisions(alloc, decls, count, replacements)
+    } else {
+        Ok(None)
+    }
+}
+
+// The same where there are no user types: both readings declare what the declarations do as they stand.
+fn plain_revisions(
+    alloc: Global,
+    decls: &[Decl],
+    count: usize,
+    replacements: &[Replacement],
+) -> Result<Option<Vec<Revision>>, AllocError>
+    requires plain { has_user_types decls.now ≡ false }
+    requires count { count ≡ length (erased decls.now) }
+    requires there { AreThere decls.now replacements.now }
+    ensures { IfOk result (λ o. IfSome o (λ v. AreRevisions decls.now replacements.now v.items)) }
+{
+    let names = DeclaredNames::of(alloc, decls)?;
+    revisions_at(alloc, &names, decls, count, replacements)
+}
+
+// What is new in the module of each, where each has another body without a fault.
+fn revisions_of(
+    alloc: Global,
+    decls: &[Decl],
+    count: usize,
+    replacements: &[Replacement],
+) -> Result<Option<Vec<Revision>>, AllocError>
+    requires count { count ≡ length (erased decls.now) }
+    requires there { AreThere decls.now replacements.now }
+    ensures { IfOk result (λ o. IfSome o (λ v. AreRevisions decls.now replacements.now v.items)) }
+{
+    if replacements.len() > MOST_BODIES {
+        return Ok(None);
+    }
     if has_user_types(decls) {
-        return Ok(None);
+        read_revisions(alloc, decls, count, replacements)
+    } else {
+        plain_revisions(alloc, decls, count, replacements)
     }
-    if !has_other_body(&decls[at], decl) {
-        return Ok(None);
-    }
-    let declarations = Declarations::of(alloc, decls)?;
-    if !stays_faultless(alloc, &declarations, at, decl)? {
-        return Ok(None);
-    }
-    let revision = revision(alloc, &declarations, at, decl)?;
-    Ok(Some(revision))
 }
 
 // The module is built, where this was built before, and the board has its goals. Where it exceeds a
@@ -86,81 +225,81 @@ fn reopen<B: GoalBoard, L: Ledger>(
     Ok(reply)
 }
 
-// The module with what is new takes its place, is built, and the board has its goals; or else all is as
-// it was.
+// The module with what is new takes its place, the last first, is built, and the board has its goals; or
+// else all is as it was.
+#[cycle(reopen_with)]
 fn reopen_with<B: GoalBoard, L: Ledger>(
     alloc: Global,
     typed: &mut Module,
     kept: &mut Built,
     board: &mut B,
-    at: usize,
-    revision: Revision,
+    revisions: &mut Vec<Revision>,
     turns: u64,
     steps: &mut Steps<L>,
 ) -> Option<Reply>
-    requires proc { revision.proc_at < length typed.old.procs }
-    requires text { at < length typed.old.texts }
-    requires before { IsTypedModule typed.old }
-    requires after { IsTypedModule (revised at revision typed.old) }
-    requires forward { AllGoForward (revised at revision typed.old) }
-    requires resolved { IsResolved (revised at revision typed.old) }
+    requires each { CanBePut typed.old revisions.old.items }
+    requires forward { AllGoForward (all_revised typed.old revisions.old.items) }
+    requires resolved { IsResolved (all_revised typed.old revisions.old.items) }
     requires room { B.workers ≡ 0 → (B.state board.old).version < 2 ^ 64 - 1 }
-    ensures revised { IfSome result (λ x. typed.new ≡ revised at revision typed.old) }
+    ensures revised { IfSome result (λ x. typed.new ≡ all_revised typed.old revisions.old.items) }
     ensures opened { IfSome result (λ x. IsReopened B.workers (B.state board.old) (B.noted board.old) (B.state board.new) (B.noted board.new) turns typed.new kept.old.procs kept.new.procs (reply_view x)) }
     ensures typed { IfNone result (typed.new ≡ typed.old) }
     ensures kept { IfNone result (kept.new ≡ kept.old) }
     ensures board { IfNone result (IsUndone B.workers (B.state board.old) (B.noted board.old) (B.state board.new) (B.noted board.new)) }
 {
-    let Revision { proc_at, declared } = revision;
-    let before = typed.put_procedure(proc_at, at, declared);
-    match reopen(alloc, kept, typed, board, turns, steps) {
-        Ok(reply) => {
-            drop(before);
-            Some(reply)
-        }
-        Err(_) => {
-            drop(typed.put_procedure(proc_at, at, before));
-            None
+    match revisions.pop() {
+        None => match reopen(alloc, kept, typed, board, turns, steps) {
+            Ok(reply) => Some(reply),
+            Err(_) => None,
+        },
+        Some(revision) => {
+            let Revision {
+                proc_at,
+                decl_at,
+                declared,
+            } = revision;
+            let before = typed.put_procedure(proc_at, decl_at, declared);
+            match reopen_with(alloc, typed, kept, board, revisions, turns, steps) {
+                Some(reply) => {
+                    drop(before);
+                    Some(reply)
+                }
+                None => {
+                    drop(typed.put_procedure(proc_at, decl_at, before));
+                    None
+                }
+            }
         }
     }
 }
 
-/// The module of declarations becomes that of the same with another in its place, and the board has
-/// its goals, if the two are procedures that differ in their bodies alone and the new declarations have
-/// no fault. Else all is as it was, and so it is without memory.
+/// The module of declarations becomes that of the same with others in their places, and the board has
+/// its goals, if the two are procedures each time that differ in their bodies alone, and the new
+/// declarations have no fault. Else all is as it was, and so it is without memory.
 pub fn reopen_revised<B: GoalBoard, L: Ledger>(
     alloc: Global,
     decls: &[Decl],
     typed: &mut Module,
     kept: &mut Built,
     board: &mut B,
-    replacement: &Replacement,
+    replacements: &[Replacement],
     turns: u64,
     steps: &mut Steps<L>,
 ) -> Option<Reply>
     requires is_module { IsModuleOf decls.now typed.old }
-    requires there { replacement.now.at < length decls.now }
-    requires written { AreWrittenDecls 0 (slice_set decls.now replacement.now.at replacement.now.decl) }
+    requires there { AreThere decls.now replacements.now }
+    requires written { AreWrittenDecls 0 (with_replacements decls.now replacements.now) }
     requires room { B.workers ≡ 0 → (B.state board.old).version < 2 ^ 64 - 1 }
-    ensures is_module { IfSome result (λ x. IsModuleOf (slice_set decls.now replacement.now.at replacement.now.decl) typed.new) }
+    ensures is_module { IfSome result (λ x. IsModuleOf (with_replacements decls.now replacements.now) typed.new) }
     ensures opened { IfSome result (λ x. IsReopened B.workers (B.state board.old) (B.noted board.old) (B.state board.new) (B.noted board.new) turns typed.new kept.old.procs kept.new.procs (reply_view x)) }
     ensures typed { IfNone result (typed.new ≡ typed.old) }
     ensures kept { IfNone result (kept.new ≡ kept.old) }
     ensures board { IfNone result (IsUndone B.workers (B.state board.old) (B.noted board.old) (B.state board.new) (B.noted board.new)) }
 {
-    has_few(typed);
-    match revision_of(alloc, decls, replacement) {
-        Ok(Some(revision)) => {
-            reopen_with(
-                alloc,
-                typed,
-                kept,
-                board,
-                replacement.at,
-                revision,
-                turns,
-                steps,
-            )
+    let count = count_decls(typed);
+    match revisions_of(alloc, decls, count, replacements) {
+        Ok(Some(mut revisions)) => {
+            reopen_with(alloc, typed, kept, board, &mut revisions, turns, steps)
         }
         Ok(None) | Err(_) => None,
     }

@@ -1,5 +1,5 @@
 // The session.
-ghost use Rattle.std.specs.Prelude.{◌≡◌, ◌<◌, ◌^◌, ◌-◌, length, slice_set, Result, Ok, Err, IfOk, IfErr, IfSome, IfNone};
+ghost use Rattle.std.specs.Prelude.{◌≡◌, ◌<◌, ◌^◌, ◌-◌, length, Result, Ok, Err, IfOk, IfErr, IfSome, IfNone};
 ghost use Rattle.bpl_model.specs.Module.{Module as typed_module};
 ghost use Rattle.canonical_text.specs.RoundTrip.{AreWrittenDecls};
 ghost use Rattle.vc_build.specs.Rebuild.{built, rebuilt as rebuilt_of};
@@ -7,6 +7,7 @@ ghost use Rattle.fault_text.specs.FaultView.{SourcesAreShort};
 ghost use Rattle.tableau.specs.Settled.{Settled as settled};
 ghost use Rattle.board_core.specs.Board.{first};
 ghost use Rattle.program_edits.specs.Edited.{IsEdited, edited as edited_to};
+ghost use Rattle.program_edits.specs.Replaced.{with_replacements, AreThere};
 ghost use Rattle.program_edits.specs.Refusals.{IsChange, TextsAreShort};
 ghost use Rattle.request_text.specs.Request as asked;
 ghost use Rattle.request_text.specs.RequestView.{request_view, IsAnswer};
@@ -26,7 +27,7 @@ use crate::texts::has_short_texts;
 use bpl_ast::Decl;
 use bv_base::Steps;
 use goal_board::GoalBoard;
-use program_edits::{Replacement, edited, replacement_of};
+use program_edits::{Replacement, edited, replacements_of};
 use request_text::{BadRequest, Reply, Request};
 use std::alloc::{AllocError, Global};
 use std::marker::Model;
@@ -140,7 +141,7 @@ impl<B: GoalBoard, L: Ledger> Session<B, L> {
         }
     }
 
-    // An open or an edit: where one procedure gets another body, the program stays open with it.
+    // An open or an edit: where procedures get other bodies, the program stays open with them.
     #[tactic(auto, using(crate::proofs::Answering::no_later))]
     fn edit(&mut self, request: &Request) -> Result<Reply, AllocError>
         requires change { IsChange (request_view request.now) }
@@ -157,7 +158,7 @@ impl<B: GoalBoard, L: Ledger> Session<B, L> {
         }
     }
 
-    // An edit of one procedure's body; else nothing changes.
+    // An edit of the bodies of procedures; else nothing changes.
     fn revise(&mut self, request: &Request) -> Option<Reply>
         requires short { TextsAreShort (request_view request.now) }
         requires room { HasRoom self.old }
@@ -165,19 +166,19 @@ impl<B: GoalBoard, L: Ledger> Session<B, L> {
         ensures later { IfSome result (λ x. IsLater self.old self.new) }
         ensures same { IfNone result (IsUnchanged self.old self.new) }
     {
-        match replacement_of(self.alloc, self.opened.decls(), request) {
-            Ok(Some(replacement)) => self.put(replacement),
+        match replacements_of(self.alloc, self.opened.decls(), request) {
+            Ok(Some(replacements)) => self.put(replacements),
             Ok(None) | Err(_) => None,
         }
     }
 
-    // The declaration takes the place of the one that stands there; else nothing changes.
-    fn put(&mut self, replacement: Replacement) -> Option<Reply>
-        requires there { replacement.at < length self.old.state.decls }
-        requires short { SourcesAreShort (slice_set self.old.state.decls replacement.at replacement.decl) }
-        requires written { AreWrittenDecls 0 (slice_set self.old.state.decls replacement.at replacement.decl) }
+    // The declarations take the places of those that stand there; else nothing changes.
+    fn put(&mut self, replacements: Vec<Replacement>) -> Option<Reply>
+        requires there { AreThere self.old.state.decls replacements.items }
+        requires short { SourcesAreShort (with_replacements self.old.state.decls replacements.items) }
+        requires written { AreWrittenDecls 0 (with_replacements self.old.state.decls replacements.items) }
         requires room { HasRoom self.old }
-        ensures answered { IfSome result (λ x. (r : asked.Request) → IsEdited self.old.state.decls r (edited_to (slice_set self.old.state.decls replacement.at replacement.decl)) → IsAnswered self.old (Ok r) (reply_view x) self.new) }
+        ensures answered { IfSome result (λ x. (r : asked.Request) → IsEdited self.old.state.decls r (edited_to (with_replacements self.old.state.decls replacements.items)) → IsAnswered self.old (Ok r) (reply_view x) self.new) }
         ensures later { IfSome result (λ x. IsLater self.old self.new) }
         ensures same { IfNone result (IsUnchanged self.old self.new) }
     {
@@ -185,7 +186,7 @@ impl<B: GoalBoard, L: Ledger> Session<B, L> {
         match self.opened.revise(
             self.alloc,
             &mut self.board,
-            replacement,
+            replacements,
             self.turns,
             &mut self.steps,
         ) {

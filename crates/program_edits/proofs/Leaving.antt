@@ -1,11 +1,11 @@
 -- What is taken of a request is what it leaves of the declarations.
-use Rattle.std.proofs.Common.{◌≡◌, ◌∙◌, refl, sym, ap, subst, ℕ, not, List, [], ◌∷◌, find, Option, Some, None, Result, Ok, Err, ok_or}
+use Rattle.std.proofs.Common.{◌≡◌, ◌∙◌, refl, ap, subst, ℕ, not, List, [], ◌∷◌, find, Option, Some, None, Result, Ok, Err, ok_or}
 use Rattle.bpl_ast.specs.Statement.{Decl}
 use Rattle.bpl_grammar.specs.Fault.{Fault}
 use Rattle.bpl_grammar.specs.Programs.{SpellsProgram}
 use Rattle.bpl_scopes.specs.Fault.{is_among}
 use Rattle.request_text.specs.Request.{Put, Request, open_text, edit, status, report, sums, proofs, quit}
-use Rattle.program_edits.specs.Edited.{Edited, edited, other_name, IsReadAs, Texts, TellsTexts, the_one, put_as, and_then, names, after_puts, opened, puts_of, unless_lacking, edited_by, IsEdited}
+use Rattle.program_edits.specs.Edited.{Edited, edited, other_name, IsReadAs, Texts, TellsTexts, the_one, put_as, and_then, names, after_puts, opened, puts_of, unless_lacking, IsEdited}
 use Rattle.program_edits.specs.Leaves.{ArePut, Leaves}
 use Rattle.program_edits.specs.Leaves as leaves
 use Rattle.program_edits.proofs.Keeps.{puts_refuse}

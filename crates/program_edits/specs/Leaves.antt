@@ -1,5 +1,5 @@
 -- What an open or an edit that is taken leaves of the declarations.
-use Rattle.std.specs.Prelude.{◌≡◌, ℕ, List, [], ◌∷◌, Option, Some}
+use Rattle.std.specs.Prelude.{◌≡◌, ℕ, List, [], ◌∷◌, Some}
 use Rattle.bpl_ast.specs.Statement.{Decl}
 use Rattle.bpl_grammar.specs.Programs.{SpellsProgram}
 use Rattle.request_text.specs.Request.{Put, Request, open_text, edit}

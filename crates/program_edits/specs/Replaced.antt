@@ -1,8 +1,9 @@
--- The declaration that takes the place of another, where an edit does nothing else.
-use Rattle.std.specs.Prelude.{◌≡◌, ℕ, suc, ◌||◌, cond, List, [], ◌∷◌, Option, Some, None, option_map, Result, Ok, Err, bytes_eq}
+-- The declarations that take the places of others, where an edit does nothing else.
+use Rattle.std.specs.Prelude.{◌≡◌, ℕ, suc, ◌<◌, ◌||◌, cond, List, [], ◌∷◌, map, length, slice_set, Option, Some, None, option_map, Result, Ok, Err, bytes_eq}
+use Rattle.std.specs.List.{AllByRecursion}
 use Rattle.bpl_ast.specs.Statement.{Decl}
 use Rattle.bpl_scopes.specs.Fault.{is_among}
-use Rattle.request_text.specs.Request.{Request, open_text, edit, status, report, sums, proofs, quit}
+use Rattle.request_text.specs.Request.{Put, Request, open_text, edit, status, report, sums, proofs, quit}
 use Rattle.program_edits.specs.Edited.{Edited, Texts, TellsTexts, is_axiom, names, put_as}
 use Rattle.program_edits.specs.declared.replaced.Replacement.{Replacement}
 
@@ -23,13 +24,23 @@ abbrev pub placed : List Decl → Option Decl → Option Replacement
 placed old None = None
 placed old (Some d) = option_map (λ k. record { at = k; decl = d }) (only_place d.name old)
 
--- by what each text spells: only an edit of one put without a drop is one
+-- the first and all others
+abbrev pub with_all : Option Replacement → Option (List Replacement) → Option (List Replacement)
+with_all None os = None
+with_all (Some r) os = option_map (λ rs. r ∷ rs) os
+
+abbrev pub all_placed : List Decl → List (Option Decl) → Option (List Replacement)
+all_placed old [] = Some []
+all_placed old (o ∷ os) = with_all (placed old o) (all_placed old os)
+
+-- by what each text spells: only an edit without a drop is one
 module _ (spelled : Texts) where
-  abbrev pub replaced_by : List Decl → Request → Option Replacement
-  replaced_by old (edit (p ∷ []) []) = placed old (plain (put_as p (spelled p.text)))
-  replaced_by old (edit (p ∷ []) (n ∷ ns)) = None
-  replaced_by old (edit [] ns) = None
-  replaced_by old (edit (p ∷ q ∷ ps) ns) = None
+  abbrev pub plain_puts : List Put → List (Option Decl)
+  plain_puts ps = map (λ (p : Put). plain (put_as p (spelled p.text))) ps
+
+  abbrev pub replaced_by : List Decl → Request → Option (List Replacement)
+  replaced_by old (edit ps []) = all_placed old (plain_puts ps)
+  replaced_by old (edit ps (n ∷ ns)) = None
   replaced_by old (open_text text) = None
   replaced_by old status = None
   replaced_by old report = None
@@ -37,6 +48,15 @@ module _ (spelled : Texts) where
   replaced_by old proofs = None
   replaced_by old quit = None
 
--- the request puts this declaration in the place of another, and does nothing else; or it is no such edit
-abbrev pub Replaces : List Decl → Request → Option Replacement → Type 0
+-- the request puts these declarations in the places of others, and does nothing else; or it is no such edit
+abbrev pub Replaces : List Decl → Request → Option (List Replacement) → Type 0
 Replaces old r o = (spelled : Texts) × TellsTexts spelled × (replaced_by spelled old r ≡ o)
+
+-- the declarations with these in their places, the last first
+abbrev pub with_replacements : List Decl → List Replacement → List Decl
+with_replacements ds [] = ds
+with_replacements ds (r ∷ rs) = slice_set (with_replacements ds rs) r.at r.decl
+
+-- each place is there
+abbrev pub AreThere : List Decl → List Replacement → Type 0
+AreThere ds rs = AllByRecursion (λ (r : Replacement). r.at < length ds) rs

@@ -16,7 +16,7 @@ mod puts;
 pub mod edits;
 mod places;
 
-// The declaration that takes the place of another, where an edit does nothing else.
+// The declarations that take the places of others, where an edit does nothing else.
 pub mod replaced;
 
 // An edit makes one thing of declarations.
@@ -24,4 +24,4 @@ pub mod laws;
 
 pub use edits::edited;
 pub use fault::EditFault;
-pub use replaced::{Replacement, replacement_of};
+pub use replaced::{Replacement, replacements_of};

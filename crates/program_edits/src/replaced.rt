@@ -1,11 +1,12 @@
 // The declaration that takes the place of another.
-ghost use Rattle.std.specs.Prelude.{◌≡◌, ◌<◌, ◌-◌, ◌^◌, ◌||◌, cond, length, slice_set, option_map, Some, None, IfOk, IfSome, string_bytes};
+ghost use Rattle.std.specs.List.{All};
+ghost use Rattle.std.specs.Prelude.{◌≡◌, ◌<◌, ◌-◌, ◌^◌, ◌||◌, cond, length, map, option_map, Some, None, IfOk, IfSome, string_bytes};
 ghost use Rattle.bpl_scopes.specs.Fault.{is_among};
 ghost use Rattle.fault_text.specs.FaultView.{SourcesAreShort};
 ghost use Rattle.request_text.specs.RequestView.{put_view, request_view};
 ghost use Rattle.program_edits.specs.Edited.{edited, names, is_axiom, put_as, numbered, IsEdited};
 ghost use Rattle.program_edits.specs.Refusals.{TextsAreShort, reading};
-ghost use Rattle.program_edits.specs.Replaced.{only_place, unless_axiom, plain, placed, replaced_by, Replaces};
+ghost use Rattle.program_edits.specs.Replaced.{only_place, unless_axiom, plain, placed, all_placed, plain_puts, replaced_by, Replaces, with_replacements, AreThere};
 
 use crate::fault::EditFault;
 use crate::names::is_axiom;
@@ -106,19 +107,42 @@ fn put_placed(alloc: Global, old: &[Decl], put: &Put) -> Result<Option<Replaceme
     }
 }
 
+// The declarations of puts, each in the place of the only one of its name.
+#[tactic(auto, using(crate::proofs::Replacing::none_behind, crate::proofs::Replacing::one_more))]
+fn all_placed(
+    alloc: Global,
+    old: &[Decl],
+    puts: &[Put],
+) -> Result<Option<Vec<Replacement>>, AllocError>
+    requires short { All (λ (p : Put). length (string_bytes p.text) < 2 ^ 32 - 1) puts.now }
+    ensures { IfOk result (λ o. option_map (λ v. v.items) o ≡ all_placed old.now (plain_puts reading (map put_view puts.now))) }
+{
+    let mut found = Vec::new(alloc);
+    for put in puts {
+        match put_placed(alloc, old, put)? {
+            Some(replacement) => found.push(replacement)?,
+            None => return Ok(None),
+        }
+    }
+    Ok(Some(found))
+}
+
 fn replaced_exactly(
     alloc: Global,
     old: &[Decl],
     edit: &Request,
-) -> Result<Option<Replacement>, AllocError>
+) -> Result<Option<Vec<Replacement>>, AllocError>
     requires short { TextsAreShort (request_view edit.now) }
-    ensures { IfOk result (λ o. o ≡ replaced_by reading old.now (request_view edit.now)) }
+    ensures { IfOk result (λ o. option_map (λ v. v.items) o ≡ replaced_by reading old.now (request_view edit.now)) }
 {
     match edit {
-        Request::Edit { put, drop } => match put.as_slice() {
-            [put] if drop.is_empty() => put_placed(alloc, old, put),
-            _ => Ok(None),
-        },
+        Request::Edit { put, drop } => {
+            if drop.is_empty() {
+                all_placed(alloc, old, put)
+            } else {
+                Ok(None)
+            }
+        }
         Request::Open { .. }
         | Request::Status
         | Request::Report
@@ -128,22 +152,22 @@ fn replaced_exactly(
     }
 }
 
-/// The declaration that an edit puts in the place of another, where it does nothing else: it has one
-/// put and no drop, the put's text is one declaration of its name, exactly one old declaration has
-/// that name, and neither is an axiom. Each other request gives `None`, one that is refused too:
-/// `edited` tells why. The old declarations, whose axioms have their numbers, are lent; the others
-/// stay as they are.
-pub fn replacement_of(
+/// The declarations that an edit puts in the places of others, in the order of its puts, where it does
+/// nothing else: it has no drop, each put's text is one declaration of its name, exactly one old
+/// declaration has that name, and neither is an axiom. Each other request gives `None`, one that is
+/// refused too: `edited` tells why. The old declarations, whose axioms have their numbers, are lent; the
+/// others stay as they are.
+pub fn replacements_of(
     alloc: Global,
     old: &[Decl],
     edit: &Request,
-) -> Result<Option<Replacement>, AllocError>
+) -> Result<Option<Vec<Replacement>>, AllocError>
     requires short { TextsAreShort (request_view edit.now) }
     requires numbered { numbered 0 old.now ≡ old.now }
-    ensures exact { IfOk result (Replaces old.now (request_view edit.now)) }
-    ensures there { IfOk result (λ o. IfSome o (λ r. r.at < length old.now)) }
-    ensures edited { IfOk result (λ o. IfSome o (λ r. IsEdited old.now (request_view edit.now) (edited (slice_set old.now r.at r.decl)))) }
-    ensures sources { IfOk result (λ o. IfSome o (λ r. SourcesAreShort old.now → SourcesAreShort (slice_set old.now r.at r.decl))) }
+    ensures exact { IfOk result (λ o. Replaces old.now (request_view edit.now) (option_map (λ v. v.items) o)) }
+    ensures there { IfOk result (λ o. IfSome o (λ v. AreThere old.now v.items)) }
+    ensures edited { IfOk result (λ o. IfSome o (λ v. IsEdited old.now (request_view edit.now) (edited (with_replacements old.now v.items)))) }
+    ensures sources { IfOk result (λ o. IfSome o (λ v. SourcesAreShort old.now → SourcesAreShort (with_replacements old.now v.items))) }
 {
     replaced_exactly(alloc, old, edit)
 }

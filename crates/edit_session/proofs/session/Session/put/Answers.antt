@@ -1,5 +1,5 @@
 use Rattle.std.proofs.Common.{sym, subst}
-use Rattle.std.specs.Prelude.{slice_set}
+use Rattle.program_edits.specs.Replaced.{with_replacements}
 use Rattle.edit_session.specs.Kept.{HasRoom}
 use Rattle.edit_session.proofs.OnePut.{put_goes, unput_same, unput_ready}
 use Rattle.edit_session.proofs.Sessions.{session, opened_later, opened_ready}
@@ -25,7 +25,7 @@ invariant_of-self-in-None g c =
 pub returns-in-Some-clause-answered : goal.returns-in-Some-clause-answered
 returns-in-Some-clause-answered g c =
     let i = c.self.inside in
-    rw (← c.self.view_is) (put_goes i.turns _ i.opened c.revise.new.self i.version _ _ _ _ _ (slice_set i.opened.decls c.args.replacement.at c.args.replacement.decl) c.self.invariant.version c.has_module.ensures c.in-Some.ensures.decls c.in-Some.ensures.is_module c.in-Some.ensures.opened)
+    rw (← c.self.view_is) (put_goes i.turns _ i.opened c.revise.new.self i.version _ _ _ _ _ (with_replacements i.opened.decls c.args.replacements.items) c.self.invariant.version c.has_module.ensures c.in-Some.ensures.decls c.in-Some.ensures.is_module c.in-Some.ensures.opened)
 
 pub returns-in-Some-clause-later : goal.returns-in-Some-clause-later
 returns-in-Some-clause-later g c =

@@ -1,0 +1,94 @@
+use Rattle.std.proofs.Common.{◌≡◌, ◌∙◌, sym, ap, subst, arith, []}
+use Rattle.std.proofs.lemmas.Grind.{common_steps}
+use Rattle.bpl_goto.specs.Forward.{AllGoForward}
+use Rattle.bpl_model.specs.Typed.{IsTypedModule}
+use Rattle.bpl_model.specs.Module.{Module}
+use Rattle.rebuild_laws.specs.Resolved.{IsResolved}
+use Rattle.body_revision.specs.Revision.{all_revised}
+use Rattle.edit_session.specs.Revising.{CanBePut}
+use Rattle.edit_session.proofs.Revised.{last_put, last_revised, none_revised, put_back, still_there}
+use Rattle.edit_session.proofs.revising.+reopen_with.Goals as goal
+
+pub reopen-requires-clause-forward : goal.reopen-requires-clause-forward
+reopen-requires-clause-forward g t c =
+    let none : c.args.revisions.now.items ≡ [] = grind (arith, common_steps) in
+    subst AllGoForward (none_revised c.args.typed.now c.args.revisions.now.items none) c.requires.forward
+
+pub reopen-requires-clause-resolved : goal.reopen-requires-clause-resolved
+reopen-requires-clause-resolved g t c =
+    let none : c.args.revisions.now.items ≡ [] = grind (arith, common_steps) in
+    subst IsResolved (none_revised c.args.typed.now c.args.revisions.now.items none) c.requires.resolved
+
+pub returns-in-Ok-clause-revised : goal.returns-in-Ok-clause-revised
+returns-in-Ok-clause-revised g t c =
+    let none : c.args.revisions.now.items ≡ [] = grind (arith, common_steps) in
+    sym (none_revised c.args.typed.now c.args.revisions.now.items none)
+
+pub put_procedure-before-requires-clause-procs : goal.put_procedure-before-requires-clause-procs
+put_procedure-before-requires-clause-procs g t c =
+    (last_put c.args.typed.now c.pop.new.self.items c.in-Some.revision (subst (CanBePut c.args.typed.now) c.in-Some.ensures.items c.requires.each)).proc
+
+pub put_procedure-before-requires-clause-texts : goal.put_procedure-before-requires-clause-texts
+put_procedure-before-requires-clause-texts g t c =
+    (last_put c.args.typed.now c.pop.new.self.items c.in-Some.revision (subst (CanBePut c.args.typed.now) c.in-Some.ensures.items c.requires.each)).text
+
+pub put_procedure-before-requires-clause-typed : goal.put_procedure-before-requires-clause-typed
+put_procedure-before-requires-clause-typed g t c =
+    (last_put c.args.typed.now c.pop.new.self.items c.in-Some.revision (subst (CanBePut c.args.typed.now) c.in-Some.ensures.items c.requires.each)).after
+
+pub reopen_with-requires : goal.reopen_with-requires
+reopen_with-requires g t c =
+    let popped = c.in-Some.ensures.items in
+    let v = c.in-Some.revision in
+    let rest = c.pop.new.self.items in
+    let m = c.args.typed.now in
+    let put = c.put_procedure-before.ensures.put in
+    let last = last_put m rest v (subst (CanBePut m) popped c.requires.each) in
+    let whole = last_revised m rest c.args.revisions.now.items v popped in
+    λ κs outlives. (
+      grind (arith, common_steps, c.decreases),
+      (
+        outlives.0,
+        (
+          outlives.1,
+          (
+            subst (λ (n : Module). CanBePut n rest) (sym put) last.rest,
+            (subst (λ (n : Module). AllGoForward (all_revised n rest)) (sym put) (subst AllGoForward whole c.requires.forward), (subst (λ (n : Module). IsResolved (all_revised n rest)) (sym put) (subst IsResolved whole c.requires.resolved), c.requires.room)),
+          ),
+        ),
+      ),
+    )
+
+pub returns-in-Some-reopen_with-clause-revised : goal.returns-in-Some-reopen_with-clause-revised
+returns-in-Some-reopen_with-clause-revised g t c =
+    let rest = c.pop.new.self.items in
+    c.in-Some-reopen_with.ensures.revised ∙ ap (λ (n : Module). all_revised n rest) c.put_procedure-before.ensures.put ∙ sym (last_revised c.args.typed.now rest c.args.revisions.now.items c.in-Some.revision c.in-Some.ensures.items)
+
+pub put_procedure-requires-clause-procs : goal.put_procedure-requires-clause-procs
+put_procedure-requires-clause-procs g t c =
+    let v = c.in-Some.revision in
+    let m = c.args.typed.now in
+    let last = last_put m c.pop.new.self.items v (subst (CanBePut m) c.in-Some.ensures.items c.requires.each) in
+    (still_there m c.reopen_with.new.typed v.proc_at v.decl_at v.declared.proc v.declared.text (c.in-None-reopen_with.ensures.typed ∙ c.put_procedure-before.ensures.put) last.proc last.text).0
+
+pub put_procedure-requires-clause-texts : goal.put_procedure-requires-clause-texts
+put_procedure-requires-clause-texts g t c =
+    let v = c.in-Some.revision in
+    let m = c.args.typed.now in
+    let last = last_put m c.pop.new.self.items v (subst (CanBePut m) c.in-Some.ensures.items c.requires.each) in
+    (still_there m c.reopen_with.new.typed v.proc_at v.decl_at v.declared.proc v.declared.text (c.in-None-reopen_with.ensures.typed ∙ c.put_procedure-before.ensures.put) last.proc last.text).1
+
+pub put_procedure-requires-clause-typed : goal.put_procedure-requires-clause-typed
+put_procedure-requires-clause-typed g t c =
+    let v = c.in-Some.revision in
+    let m = c.args.typed.now in
+    let put = c.put_procedure-before in
+    let last = last_put m c.pop.new.self.items v (subst (CanBePut m) c.in-Some.ensures.items c.requires.each) in
+    let back = put_back m c.reopen_with.new.typed v.proc_at v.decl_at v.declared.proc put.result.proc v.declared.text put.result.text (c.in-None-reopen_with.ensures.typed ∙ put.ensures.put) put.ensures.proc put.ensures.text in
+    subst IsTypedModule (sym back) last.before
+
+pub returns-in-None-reopen_with-clause-typed : goal.returns-in-None-reopen_with-clause-typed
+returns-in-None-reopen_with-clause-typed g t c =
+    let v = c.in-Some.revision in
+    let put = c.put_procedure-before in
+    c.put_procedure.ensures.put ∙ put_back c.args.typed.now c.reopen_with.new.typed v.proc_at v.decl_at v.declared.proc put.result.proc v.declared.text put.result.text (c.in-None-reopen_with.ensures.typed ∙ put.ensures.put) put.ensures.proc put.ensures.text
