@@ -1,10 +1,10 @@
 -- A fact combined from facts that hold holds.
 -- Here r is the value of a fact, g and h the values of its parts, x and y those of the forms.
-use Rattle.std.proofs.Common.{◌≡◌, ◌∙◌, refl, sym, ap, subst, ℕ, ◌*◌, ℤ, pos, negsuc, ◌+ℤ◌, ◌*ℤ◌, int_lt, int_le, int_eq, Bool, true, false, not, ◌&&◌, IsTrue, Some, List, arith}
+use Rattle.std.proofs.Common.{◌≡◌, ◌∙◌, sym, ap, subst, ℕ, ◌*◌, ℤ, pos, negsuc, ◌+ℤ◌, ◌*ℤ◌, int_lt, int_le, true, ◌&&◌, IsTrue, Some, List, arith}
 use Rattle.std.proofs.Math.IntN.{pos-*ℤ-pos}
 use Rattle.std.proofs.lemmas.Int.{ints}
 use Rattle.logic_core.proofs.Booleans.{both_true}
-use Rattle.logic_core.specs.Tree.{Kind, int, boolean, Tree, num, equal, at_most}
+use Rattle.logic_core.specs.Tree.{Kind, int, boolean, Tree, equal, at_most}
 use Rattle.logic_core.specs.Def.{Def}
 use Rattle.logic_core.specs.Value.{Value, whole, flag, int_of, holds, same, are_of}
 use Rattle.logic_core.specs.Valid.{calls_of}
@@ -25,7 +25,7 @@ use Rattle.logic_laws.proofs.SumValues.{linear_gives}
 use Rattle.logic_laws.proofs.FormulaValues.{zero_found, zero_at_most_gives}
 use Rattle.logic_laws.proofs.Assigned.{call_sorts, holds_stable, is_value, value_is}
 use Rattle.linear_certs.specs.Multiplier.{may_multiply}
-use Rattle.linear_certs.proofs.CombinedSorts.{OfInts, combined_ints, fact_ints, form_ints}
+use Rattle.linear_certs.proofs.CombinedSorts.{combined_ints, fact_ints, form_ints}
 use Rattle.linear_certs.proofs.CombinedValues.{FormIs, combined_is, form_of_term_is, form_is}
 
 -- what a linear fact says of the value of its form

@@ -14,7 +14,7 @@ use Rattle.logic_core.proofs.Values.{HasOne}
 use Rattle.logic_core.proofs.Kept.{Keeps}
 use Rattle.logic_laws.proofs.Integers as Z
 use Rattle.logic_laws.proofs.Options.{bind_some, cond_has}
-use Rattle.logic_laws.proofs.Gives.{Gives, GivesSum}
+use Rattle.logic_laws.proofs.Gives.{Gives}
 use Rattle.logic_laws.proofs.ValueSorts.{CallsHaveSorts}
 use Rattle.logic_laws.proofs.SumValues.{GivesLinear, constant_gives, term_gives}
 

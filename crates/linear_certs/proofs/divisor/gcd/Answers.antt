@@ -1,4 +1,4 @@
-use Rattle.std.proofs.Common.{◌≡◌, ◌∙◌}
+use Rattle.std.proofs.Common.{◌∙◌}
 use Rattle.linear_certs.proofs.Euclid.{gcd_step}
 use Rattle.linear_certs.proofs.divisor.gcd.Goals as goal
 
