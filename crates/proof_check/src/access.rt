@@ -9,6 +9,7 @@ ghost use Rattle.proof_check.specs.Refusals.{Finds};
 use crate::context::Context;
 use crate::fault::Refusal;
 use logic_core::def::Def;
+use logic_core::normal::normal_over;
 use logic_core::term::{Node, Term};
 use std::alloc::{AllocError, Global};
 
@@ -33,7 +34,7 @@ pub fn distance(
 {
     let parts = [(1, at.copy(alloc)?), (-1, index.copy(alloc)?)];
     let sum = Term::new(Node::Sum(Vec::from_array(alloc, parts)?, 0));
-    context.normal(alloc, defs, &sum)
+    Ok(normal_over(alloc, &sum, &context.vars, defs)?)
 }
 
 // What a Read at `index` of a map that was written at `at` reads, where the distance of the two is a

@@ -13,6 +13,7 @@ ghost use Rattle.proof_check.specs.Added.{with_facts};
 
 use crate::access::{distance, read};
 use crate::context::Context;
+use crate::fact::Fact;
 use crate::fault::Refusal;
 use logic_core::copy::copy_terms;
 use logic_core::def::Def;
@@ -21,26 +22,33 @@ use logic_core::sort::Sort;
 use logic_core::term::{Node, Term};
 use std::alloc::{AllocError, Global};
 
-/// A formula for the first child, and one for each of the others.
+/// Formulas of which one holds: the first, and the others.
+#[derive(Drop)]
+struct CaseFormulas {
+    first: Term,
+    others: Vec<Term>,
+}
+
+/// A fact for the first child, and one for each of the others.
 #[derive(Drop)]
 pub struct CaseFacts {
-    pub first: Term,
-    pub others: Vec<Term>,
+    pub first: Fact,
+    pub others: Vec<Fact>,
 }
 
 /// The facts that are added where a condition holds, and where it doesn't.
 #[derive(Drop)]
 pub struct Branches {
-    pub yes: Vec<Term>,
-    pub no: Vec<Term>,
+    pub yes: Vec<Fact>,
+    pub no: Vec<Fact>,
 }
 
 /// The facts that are added where a number is below, at and above zero.
 #[derive(Drop)]
 pub struct Signs {
-    pub below: Vec<Term>,
-    pub same: Vec<Term>,
-    pub above: Vec<Term>,
+    pub below: Vec<Fact>,
+    pub same: Vec<Fact>,
+    pub above: Vec<Fact>,
 }
 
 // Not t.
@@ -59,11 +67,11 @@ fn both(alloc: Global, s: Term, t: Term) -> Result<Term, AllocError>
 
 // The parts of an Or, of which there is one at least.
 #[tactic(auto, using(crate::proofs::Listed::listed_trees))]
-fn disjuncts(alloc: Global, parts: &[Term]) -> Result<CaseFacts, Refusal>
+fn disjuncts(alloc: Global, parts: &[Term]) -> Result<CaseFormulas, Refusal>
     ensures { FindsAs (λ p. (p.first, p.others.items)) result (disjuncts (trees_of parts.now)) }
 {
     match parts.split_first() {
-        Some((first, others)) => Ok(CaseFacts {
+        Some((first, others)) => Ok(CaseFormulas {
             first: first.copy(alloc)?,
             others: copy_terms(alloc, others)?,
         }),
@@ -78,7 +86,7 @@ fn equal_cases(
     context: &Context,
     p: &Term,
     q: &Term,
-) -> Result<CaseFacts, Refusal>
+) -> Result<CaseFormulas, Refusal>
     ensures { FindsAs (λ c. (c.first, c.others.items)) result (equal_cases defs.now context.now p.now q.now) }
 {
     if !p.has_sort(alloc, &context.vars, defs, &[], &Sort::boolean())? {
@@ -86,7 +94,7 @@ fn equal_cases(
     }
     let first = both(alloc, p.copy(alloc)?, q.copy(alloc)?)?;
     let second = both(alloc, not(alloc, p)?, not(alloc, q)?)?;
-    Ok(CaseFacts {
+    Ok(CaseFormulas {
         first,
         others: Vec::from_array(alloc, [second])?,
     })
@@ -98,7 +106,7 @@ fn unequal_cases(
     defs: &[Def],
     context: &Context,
     t: &Term,
-) -> Result<CaseFacts, Refusal>
+) -> Result<CaseFormulas, Refusal>
     ensures { FindsAs (λ c. (c.first, c.others.items)) result (unequal_cases defs.now context.now t.now) }
 {
     match &t.node {
@@ -108,7 +116,7 @@ fn unequal_cases(
             }
             let first = both(alloc, p.copy(alloc)?, not(alloc, q)?)?;
             let second = both(alloc, not(alloc, p)?, q.copy(alloc)?)?;
-            Ok(CaseFacts {
+            Ok(CaseFormulas {
                 first,
                 others: Vec::from_array(alloc, [second])?,
             })
@@ -118,7 +126,12 @@ fn unequal_cases(
 }
 
 // The formulas of which one holds where the fact does.
-fn cases(alloc: Global, defs: &[Def], context: &Context, fact: &Term) -> Result<CaseFacts, Refusal>
+fn cases(
+    alloc: Global,
+    defs: &[Def],
+    context: &Context,
+    fact: &Term,
+) -> Result<CaseFormulas, Refusal>
     ensures { FindsAs (λ c. (c.first, c.others.items)) result (cases defs.now context.now fact.now) }
 {
     match &fact.node {

@@ -1,15 +1,16 @@
 // Where a node of a proof stands: the sorts of the variables there, and the normal facts so far.
-ghost use Rattle.std.specs.Prelude.{◌≡◌, [], ◌∷◌, IfOk, IfErr, OnOk, option_copied};
+ghost use Rattle.std.specs.Prelude.{◌≡◌, [], ◌∷◌, IfOk, IfErr, IfSome, OnOk, option_copied};
 ghost use Rattle.logic_core.specs.Normal.{normal};
+ghost use Rattle.linear_certs.specs.FallingLaws.{EachSumFalls};
 ghost use Rattle.proof_core.specs.Context.{Context as context, fact, named, with_fact, start, appended, appended_each};
 ghost use Rattle.proof_check.specs.Refusals.{Finds, FindsAs};
 ghost use Rattle.proof_check.specs.declared.fault.Refusal.TheVariants.{Unmet};
 ghost use Rattle.proof_check.specs.Added.{extended, with_facts, normal_forms};
 
+use crate::fact::Fact;
 use crate::fault::Refusal;
 use logic_core::copy::{copy_sorts, copy_terms};
 use logic_core::def::Def;
-use logic_core::normal::normal_over;
 use logic_core::sort::Sort;
 use logic_core::term::{Node, Term};
 use obligation_text::obligation::Obligation;
@@ -20,7 +21,7 @@ use std::marker::Model;
 #[derive(Drop)]
 pub struct Context {
     pub vars: Vec<Sort>,
-    pub facts: Vec<Term>,
+    pub facts: Vec<Fact>,
 }
 
 impl Model for Context {
@@ -38,7 +39,7 @@ impl Model for Context {
 #[derive(Drop)]
 pub struct Added {
     pub vars: Vec<Sort>,
-    pub facts: Vec<Term>,
+    pub facts: Vec<Fact>,
 }
 
 impl Model for Added {
@@ -54,7 +55,7 @@ impl Model for Added {
 
 impl Added {
     /// One fact.
-    pub fn fact(alloc: Global, fact: Term) -> Result<Added, AllocError>
+    pub fn fact(alloc: Global, fact: Fact) -> Result<Added, AllocError>
         ensures { IfOk result (λ a. (c : context) → extended c a ≡ with_fact c fact) }
     {
         Ok(Added {
@@ -64,7 +65,7 @@ impl Added {
     }
 
     /// These facts.
-    pub fn facts(alloc: Global, facts: Vec<Term>) -> Added
+    pub fn facts(alloc: Global, facts: Vec<Fact>) -> Added
         ensures { (c : context) → extended c result ≡ with_facts c facts.items }
     {
         Added {
@@ -75,17 +76,22 @@ impl Added {
 }
 
 impl Context {
-    /// The fact of this number, where there is one.
+    /// The fact of this number, where there is one. In each of its sums the parts fall.
     pub fn known(&self, f: u64) -> Option<&Term>
-        ensures { option_copied result ≡ fact self.now f }
+        ensures known { option_copied result ≡ fact self.now f }
+        ensures falls { IfSome result (λ t. EachSumFalls t.now) }
     {
-        self.facts.get(f as usize)
+        match self.facts.get(f as usize) {
+            Some(fact) => Some(fact.term()),
+            None => None,
+        }
     }
 
-    /// The fact of this number. Unmet where there is none.
+    /// The fact of this number, in each of whose sums the parts fall. Unmet where there is none.
     pub fn fact(&self, f: u64) -> Result<&Term, Refusal>
         ensures finds { FindsAs (λ t. t.now) result (fact self.now f) }
         ensures known { IfErr result (λ e. e ≡ Unmet) }
+        ensures falls { IfOk result (λ t. EachSumFalls t.now) }
     {
         self.known(f).ok_or(Refusal::Unmet)
     }
@@ -98,10 +104,10 @@ impl Context {
     }
 
     /// The normal form over the variables here. Unmet where making it leaves 128 bits.
-    pub fn normal(&self, alloc: Global, defs: &[Def], t: &Term) -> Result<Term, Refusal>
+    pub fn normal(&self, alloc: Global, defs: &[Def], t: &Term) -> Result<Fact, Refusal>
         ensures { Finds result (normal self.now.vars defs.now [] t.now) }
     {
-        Ok(normal_over(alloc, t, &self.vars, defs)?)
+        Ok(Fact::normal(alloc, t, &self.vars, defs)?)
     }
 
     /// The normal form of each of these formulas.
@@ -110,7 +116,7 @@ impl Context {
         alloc: Global,
         defs: &[Def],
         terms: &[Term],
-    ) -> Result<Vec<Term>, Refusal>
+    ) -> Result<Vec<Fact>, Refusal>
         ensures { FindsAs (λ v. v.items) result (normal_forms self.now.vars defs.now terms.now) }
     {
         let mut forms = Vec::new(alloc);

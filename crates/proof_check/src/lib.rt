@@ -2,8 +2,9 @@
 //! otherwise which node is the first that doesn't. One function a rule, and one walk.
 #![tactic(auto)]
 
-// Faults, and where a node stands.
+// Faults, facts, and where a node stands.
 mod context;
+mod fact;
 mod fault;
 
 // The rules.

@@ -2,6 +2,7 @@
 // adds to the context. A rule is Unmet where its condition isn't met.
 ghost use Rattle.std.specs.Prelude.{◌≡◌, Some, IfOk};
 ghost use Rattle.logic_core.specs.Tree.{free, negation, equal, read};
+ghost use Rattle.linear_certs.specs.FallingLaws.{EachSumFalls};
 ghost use Rattle.proof_core.specs.Context.{new_variables, with_variables, appended};
 ghost use Rattle.proof_core.specs.Close.{is_negation_of, closes};
 ghost use Rattle.proof_core.specs.Split.{split};
@@ -14,13 +15,13 @@ ghost use Rattle.proof_check.specs.Added.{extended};
 
 use crate::access::{read, read_of};
 use crate::context::{Added, Context, append, append_each};
+use crate::fact::Fact;
 use crate::fault::Refusal;
 use linear_certs::{Linear, may_multiply, tighten as tightened};
 use logic_core::copy::copy_sorts;
 use logic_core::def::Def;
 use logic_core::fault::NormalFault;
 use logic_core::negation::negated;
-use logic_core::normal::normal_over;
 use logic_core::replace::replace as replaced;
 use logic_core::sort::{Sort, SortKind};
 use logic_core::sorts::are;
@@ -114,7 +115,7 @@ fn with_variables(
     let mut vars = copy_sorts(alloc, &context.vars)?;
     let mut new = copy_sorts(alloc, sorts)?;
     vars.append(&mut new)?;
-    let form = normal_over(alloc, t, &vars, defs)?;
+    let form = Fact::normal(alloc, t, &vars, defs)?;
     Ok(Added {
         vars: copy_sorts(alloc, sorts)?,
         facts: Vec::from_array(alloc, [form])?,
@@ -252,6 +253,8 @@ pub fn combine(
     g: &Term,
     q: i128,
 ) -> Result<Added, Refusal>
+    requires first { EachSumFalls f.now }
+    requires second { EachSumFalls g.now }
     ensures { FindsAs (λ a. extended context.now a) result (combination context.now f.now p g.now q) }
 {
     if !may_multiply(p, f) || !may_multiply(q, g) {
@@ -260,12 +263,15 @@ pub fn combine(
     let d = Linear::of(alloc, f)?.ok_or(Refusal::Unmet)?;
     let e = Linear::of(alloc, g)?.ok_or(Refusal::Unmet)?;
     let sum = Linear::combine(alloc, &d, p, &e, q)?;
-    Ok(Added::fact(alloc, sum.at_least_zero(alloc)?)?)
+    let least = Fact::new(sum.at_least_zero(alloc)?);
+    Ok(Added::fact(alloc, least)?)
 }
 
 /// tighten: the tightened fact.
 pub fn tighten(alloc: Global, context: &Context, fact: &Term) -> Result<Added, Refusal>
+    requires { EachSumFalls fact.now }
     ensures { FindsAs (λ a. extended context.now a) result (Some (tightened context.now fact.now)) }
 {
-    Ok(Added::fact(alloc, tightened(alloc, fact)?)?)
+    let tight = Fact::new(tightened(alloc, fact)?);
+    Ok(Added::fact(alloc, tight)?)
 }

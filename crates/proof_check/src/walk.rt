@@ -20,6 +20,7 @@ ghost use Rattle.proof_check.specs.declared.fault.CheckFault.TheVariants.{Memory
 
 use crate::children::{Branches, CaseFacts, Signs, past, split_cases, split_condition, trichotomy};
 use crate::context::{Added, Context, start};
+use crate::fact::Fact;
 use crate::fault::{CheckFault, Refusal};
 use crate::rules::{
     back, closes, combine, differ, instantiate, replace, skolem, split, tighten, unfold,
@@ -339,7 +340,7 @@ fn judge_child(
     defs: &[Def],
     context: &mut Context,
     node: u64,
-    facts: Vec<Term>,
+    facts: Vec<Fact>,
     proof: &Proof,
 ) -> Result<u64, CheckFault>
     ensures judged { JudgesAs (λ n. n) result (judged defs.now node (with_facts context.old facts.items) proof.now) }
@@ -361,7 +362,7 @@ fn judge_each(
     defs: &[Def],
     context: &mut Context,
     node: u64,
-    facts: &[Term],
+    facts: &[Fact],
     proofs: &[Proof],
 ) -> Result<u64, CheckFault>
     requires { length facts.now ≡ length proofs.now }
