@@ -21,7 +21,8 @@ use Rattle.numbered_branches.specs.Branches.{NumberedFact, NumberedBranch, fact_
 use Rattle.numbered_branches.specs.Standing.{IsBranchAt}
 use Rattle.numbered_branches.specs.declared.played.Attempt as tried
 use Rattle.numbered_branches.proofs.Changing.{branch_more}
-use Rattle.clause_search.specs.Rare.{is_exists, has_choice, is_map, are_maps, are_unequal_maps}
+use Rattle.numbered_facts.specs.Sorted.{is_map}
+use Rattle.clause_search.specs.Rare.{is_exists, has_choice, are_maps, are_unequal_maps}
 
 nothing : {A : Type 0} (o : Option A) → is_some o ≡ false → o ≡ None
 nothing None h = refl

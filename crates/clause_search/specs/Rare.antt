@@ -1,6 +1,6 @@
 -- Shapes of facts to which rules that are rare can be applied.
-use Rattle.std.specs.Prelude.{Bool, true, false, is_some, Option, Some, List, [], find}
-use Rattle.logic_core.specs.Tree.{Kind, map, Tree, negation, equal}
+use Rattle.std.specs.Prelude.{Bool, false, is_some, List, [], find}
+use Rattle.logic_core.specs.Tree.{Kind, Tree, negation, equal}
 use Rattle.logic_core.specs.Def.{Def}
 use Rattle.logic_core.specs.Sorts.{sort_of}
 use Rattle.logic_core.specs.Subterm.{outside}
@@ -10,6 +10,7 @@ use Rattle.tableau_branch.specs.Shapes.{is_choice}
 use Rattle.logic_rules.specs.Skolem.{body_of_exists, skolem}
 use Rattle.theory_rules.specs.Condition.{condition}
 use Rattle.theory_rules.specs.Differ.{differ}
+use Rattle.numbered_facts.specs.Sorted.{is_map}
 use Rattle.clause_search.specs.declared.by_trees.Rare.{Rare}
 use Rattle.clause_search.specs.declared.by_trees.Rare.TheVariants as rare
 
@@ -19,10 +20,6 @@ is_exists t = is_some (body_of_exists t)
 -- an If stands in it, outside quantifiers
 abbrev pub has_choice : Tree → Bool
 has_choice t = is_some (find is_choice (outside t))
-
-abbrev pub is_map : Option Kind → Bool
-is_map (Some (map k)) = true
-is_map k = false
 
 -- a Not Eq of maps
 module _ (vars : List Kind) (defs : List Def) where

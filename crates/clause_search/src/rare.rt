@@ -8,11 +8,10 @@ ghost use Rattle.term_bank.specs.Numbered.{at};
 ghost use Rattle.numbered_terms.specs.Stored.{Grows};
 ghost use Rattle.numbered_branches.specs.Applied.{TriesAt};
 ghost use Rattle.numbered_branches.specs.Branches.{NumberedFact, IsFactBelow, IsBranchOver, branch_at};
-ghost use Rattle.clause_search.specs.Rare.{is_exists, has_choice, is_map, are_maps, are_unequal_maps};
+ghost use Rattle.clause_search.specs.Rare.{is_exists, has_choice, are_maps, are_unequal_maps};
 
 use crate::by_trees::{Rare, through_trees};
 use logic_core::fault::NormalFault;
-use logic_core::sort::{Sort, SortKind};
 use numbered_branches::branch::{Branch, Fact};
 use numbered_branches::played::Attempt;
 use numbered_facts::Store;
@@ -95,19 +94,6 @@ pub fn condition(store: &mut Store, branch: Branch) -> Result<Attempt, NormalFau
     Ok(Attempt::Passes(branch))
 }
 
-// Whether it is the sort of a map.
-fn is_map(sort: &Option<Sort>) -> bool
-    ensures { result ≡ is_map sort.now }
-{
-    match sort {
-        Some(sort) => match &sort.kind {
-            SortKind::Map(_) => true,
-            _ => false,
-        },
-        None => false,
-    }
-}
-
 // Whether the term is an Eq of maps.
 fn are_maps(store: &mut Store, id: TermId) -> Result<bool, AllocError>
     requires { id < length store.old.terms }
@@ -117,8 +103,7 @@ fn are_maps(store: &mut Store, id: TermId) -> Result<bool, AllocError>
     match store.terms().node(id) {
         Node::Eq(left, _) => {
             let left = *left;
-            let sort = store.sort(left)?;
-            Ok(is_map(&sort))
+            store.is_map(left)
         }
         _ => Ok(false),
     }

@@ -51,6 +51,10 @@ fn stands_in(store: &mut Store, part: TermId, fact: TermId) -> Result<bool, Allo
     ensures grows { Grows store.old store.new }
     ensures stands { IfOk result (λ b. b ≡ stands_in (at store.old.terms part) (at store.old.terms fact)) }
 {
+    store.terms().are_stored();
+    if let Some(ids) = store.kept_ground(fact) {
+        return Ok(is_among(part, ids));
+    }
     let ids = store.ground(fact)?;
     store.terms().are_stored();
     Ok(is_among(part, &ids))

@@ -1,5 +1,5 @@
 -- Lists that a loop keeps of another, the first item of a list, and what is kept of numbers.
-use Rattle.std.proofs.Common.{◌≡◌, refl, true≢false, sym, ap, subst, ◌∙◌, ℕ, ◌+◌, ◌<◌, ◌≤◌, nat_eq, Bool, true, false, cond, Option, Some, None, is_some, List, [], ◌∷◌, ◌++◌, map, filter, find, length, take, drop, get_or}
+use Rattle.std.proofs.Common.{◌≡◌, refl, true≢false, sym, ap, subst, ◌∙◌, ℕ, ◌+◌, ◌<◌, ◌≤◌, Bool, true, false, cond, Option, Some, None, is_some, List, [], ◌∷◌, ◌++◌, map, filter, find, length, take, drop, get_or}
 use Rattle.std.specs.List.{AllByRecursion}
 use Rattle.std.proofs.lemmas.Bool.{eq-eqb}
 use Rattle.std.proofs.lemmas.List.{at_drop_all}

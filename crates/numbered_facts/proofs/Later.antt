@@ -1,10 +1,11 @@
 -- What is kept of terms stays right in a longer store.
-use Rattle.std.proofs.Common.{sym, ap, subst, ◌∙◌, ℕ, Vec, ◌<◌, ◌&&◌, Option, Some, None, List, [], length, filter, arith}
-use Rattle.std.specs.Prelude.{find}
+use Rattle.std.proofs.Common.{sym, ap, subst, ◌∙◌, ℕ, Vec, ◌<◌, ◌&&◌, Option, Some, None, List, [], length, filter, option_map, arith}
+use Rattle.std.specs.Prelude.{find, slice_get}
 use Rattle.std.specs.declared.alloc.Global.{Global}
 use Rattle.logic_core.specs.Tree.{Kind, Tree}
 use Rattle.logic_core.specs.Def.{Def}
 use Rattle.logic_core.specs.Junction.{negated}
+use Rattle.logic_core.specs.Sorts.{sort_of}
 use Rattle.logic_core.specs.Subterm.{occurs, outside}
 use Rattle.tableau_branch.specs.Oriented.{is_application, left_side}
 use Rattle.tableau_branch.specs.Shapes.{is_call, is_choice, is_access}
@@ -17,7 +18,7 @@ use Rattle.numbered_forms.proofs.NormalParts.{forms_later}
 use Rattle.numbered_facts.specs.Answers.{StandsFor, AreAt}
 use Rattle.numbered_facts.specs.Atoms.{is_atom}
 use Rattle.numbered_terms.specs.Slots.{AreKept}
-use Rattle.numbered_facts.specs.Memos.{IsNegation, IsLeft, AreAtoms, IsStanding, AreMemos}
+use Rattle.numbered_facts.specs.Memos.{IsNegation, IsLeft, AreAtoms, IsStanding, IsBody, IsSort, AreMemos}
 use Rattle.numbered_facts.specs.declared.standing.Standing.{Standing}
 
 module _ (ts us : List Tree) (b : Begins ts us) where
@@ -51,16 +52,24 @@ module _ (ts us : List Tree) (b : Begins ts us) where
     access = subst (λ t. StandsFor us s.access (find is_access (outside t))) same (stands_later s.access (find is_access (outside (at ts i))) r.access);
   }
 
+  pub bodies_later : (defs : List Def) (bs : List (Option (Option ℕ))) → AreKept (IsBody ts defs) bs → AreKept (IsBody us defs) bs
+  bodies_later defs bs h = λ k o e. stands_later o (option_map (λ (d : Def). d.body) (slice_get defs k)) (h k o e)
+
 pub lefts_later : (ts us : List Tree) (vars : List Kind) (defs : List Def) (b : Begins ts us) (ls : List (Option (Option ℕ))) → AreKept (IsLeft (record { terms = ts; vars = vars; defs = defs })) ls → AreKept (IsLeft (record { terms = us; vars = vars; defs = defs })) ls
 lefts_later ts us vars defs b ls h = λ i o e. let r = h i o e in
     (still_below ts us i b r.0, subst (λ t. StandsFor us o (left_side vars defs t)) (sym (begins_at ts us i b r.0)) (stands_later ts us b o (left_side vars defs (at ts i)) r.1))
 
-module _ (ts us : List Tree) (vars : List Kind) (defs : List Def) (fs : List (Option ℕ)) (ls ns : List (Option (Option ℕ))) (as' : List (Option (Vec ℕ Global))) (ss : List (Option Standing)) (b : Begins ts us) where
-  pub memos_later : AreMemos (record { terms = ts; vars = vars; defs = defs }) fs ls ns as' ss → AreMemos (record { terms = us; vars = vars; defs = defs }) fs ls ns as' ss
+pub sorts_later : (ts us : List Tree) (vars : List Kind) (defs : List Def) (b : Begins ts us) (ks : List (Option (Option Kind))) → AreKept (IsSort (record { terms = ts; vars = vars; defs = defs })) ks → AreKept (IsSort (record { terms = us; vars = vars; defs = defs })) ks
+sorts_later ts us vars defs b ks h = λ i o e. let r = h i o e in (still_below ts us i b r.0, r.1 ∙ ap (sort_of vars defs []) (sym (begins_at ts us i b r.0)))
+
+module _ (ts us : List Tree) (vars : List Kind) (defs : List Def) (fs : List (Option ℕ)) (ls ns : List (Option (Option ℕ))) (as' : List (Option (Vec ℕ Global))) (ss : List (Option Standing)) (bs : List (Option (Option ℕ))) (ks : List (Option (Option Kind))) (b : Begins ts us) where
+  pub memos_later : AreMemos (record { terms = ts; vars = vars; defs = defs }) fs ls ns as' ss bs ks → AreMemos (record { terms = us; vars = vars; defs = defs }) fs ls ns as' ss bs ks
   memos_later h = record {
     forms = forms_later vars defs ts us fs b h.forms;
     lefts = lefts_later ts us vars defs b ls h.lefts;
     negations = negations_later ts us b ns h.negations;
     atoms = atoms_later ts us b as' h.atoms;
     standing = standing_later ts us b ss h.standing;
+    bodies = bodies_later ts us b defs bs h.bodies;
+    sorts = sorts_later ts us vars defs b ks h.sorts;
   }

@@ -9,3 +9,4 @@ mod Found
 mod LeftSides
 mod SameSorts
 mod Coefficients
+mod SortsKept

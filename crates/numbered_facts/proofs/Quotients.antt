@@ -1,5 +1,5 @@
 -- Tightened facts, by the numbers of their sums.
-use Rattle.std.proofs.Common.{◌≡◌, refl, sym, ap, subst, ◌∙◌, ℕ, ℤ, pos, ◌%◌, ◌<◌, ◌≤◌, nat_lt, nat_eq, Bool, true, false, Option, Some, None, Result, Ok, Err, IfOk, List, [], ◌∷◌, map, length, unsigned_abs, if◌then◌else◌, lt-ltb, le-ltb}
+use Rattle.std.proofs.Common.{◌≡◌, refl, sym, ap, subst, ◌∙◌, ℕ, ℤ, pos, ◌%◌, ◌<◌, ◌≤◌, nat_lt, nat_eq, Bool, true, false, Some, None, Result, Ok, Err, IfOk, List, [], ◌∷◌, map, length, unsigned_abs, if◌then◌else◌, lt-ltb, le-ltb}
 use Rattle.std.specs.List.{AllByRecursion}
 use Rattle.std.specs.declared.alloc.AllocError.{AllocError}
 use Rattle.logic_core.specs.Tree.{Tree, num, truth, linear, negation, equal, at_most, part}

@@ -5,3 +5,4 @@ pub mod Memos
 pub mod Tightening
 pub mod Inside
 pub mod Saying
+pub mod Sorted

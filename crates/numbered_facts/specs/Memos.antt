@@ -1,9 +1,11 @@
 -- What a store keeps of terms, by number.
-use Rattle.std.specs.Prelude.{◌≡◌, ℕ, Vec, ◌+◌, ◌<◌, ◌≤◌, nat_eq, ◌&&◌, Option, Some, List, [], length, filter, find}
+use Rattle.std.specs.Prelude.{◌≡◌, ℕ, Vec, ◌+◌, ◌<◌, ◌≤◌, nat_eq, ◌&&◌, Option, List, [], length, filter, find, option_map, slice_get}
 use Rattle.std.specs.List.{list_any, AllByRecursion}
 use Rattle.std.specs.declared.alloc.Global.{Global}
-use Rattle.logic_core.specs.Tree.{Tree}
+use Rattle.logic_core.specs.Tree.{Kind, Tree}
+use Rattle.logic_core.specs.Def.{Def}
 use Rattle.logic_core.specs.Junction.{negated}
+use Rattle.logic_core.specs.Sorts.{sort_of}
 use Rattle.logic_core.specs.Subterm.{occurs, outside}
 use Rattle.tableau_branch.specs.Oriented.{is_application, left_side}
 use Rattle.tableau_branch.specs.Shapes.{is_call, is_choice, is_access}
@@ -36,14 +38,24 @@ module _ (ts : List Tree) where
     pub choice : StandsFor ts s.choice (find is_choice (outside (at ts i)))
     pub access : StandsFor ts s.access (find is_access (outside (at ts i)))
 
+  -- the body of the definition of a number, where there is one
+  abbrev pub IsBody : List Def → ℕ → Option ℕ → Type 0
+  IsBody defs k o = StandsFor ts o (option_map (λ (d : Def). d.body) (slice_get defs k))
+
 -- the left side of a fact, where there is one
 abbrev pub IsLeft : Numbered → ℕ → Option ℕ → Type 0
 IsLeft n i o = (i < length n.terms) × StandsFor n.terms o (left_side n.vars n.defs (at n.terms i))
 
+-- the sort of a closed term, where it is well sorted
+abbrev pub IsSort : Numbered → ℕ → Option Kind → Type 0
+IsSort n i o = (i < length n.terms) × (o ≡ sort_of n.vars n.defs [] (at n.terms i))
+
 -- all that a store keeps
-pub record AreMemos (n : Numbered) (fs : List (Option ℕ)) (ls ns : List (Option (Option ℕ))) (as' : List (Option (Vec ℕ Global))) (ss : List (Option Standing)) : Type 0 where
+pub record AreMemos (n : Numbered) (fs : List (Option ℕ)) (ls ns : List (Option (Option ℕ))) (as' : List (Option (Vec ℕ Global))) (ss : List (Option Standing)) (bs : List (Option (Option ℕ))) (ks : List (Option (Option Kind))) : Type 0 where
   pub forms : AreForms n.vars n.defs n.terms fs
   pub lefts : AreKept (IsLeft n) ls
   pub negations : AreKept (IsNegation n.terms) ns
   pub atoms : AreKept (AreAtoms n.terms) as'
   pub standing : AreKept (IsStanding n.terms) ss
+  pub bodies : AreKept (IsBody n.terms n.defs) bs
+  pub sorts : AreKept (IsSort n) ks

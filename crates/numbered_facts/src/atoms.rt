@@ -1,5 +1,5 @@
 // The atoms in terms, found once.
-ghost use Rattle.std.specs.Prelude.{◌≡◌, ◌<◌, true, length, filter, IfOk, OnOk, OnErr};
+ghost use Rattle.std.specs.Prelude.{◌≡◌, ◌<◌, true, length, filter, IfOk, IfSome, OnOk, OnErr};
 ghost use Rattle.std.specs.List.{AllByRecursion};
 ghost use Rattle.std.specs.Option.{option_copied};
 ghost use Rattle.logic_core.specs.Subterm.{occurs};
@@ -77,6 +77,22 @@ pub(crate) fn atoms(
     let copy = copy_numbers(terms.alloc(), &found)?;
     keep_atoms(memo, id, found)?;
     Ok(copy)
+}
+
+/// The atoms in a term, where they are kept.
+pub(crate) fn atoms_at<'a>(
+    terms: &Terms,
+    memo: &'a Slots<Vec<TermId>>,
+    id: TermId,
+) -> Option<&'a [TermId]>
+    requires { AreKept (AreAtoms terms.now) memo.now.slots.items }
+    ensures { IfSome result (λ v. AreAtomsIn terms.now id v.now) }
+{
+    terms.are_stored();
+    match kept_atoms(memo, id) {
+        Some(found) => Some(found),
+        None => None,
+    }
 }
 
 // Whether the atom occurs in a term, whose atoms are kept.

@@ -1,5 +1,5 @@
 // What occurs in terms, and what stands in them outside quantifiers.
-ghost use Rattle.std.specs.Prelude.{◌≡◌, ◌<◌, [], length, filter, find, IfOk};
+ghost use Rattle.std.specs.Prelude.{◌≡◌, ◌<◌, [], length, filter, find, IfOk, IfSome};
 ghost use Rattle.logic_core.specs.Subterm.{occurs, outside};
 ghost use Rattle.tableau_branch.specs.Oriented.{is_application};
 ghost use Rattle.tableau_branch.specs.Shapes.{is_call, is_choice, is_access};
@@ -9,8 +9,8 @@ ghost use Rattle.numbered_terms.specs.Stored.{Grows};
 ghost use Rattle.numbered_facts.specs.Answers.{StandsFor, AreAt};
 ghost use Rattle.numbered_facts.specs.Atoms.{is_atom, AreAtomsIn};
 
-use crate::atoms::{atoms, part_occurs};
-use crate::standing::{access, call, choice, ground, stand};
+use crate::atoms::{atoms, atoms_at, part_occurs};
+use crate::standing::{access, call, choice, ground, ground_at, stand};
 use crate::store::Store;
 use numbered_terms::Terms;
 use std::alloc::AllocError;
@@ -39,6 +39,13 @@ impl Store {
         atoms(&self.terms, &mut self.atoms, id)
     }
 
+    /// The same, where they are kept.
+    pub fn kept_atoms(&self, id: TermId) -> Option<&[TermId]>
+        ensures { IfSome result (λ v. AreAtomsIn self.now.terms id v.now) }
+    {
+        atoms_at(&self.terms, &self.atoms, id)
+    }
+
     /// Whether the first term occurs in the second, inside quantifiers and triggers too.
     #[tactic(auto, using(crate::proofs::Growing::same))]
     pub fn occurs(&mut self, part: TermId, id: TermId) -> Result<bool, AllocError>
@@ -59,6 +66,13 @@ impl Store {
     {
         stand(&self.terms, &mut self.standing, id)?;
         ground(&self.terms, &self.standing, id)
+    }
+
+    /// The same, where they are kept.
+    pub fn kept_ground(&self, id: TermId) -> Option<&[TermId]>
+        ensures { IfSome result (λ v. AreAt self.now.terms v.now (each_once [] (filter is_application (outside (at self.now.terms id))))) }
+    {
+        ground_at(&self.terms, &self.standing, id)
     }
 
     /// The first Call in a term outside quantifiers, in preorder.

@@ -1,19 +1,24 @@
 // The left sides of facts, by number.
-ghost use Rattle.std.specs.Prelude.{◌≡◌, ◌<◌, ◌&&◌, ◌||◌, not, nat_eq, option_map, Some, length, IfOk, IfSome};
+ghost use Rattle.std.specs.Option.{option_copied};
+ghost use Rattle.std.specs.Prelude.{◌≡◌, ◌<◌, ◌&&◌, ◌||◌, not, nat_eq, option_map, Some, [], length, IfOk, IfSome};
 ghost use Rattle.logic_core.specs.Combine.{sum_of};
+ghost use Rattle.logic_core.specs.Sorts.{sort_of};
 ghost use Rattle.logic_core.specs.Subterm.{occurs, has_quantifier, is_quantifier};
 ghost use Rattle.logic_core.specs.View.{parts_of};
 ghost use Rattle.logic_core.specs.Wide.{when};
 ghost use Rattle.tableau_branch.specs.Oriented.{is_variable, is_application, is_one, is_minus_one, parts_with, greater_number, solvable_among, simple_lead, linear_left, defines, defined, greater_side, equation_left, left_side};
 ghost use Rattle.term_bank.specs.Numbered.{at};
 ghost use Rattle.numbered_terms.specs.Lists.{atoms_at, AtomsBelow};
+ghost use Rattle.numbered_terms.specs.Slots.{AreKept};
 ghost use Rattle.numbered_facts.specs.Answers.{StandsFor};
+ghost use Rattle.numbered_facts.specs.Memos.{IsSort};
 
 use crate::occurring::{has_quantifier, occurs};
+use crate::sorts::{find_sort, sort_at};
 use logic_core::{Def, Sort, SortKind};
 use numbered_forms::negation::is_zero;
-use numbered_forms::sorts::sort_of;
 use numbered_terms::Terms;
+use numbered_terms::slots::Slots;
 use std::alloc::AllocError;
 use term_bank::{Node, TermId};
 
@@ -220,13 +225,13 @@ fn defined(terms: &Terms, a: TermId, b: TermId) -> Result<Option<TermId>, AllocE
 // Call and the other side has no quantifier.
 fn greater_side(
     terms: &Terms,
-    sort: Option<Sort>,
+    sort: Option<&Sort>,
     a: TermId,
     b: TermId,
 ) -> Result<Option<TermId>, AllocError>
     requires a { a < length terms.now }
     requires b { b < length terms.now }
-    ensures { IfOk result (λ o. StandsFor terms.now o (greater_side sort (at terms.now a) (at terms.now b))) }
+    ensures { IfOk result (λ o. StandsFor terms.now o (greater_side (option_copied sort.entry) (at terms.now a) (at terms.now b))) }
 {
     match sort {
         Some(sort) => match &sort.kind {
@@ -253,9 +258,10 @@ fn greater_formula(terms: &Terms, a: TermId, b: TermId) -> Result<Option<TermId>
     Ok(Some(b))
 }
 
-// The left side of an equation.
-fn equation_left(
+// The same, by the sort of the first side, which is kept.
+fn greater_of(
     terms: &Terms,
+    sorts: &mut Slots<Option<Sort>>,
     vars: &[Sort],
     defs: &[Def],
     a: TermId,
@@ -263,14 +269,35 @@ fn equation_left(
 ) -> Result<Option<TermId>, AllocError>
     requires a { a < length terms.now }
     requires b { b < length terms.now }
-    ensures { IfOk result (λ o. StandsFor terms.now o (equation_left vars.now defs.now (at terms.now a) (at terms.now b))) }
+    requires sorts { AreKept (IsSort (record { terms = terms.now; vars = vars.now; defs = defs.now })) sorts.old.slots.items }
+    ensures sorts { AreKept (IsSort (record { terms = terms.now; vars = vars.now; defs = defs.now })) sorts.new.slots.items }
+    ensures gives { IfOk result (λ o. StandsFor terms.now o (greater_side (sort_of vars.now defs.now [] (at terms.now a)) (at terms.now a) (at terms.now b))) }
+{
+    find_sort(terms, sorts, vars, defs, a)?;
+    greater_side(terms, sort_at(sorts, a), a, b)
+}
+
+// The left side of an equation.
+fn equation_left(
+    terms: &Terms,
+    sorts: &mut Slots<Option<Sort>>,
+    vars: &[Sort],
+    defs: &[Def],
+    a: TermId,
+    b: TermId,
+) -> Result<Option<TermId>, AllocError>
+    requires a { a < length terms.now }
+    requires b { b < length terms.now }
+    requires sorts { AreKept (IsSort (record { terms = terms.now; vars = vars.now; defs = defs.now })) sorts.old.slots.items }
+    ensures sorts { AreKept (IsSort (record { terms = terms.now; vars = vars.now; defs = defs.now })) sorts.new.slots.items }
+    ensures gives { IfOk result (λ o. StandsFor terms.now o (equation_left vars.now defs.now (at terms.now a) (at terms.now b))) }
 {
     if is_zero(terms, b) {
         return linear_left(terms, a);
     }
     match defined(terms, a, b)? {
         Some(variable) => Ok(Some(variable)),
-        None => greater_side(terms, sort_of(terms, vars, defs, &[], a)?, a, b),
+        None => greater_of(terms, sorts, vars, defs, a, b),
     }
 }
 
@@ -278,15 +305,18 @@ fn equation_left(
 /// oriented.
 pub(crate) fn left_side(
     terms: &Terms,
+    sorts: &mut Slots<Option<Sort>>,
     vars: &[Sort],
     defs: &[Def],
     fact: TermId,
 ) -> Result<Option<TermId>, AllocError>
-    requires { fact < length terms.now }
-    ensures { IfOk result (λ o. StandsFor terms.now o (left_side vars.now defs.now (at terms.now fact))) }
+    requires fact { fact < length terms.now }
+    requires sorts { AreKept (IsSort (record { terms = terms.now; vars = vars.now; defs = defs.now })) sorts.old.slots.items }
+    ensures sorts { AreKept (IsSort (record { terms = terms.now; vars = vars.now; defs = defs.now })) sorts.new.slots.items }
+    ensures gives { IfOk result (λ o. StandsFor terms.now o (left_side vars.now defs.now (at terms.now fact))) }
 {
     match terms.node(fact) {
-        Node::Eq(a, b) => equation_left(terms, vars, defs, *a, *b),
+        Node::Eq(a, b) => equation_left(terms, sorts, vars, defs, *a, *b),
         Node::Free(_) => Ok(Some(fact)),
         Node::Not(t) => {
             if is_variable(terms, *t) {

@@ -5,6 +5,7 @@
 
 // What is found once, and kept.
 mod atoms;
+mod bodies;
 mod left;
 mod lefts;
 mod memo;
@@ -12,6 +13,7 @@ mod negations;
 mod numbers;
 mod occurring;
 mod saying;
+mod sorts;
 mod standing;
 mod tightening;
 

@@ -1,17 +1,19 @@
 // Left sides of facts, what facts say of terms, and the sorts of terms.
 ghost use Rattle.std.specs.Prelude.{◌≡◌, ◌<◌, [], length, IfOk};
-ghost use Rattle.logic_core.specs.Sorts.{sort_of};
+ghost use Rattle.logic_core.specs.Sorts.{is, sort_of};
+ghost use Rattle.logic_core.specs.Tree.{boolean};
 ghost use Rattle.proof_core.specs.Says.{says};
 ghost use Rattle.tableau_branch.specs.Oriented.{left_side};
 ghost use Rattle.term_bank.specs.Numbered.{at};
 ghost use Rattle.numbered_terms.specs.Stored.{Grows};
 ghost use Rattle.numbered_facts.specs.Answers.{StandsFor};
+ghost use Rattle.numbered_facts.specs.Sorted.{is_map};
 
 use crate::lefts::left;
 use crate::saying::says;
+use crate::sorts::{copy_sort, find_sort, is_boolean, is_map, sort_at};
 use crate::store::Store;
 use logic_core::Sort;
-use numbered_forms::sorts::sort_of;
 use std::alloc::AllocError;
 use term_bank::TermId;
 
@@ -24,7 +26,14 @@ impl Store {
         ensures grows { Grows self.old self.new }
         ensures gives { IfOk result (λ o. StandsFor self.new.terms o (left_side self.old.vars self.old.defs (at self.old.terms fact))) }
     {
-        left(&self.terms, &mut self.lefts, &self.vars, &self.defs, fact)
+        left(
+            &self.terms,
+            &mut self.lefts,
+            &mut self.sorts,
+            &self.vars,
+            &self.defs,
+            fact,
+        )
     }
 
     /// What the fact says that the term is equal to. None exactly where it says nothing of it, or a number
@@ -45,6 +54,29 @@ impl Store {
         ensures grows { Grows self.old self.new }
         ensures gives { IfOk result (λ o. o ≡ sort_of self.old.vars self.old.defs [] (at self.old.terms id)) }
     {
-        sort_of(&self.terms, &self.vars, &self.defs, &[], id)
+        find_sort(&self.terms, &mut self.sorts, &self.vars, &self.defs, id)?;
+        copy_sort(self.terms.alloc(), sort_at(&self.sorts, id))
+    }
+
+    /// Whether a closed term is well sorted, of sort Bool.
+    #[tactic(auto, using(crate::proofs::Growing::same))]
+    pub fn is_boolean(&mut self, id: TermId) -> Result<bool, AllocError>
+        requires { id < length self.old.terms }
+        ensures grows { Grows self.old self.new }
+        ensures is { IfOk result (λ b. b ≡ is boolean (sort_of self.old.vars self.old.defs [] (at self.old.terms id))) }
+    {
+        find_sort(&self.terms, &mut self.sorts, &self.vars, &self.defs, id)?;
+        Ok(is_boolean(sort_at(&self.sorts, id)))
+    }
+
+    /// Whether a closed term is well sorted, of the sort of a map.
+    #[tactic(auto, using(crate::proofs::Growing::same))]
+    pub fn is_map(&mut self, id: TermId) -> Result<bool, AllocError>
+        requires { id < length self.old.terms }
+        ensures grows { Grows self.old self.new }
+        ensures is { IfOk result (λ b. b ≡ is_map (sort_of self.old.vars self.old.defs [] (at self.old.terms id))) }
+    {
+        find_sort(&self.terms, &mut self.sorts, &self.vars, &self.defs, id)?;
+        Ok(is_map(sort_at(&self.sorts, id)))
     }
 }

@@ -1,5 +1,5 @@
 // What stands in terms outside quantifiers, found once.
-ghost use Rattle.std.specs.Prelude.{◌≡◌, ◌<◌, ◌≤◌, [], true, length, map, filter, find, is_some, nat_eq, IfOk, OnOk, OnErr};
+ghost use Rattle.std.specs.Prelude.{◌≡◌, ◌<◌, ◌≤◌, [], true, length, map, filter, find, is_some, nat_eq, IfOk, IfSome, OnOk, OnErr};
 ghost use Rattle.std.specs.List.{flat_map, AllByRecursion};
 ghost use Rattle.std.specs.Option.{option_copied};
 ghost use Rattle.logic_core.specs.Subterm.{outside, is_quantifier};
@@ -289,6 +289,22 @@ pub(crate) fn ground(
     match standing_at(memo, id) {
         Some(standing) => copy_numbers(terms.alloc(), &standing.ground),
         None => Ok(Vec::new(terms.alloc())),
+    }
+}
+
+/// The same, where they are kept.
+pub(crate) fn ground_at<'a>(
+    terms: &Terms,
+    memo: &'a Slots<Standing>,
+    id: TermId,
+) -> Option<&'a [TermId]>
+    requires { AreKept (IsStanding terms.now) memo.now.slots.items }
+    ensures { IfSome result (λ v. AreAt terms.now v.now (each_once [] (filter is_application (outside (at terms.now id))))) }
+{
+    let _count = terms.len();
+    match standing_at(memo, id) {
+        Some(standing) => Some(&standing.ground),
+        None => None,
     }
 }
 

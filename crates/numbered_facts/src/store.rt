@@ -1,17 +1,18 @@
 // The terms of a search by number, with the sorts of the variables and the definitions.
-ghost use Rattle.std.specs.Prelude.{◌≡◌, ◌<◌, length, IfOk, OnOk};
+ghost use Rattle.std.specs.Prelude.{◌≡◌, ◌<◌, length, option_map, slice_get, IfOk, OnOk};
 ghost use Rattle.std.specs.List.{AllByRecursion};
-ghost use Rattle.term_bank.specs.Numbered.{at, Begins};
+ghost use Rattle.term_bank.specs.Numbered.{at};
 ghost use Rattle.term_bank.specs.Node.{tree_over, numbers_in};
 ghost use Rattle.numbered_terms.specs.At.{IsAt};
 ghost use Rattle.numbered_terms.specs.Stored.{Grows};
+ghost use Rattle.numbered_facts.specs.Answers.{StandsFor};
 
+use crate::bodies::{body, number_at};
 use crate::standing::Standing;
 use logic_core::copy::copy_sorts;
 use logic_core::same::equal_sorts;
 use logic_core::{Def, Sort, Term};
 use numbered_terms::Terms;
-use numbered_terms::number::number;
 use numbered_terms::slots::Slots;
 use std::alloc::{AllocError, Global};
 use std::marker::Model;
@@ -29,6 +30,8 @@ pub struct Store {
     pub(crate) negations: Slots<Option<TermId>>,
     pub(crate) atoms: Slots<Vec<TermId>>,
     pub(crate) standing: Slots<Standing>,
+    pub(crate) bodies: Slots<Option<TermId>>,
+    pub(crate) sorts: Slots<Option<Sort>>,
 }
 
 impl Model for Store {
@@ -43,17 +46,7 @@ impl Model for Store {
 
     ghost view = { λ a. record { terms = a.terms; vars = a.vars.items; defs = a.defs.items } };
 
-    ghost invariant = { λ a. AreMemos (record { terms = a.terms; vars = a.vars.items; defs = a.defs.items }) a.forms.slots.items a.lefts.slots.items a.negations.slots.items a.atoms.slots.items a.standing.slots.items };
-}
-
-// The number of a term.
-fn number_at(terms: &mut Terms, term: &Term) -> Result<TermId, AllocError>
-    ensures grows { Begins terms.old terms.new }
-    ensures gives { IfOk result (λ i. IsAt terms.new i term.now) }
-{
-    let id = number(terms, term)?;
-    terms.are_stored();
-    Ok(id)
+    ghost invariant = { λ a. AreMemos (record { terms = a.terms; vars = a.vars.items; defs = a.defs.items }) a.forms.slots.items a.lefts.slots.items a.negations.slots.items a.atoms.slots.items a.standing.slots.items a.bodies.slots.items a.sorts.slots.items };
 }
 
 impl Store {
@@ -71,6 +64,8 @@ impl Store {
             negations: Slots::new(alloc),
             atoms: Slots::new(alloc),
             standing: Slots::new(alloc),
+            bodies: Slots::new(alloc),
+            sorts: Slots::new(alloc),
         }
     }
 
@@ -111,6 +106,7 @@ impl Store {
         let copies = copy_sorts(self.terms.alloc(), vars)?;
         self.forms = Slots::new(self.terms.alloc());
         self.lefts = Slots::new(self.terms.alloc());
+        self.sorts = Slots::new(self.terms.alloc());
         self.vars = copies;
         Ok(())
     }
@@ -130,5 +126,13 @@ impl Store {
         ensures gives { IfOk result (λ i. IsAt self.new.terms i term.now) }
     {
         number_at(&mut self.terms, term)
+    }
+
+    /// The number of the body of the definition of this number, where there is one.
+    pub fn body(&mut self, number: u64) -> Result<Option<TermId>, AllocError>
+        ensures grows { Grows self.old self.new }
+        ensures gives { IfOk result (λ o. StandsFor self.new.terms o (option_map (λ d. d.body) (slice_get self.old.defs number))) }
+    {
+        body(&mut self.terms, &mut self.bodies, &self.defs, number)
     }
 }

@@ -33,6 +33,10 @@ fn push_ground(store: &mut Store, ground: &mut NumberSet, term: TermId) -> Resul
     ensures grows { Grows store.old store.new }
     ensures ground { OnOk result ((before : List Tree) → AreAt store.old.terms ground.old (each_once [] before) → AreAt store.new.terms ground.new (each_once [] (before ++ filter is_application (outside (at store.old.terms term))))) }
 {
+    store.terms().are_stored();
+    if let Some(ids) = store.kept_ground(term) {
+        return insert_each(ground, ids);
+    }
     let ids = store.ground(term)?;
     store.terms().are_stored();
     insert_each(ground, &ids)

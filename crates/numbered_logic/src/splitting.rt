@@ -1,8 +1,7 @@
 // The rule split, over numbers.
 ghost use Rattle.std.specs.Prelude.{◌≡◌, ◌<◌, [], ◌∷◌, length, map, option_map, IfOk};
 ghost use Rattle.std.specs.List.{AllByRecursion};
-ghost use Rattle.logic_core.specs.Sorts.{is, sort_of};
-ghost use Rattle.logic_core.specs.Tree.{boolean, negation, equal};
+ghost use Rattle.logic_core.specs.Tree.{negation, equal};
 ghost use Rattle.logic_core.specs.View.{trees_of};
 ghost use Rattle.proof_core.specs.Split.{both, disjuncts, equal_cases, unequal_cases, cases};
 ghost use Rattle.term_bank.specs.Numbered.{at};
@@ -20,7 +19,7 @@ ghost use Rattle.numbered_logic.specs.Found.{found_at, IsFoundIn, Finds};
 
 use crate::forms::normal_forms;
 use crate::found::{Found, term_of, without};
-use logic_core::{NormalFault, Sort};
+use logic_core::NormalFault;
 use numbered_branches::branch::{Branch, Fact};
 use numbered_branches::cases::case;
 use numbered_branches::played::{Attempt, Ending, Made, Move};
@@ -80,18 +79,6 @@ fn two_cases(
     Ok(Vec::from_array(store.alloc(), [one, other])?)
 }
 
-// Whether the term is of sort Bool.
-fn is_boolean(store: &mut Store, id: TermId) -> Result<bool, AllocError>
-    requires { id < length store.old.terms }
-    ensures grows { Grows store.old store.new }
-    ensures is { IfOk result (λ b. b ≡ is boolean (sort_of store.old.vars store.old.defs [] (at store.old.terms id))) }
-{
-    match store.sort(id)? {
-        Some(sort) => Ok(sort.equals(&Sort::boolean())),
-        None => Ok(false),
-    }
-}
-
 // Of an Eq of Bool: both sides hold, or neither does.
 fn equal_cases(store: &mut Store, p: TermId, q: TermId) -> Result<Option<Vec<TermId>>, AllocError>
     requires p { p < length store.old.terms }
@@ -99,7 +86,7 @@ fn equal_cases(store: &mut Store, p: TermId, q: TermId) -> Result<Option<Vec<Ter
     ensures grows { Grows store.old store.new }
     ensures cases { IfOk result (λ o. AreSome store.new.terms o (option_map (λ c. c.0 ∷ c.1) (equal_cases store.old.defs (context_of (branch_over store.old.vars)) (at store.old.terms p) (at store.old.terms q)))) }
 {
-    let boolean = is_boolean(store, p)?;
+    let boolean = store.is_boolean(p)?;
     if !boolean {
         return Ok(None);
     }
@@ -119,7 +106,7 @@ fn differing_cases(
     ensures grows { Grows store.old store.new }
     ensures cases { IfOk result (λ o. AreSome store.new.terms o (option_map (λ c. c.0 ∷ c.1) (unequal_cases store.old.defs (context_of (branch_over store.old.vars)) (equal (at store.old.terms p) (at store.old.terms q))))) }
 {
-    let boolean = is_boolean(store, p)?;
+    let boolean = store.is_boolean(p)?;
     if !boolean {
         return Ok(None);
     }

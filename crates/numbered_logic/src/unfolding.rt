@@ -1,5 +1,5 @@
 // The rule unfold, over numbers.
-ghost use Rattle.std.specs.Prelude.{◌≡◌, ◌<◌, ◌++◌, [], ◌∷◌, length, map, option_map, slice_get, List, IfOk, IfSome, IfNone};
+ghost use Rattle.std.specs.Prelude.{◌≡◌, ◌<◌, ◌++◌, [], ◌∷◌, length, map, List, IfOk, IfSome, IfNone};
 ghost use Rattle.std.specs.List.{AllByRecursion};
 ghost use Rattle.logic_core.specs.Def.{Def as definition};
 ghost use Rattle.logic_core.specs.Tree.{call};
@@ -43,18 +43,6 @@ fn oldest_call(store: &mut Store, facts: &[Fact]) -> Result<Option<FoundOne>, Al
     Ok(None)
 }
 
-// The body of the definition of this number.
-fn body(store: &mut Store, number: u64) -> Result<Option<TermId>, AllocError>
-    ensures grows { Grows store.old store.new }
-    ensures body { IfOk result (λ o. StandsFor store.new.terms o (option_map (λ d. d.body) (slice_get store.old.defs number))) }
-{
-    let body = match store.defs().get(number as usize) {
-        Some(def) => def.body.copy(store.alloc())?,
-        None => return Ok(None),
-    };
-    Ok(Some(store.number(&body)?))
-}
-
 // The number of the definition that a Call applies, and its arguments.
 fn called(terms: &Terms, id: TermId) -> Option<(u64, &[TermId])>
     requires { id < length terms.now }
@@ -74,7 +62,7 @@ fn applied(store: &mut Store, number: u64, args: &[TermId]) -> Result<Option<Ter
     ensures grows { Grows store.old store.new }
     ensures body { IfOk result (λ o. StandsFor store.new.terms o (body_of store.old.defs (call number (trees_of (map (at store.old.terms) args.now))))) }
 {
-    match body(store, number)? {
+    match store.body(number)? {
         Some(body) => Ok(Some(store.substituted(body, args)?)),
         None => Ok(None),
     }

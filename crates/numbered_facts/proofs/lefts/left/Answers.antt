@@ -10,4 +10,4 @@ pub returns-in_err-keep-clause-right : goal.returns-in_err-keep-clause-right
 returns-in_err-keep-clause-right c = kept_alike (IsLeft (record { terms = c.args.terms.now; vars = c.args.vars.now; defs = c.args.defs.now })) c.args.lefts.now.slots.items c.keep.new.memo.slots.items c.in_err-keep.ensures.memory c.requires.right
 
 pub returns-clause-right : goal.returns-clause-right
-returns-clause-right c = kept_more (IsLeft (record { terms = c.args.terms.now; vars = c.args.vars.now; defs = c.args.defs.now })) c.args.lefts.now.slots.items c.keep.new.memo.slots.items c.args.fact c.in_ok-side.side c.in_ok-keep.ensures.ok c.requires.right (c.requires.fact, c.in_ok-side.ensures)
+returns-clause-right c = kept_more (IsLeft (record { terms = c.args.terms.now; vars = c.args.vars.now; defs = c.args.defs.now })) c.args.lefts.now.slots.items c.keep.new.memo.slots.items c.args.fact c.in_ok-side.side c.in_ok-keep.ensures.ok c.requires.right (c.requires.fact, c.in_ok-side.ensures.gives)

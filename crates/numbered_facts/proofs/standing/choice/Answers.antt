@@ -1,4 +1,4 @@
-use Rattle.std.proofs.Common.{sym, nat_eq}
+use Rattle.std.proofs.Common.{sym}
 use Rattle.numbered_terms.specs.Slots.{kept_at}
 use Rattle.numbered_facts.proofs.Found.{not_none}
 use Rattle.numbered_facts.proofs.standing.choice.Goals as goal

@@ -7,7 +7,7 @@ returns-then-not-boolean-clause-cases c = let n = c.args.store.now in equal_none
 
 pub returns-clause-cases : goal.returns-clause-cases
 returns-clause-cases c =
-    let n = c.args.store.now in let m = c.is_boolean.new.store in let o = c.nots.new.store in let p = c.args.p in let q = c.args.q in let sides = c.in_ok-sides.sides in
+    let n = c.args.store.now in let m = c.is_boolean.new.self in let o = c.nots.new.store in let p = c.args.p in let q = c.args.q in let sides = c.in_ok-sides.sides in
     are_some (c.two_cases.new.store).terms c.in_ok-cases.cases _ _ _ c.in_ok-cases.ensures.cases
     (equal_made n m o c.is_boolean.ensures.grows c.nots.ensures.grows p q sides.0 sides.1 c.requires.p c.requires.q c.in_ok-sides.ensures.first c.in_ok-sides.ensures.second)
     (equal_some n.defs n.vars (at n.terms p) (at n.terms q) c.in_ok-boolean.boolean c.in_ok-boolean.ensures.is c.if-not-boolean.false)

@@ -1,12 +1,16 @@
 use Rattle.std.proofs.Common.{sym, subst}
 use Rattle.numbered_terms.specs.Slots.{AreKept}
 use Rattle.numbered_facts.specs.Memos.{IsLeft}
+use Rattle.numbered_facts.proofs.SortsKept.{sorts_over}
 use Rattle.numbered_facts.proofs.store.Store.left_side.Goals as goal
 
 pub left-requires-clause-right : goal.left-requires-clause-right
 left-requires-clause-right c = let ts = c.self.inside.terms in let ls = c.self.inside.lefts.slots.items in
     subst (λ vs. AreKept (IsLeft (record { terms = ts; vars = vs; defs = c.deref-2.result.now })) ls) (sym c.deref.ensures.value)
     (subst (λ ds. AreKept (IsLeft (record { terms = ts; vars = c.self.inside.vars.items; defs = ds })) ls) (sym c.deref-2.ensures.value) c.self.invariant.lefts)
+
+pub left-requires-clause-sorts : goal.left-requires-clause-sorts
+left-requires-clause-sorts c = sorts_over c.self.inside.terms c.self.inside.sorts.slots.items c.self.inside.vars.items c.deref.result.now c.self.inside.defs.items c.deref-2.result.now (sym c.deref.ensures.value) (sym c.deref-2.ensures.value) c.self.invariant.sorts
 
 pub invariant_of-self : goal.invariant_of-self
 invariant_of-self c = let ts = c.self.inside.terms in let ls = c.left.new.lefts.slots.items in record {
@@ -16,4 +20,6 @@ invariant_of-self c = let ts = c.self.inside.terms in let ls = c.left.new.lefts.
   negations = c.self.invariant.negations;
   atoms = c.self.invariant.atoms;
   standing = c.self.invariant.standing;
+  bodies = c.self.invariant.bodies;
+  sorts = sorts_over c.self.inside.terms c.left.new.sorts.slots.items c.deref.result.now c.self.inside.vars.items c.deref-2.result.now c.self.inside.defs.items c.deref.ensures.value c.deref-2.ensures.value c.left.ensures.sorts;
 }
