@@ -1,11 +1,13 @@
 // The rules in the order in which a step tries them.
-ghost use Rattle.std.specs.Prelude.{◌≡◌, OnOk};
+ghost use Rattle.std.specs.Prelude.{◌≡◌, List, OnOk};
+ghost use Rattle.logic_core.specs.Tree.{Tree};
 ghost use Rattle.numbered_branches.specs.Applied.{TriesAt, AttemptsAt};
 ghost use Rattle.numbered_branches.specs.Branches.{IsBranchOver, branch_at};
 ghost use Rattle.numbered_terms.specs.Stored.{Grows};
 ghost use Rattle.tableau.specs.Rules.{rule_of};
 ghost use Rattle.tableau.specs.Search.{step};
 ghost use Rattle.term_bank.specs.Numbered.{Begins};
+ghost use Rattle.clause_search.specs.Tables.{AreRight};
 
 use crate::rare::{condition, differ, skolem};
 use logic_core::fault::NormalFault;
@@ -16,13 +18,15 @@ use numbered_instances::candidates::Instances;
 use numbered_instances::instantiating::instantiate;
 use numbered_instances::rewriting::rewrite;
 use numbered_instances::shared::Shared;
+use numbered_logic::apart::Apart;
 use numbered_logic::closing::close;
 use numbered_logic::flattening::flatten;
 use numbered_logic::splitting::split;
 use numbered_logic::unfolding::unfold;
-use numbered_terms::number_set::NumberSet;
+use numbered_terms::slots::Slots;
 use numbered_theory::back::back;
 use numbered_theory::combining::combine;
+use numbered_theory::leads::Leads;
 use numbered_theory::past::past;
 use numbered_theory::trichotomy::trichotomy;
 use std::alloc::{AllocError, Global};
@@ -45,21 +49,28 @@ const ORDER: [Rule; 13] = [
     Rule::Instantiate,
 ];
 
-/// What the rules list anew at each step, whose room is kept.
+/// What the rules keep from step to step, which may be tried on any branches: facts of which none closes
+/// one, the facts that were listed last with the counts of their atoms, and the room of other lists.
 #[derive(Drop)]
 pub struct Tables {
-    facts: NumberSet,
-    shared: Shared,
-    instances: Instances,
+    pub apart: Apart,
+    pub shared: Shared,
+    pub instances: Instances,
+    pub leads: Leads,
+    pub places: Slots<usize>,
 }
 
 impl Tables {
-    /// Nothing is listed.
-    pub fn new(alloc: Global) -> Tables {
+    /// Nothing is kept.
+    pub fn new(alloc: Global) -> Tables
+        ensures { (ts : List Tree) → AreRight ts result }
+    {
         Tables {
-            facts: NumberSet::new(alloc),
+            apart: Apart::new(alloc),
             shared: Shared::new(alloc),
             instances: Instances::new(alloc),
+            leads: Leads::new(alloc),
+            places: Slots::new(alloc),
         }
     }
 }
@@ -73,20 +84,22 @@ fn try_rule(
 ) -> Result<Attempt, NormalFault>
     requires branch { IsBranchOver store.old.terms branch }
     requires vars { store.old.vars ≡ branch.vars }
+    requires tables { AreRight store.old.terms tables.old }
     ensures grows { Grows store.old store.new }
+    ensures tables { OnOk result (AreRight store.new.terms tables.new) }
     ensures tries { TriesAt store.new.terms (branch_at store.old.terms branch) result (rule_of store.old.defs rule (branch_at store.old.terms branch)) }
 {
     match rule {
         Rule::Skolem => skolem(store, branch),
         Rule::Condition => condition(store, branch),
         Rule::Differ => differ(store, branch),
-        Rule::Close => close(store, &mut tables.facts, branch),
+        Rule::Close => close(store, &mut tables.apart, branch),
         Rule::Flatten => flatten(store, branch),
         Rule::Split => split(store, branch),
         Rule::Unfold => unfold(store, branch),
         Rule::Back => back(store, branch),
-        Rule::Combine => combine(store, branch),
-        Rule::Trichotomy => trichotomy(store, branch),
+        Rule::Combine => combine(store, &mut tables.leads, &mut tables.places, branch),
+        Rule::Trichotomy => trichotomy(store, &mut tables.leads, branch),
         Rule::Past => past(store, branch),
         Rule::Rewrite => rewrite(store, &mut tables.shared, branch),
         Rule::Instantiate => instantiate(store, &mut tables.instances, branch),
@@ -103,7 +116,9 @@ fn first_rule(
 ) -> Result<Option<Move>, NormalFault>
     requires branch { IsBranchOver store.old.terms branch }
     requires vars { store.old.vars ≡ branch.vars }
+    requires tables { AreRight store.old.terms tables.old }
     ensures grows { Grows store.old store.new }
+    ensures tables { OnOk result (AreRight store.new.terms tables.new) }
     ensures attempts { AttemptsAt store.new.terms result (step store.old.defs (branch_at store.old.terms branch)) }
 {
     let mut branch = branch;
@@ -123,9 +138,11 @@ pub fn step(
     tables: &mut Tables,
     branch: Branch,
 ) -> Result<Option<Move>, NormalFault>
-    requires { IsBranchOver store.old.terms branch }
+    requires branch { IsBranchOver store.old.terms branch }
+    requires tables { AreRight store.old.terms tables.old }
     ensures terms { Begins store.old.terms store.new.terms }
     ensures defs { OnOk result (store.new.defs ≡ store.old.defs) }
+    ensures tables { OnOk result (AreRight store.new.terms tables.new) }
     ensures attempts { AttemptsAt store.new.terms result (step store.old.defs (branch_at store.old.terms branch)) }
 {
     store.over(&branch.vars)?;

@@ -6,6 +6,7 @@ pub mod SharedAtoms
 pub mod Alone
 pub mod WithinTerms
 pub mod LeftSides
+pub mod ListedFacts
 pub mod LeftFacts
 pub mod Instantiated
 pub mod Attempted

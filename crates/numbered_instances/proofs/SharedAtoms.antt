@@ -1,131 +1,173 @@
--- Atoms that occur in two of some facts, one fact after another.
-use Rattle.std.proofs.Common.{◌≡◌, refl, sym, ap, subst, ◌∙◌, ℕ, ◌<◌, ◌≤◌, nat_eq, Bool, true, false, true≢false, ◌&&◌, ◌||◌, List, [], ◌∷◌, ◌++◌, map, length, cond, take, get_or, ◌+◌, arith}
+-- In how many facts each atom occurs, one fact after another.
+use Rattle.std.proofs.Common.{◌≡◌, refl, sym, ap, subst, ◌∙◌, ℕ, zero, suc, ◌+◌, ◌-◌, ◌<◌, ◌≤◌, nat_eq, Bool, true, false, true≢false, ◌&&◌, ◌||◌, cond, List, [], ◌∷◌, ◌++◌, map, length, take, get_or, arith, Result, Ok, Err}
+use Rattle.std.specs.Prelude.{OnOk}
 use mathlib.Core.Logic.{◌⊎◌, inl, inr}
 use Rattle.std.specs.List.{list_any, AllByRecursion}
-use Rattle.std.proofs.lemmas.Bool.{cases_lt, eq-eqb, eqb-true}
-use Rattle.std.proofs.lemmas.List.{map-append}
-use Rattle.logic_core.specs.Tree.{Tree}
+use Rattle.std.proofs.lemmas.Bool.{cases_lt, eqb-true, ne_eqb}
+use Rattle.logic_core.specs.Tree.{Tree, truth}
 use Rattle.logic_core.specs.Subterm.{occurs}
-use Rattle.logic_core.proofs.Anywhere.{any_append}
-use Rattle.logic_core.proofs.Booleans.{or_first, or_second, or_false, both_true}
 use Rattle.term_bank.specs.Numbered.{at, Begins}
-use Rattle.term_bank.proofs.Numbers.{begins_at}
+use Rattle.term_bank.proofs.Numbers.{begins_at, begins_length, begins_then}
 use Rattle.tableau_branch.proofs.Lists.{take_item}
 use Rattle.numbered_terms.specs.Stored.{AreStored}
-use Rattle.numbered_terms.proofs.Items.{all_lower}
 use Rattle.numbered_terms.proofs.Occurring.{higher_dont}
-use Rattle.numbered_forms.proofs.LongerStores.{terms_stay}
-use Rattle.numbered_facts.specs.Atoms.{is_atom, AreAtomsIn}
-use Rattle.numbered_instances.specs.Shared.{in_one, in_two, AreShared}
-use Rattle.numbered_instances.proofs.NewTuples.{inserted}
+use Rattle.numbered_facts.specs.Atoms.{is_atom, AreOnce, AreAtomsIn}
+use Rattle.numbered_instances.specs.Shared.{in_one, in_two, times, has_atom, facts_with, AreCounted, AreShared, IsOneMore, IsOneLess, IsCounted}
+use Rattle.numbered_instances.specs.declared.shared.Shared.{Shared}
 
-pub either : {R : Type 0} (b c : Bool) → (b ≡ true → R) → (c ≡ true → R) → (b || c) ≡ true → R
-either true c f g h = f refl
-either false c f g h = g h
+-- numbers one after another
+times_append : (j : ℕ) (xs ys : List ℕ) → times j (xs ++ ys) ≡ times j xs + times j ys
+times_append j [] ys = omega arith
+times_append j (x ∷ xs) ys = omega (arith, times_append j xs ys)
 
-module _ (l : Tree) where
-  -- one fact more
-  one_more : (fs : List Tree) (f : Tree) → in_one l (fs ++ f ∷ []) ≡ (in_one l fs || occurs l f)
-  one_more fs f = any_append (occurs l) fs (f ∷ []) ∙ ap (λ b. in_one l fs || b) (or_false (occurs l f))
+pub times_next : (j : ℕ) (xs : List ℕ) (i x : ℕ) → i < length xs → x ≡ get_or xs i x → times j (take (i + 1) xs) ≡ times j (take i xs) + cond (nat_eq j x) 1 0
+times_next j xs i x l e = ap (times j) (take_item xs i x l e) ∙ times_append j (take i xs) (x ∷ []) ∙ omega arith
 
-  none_yet : (d : Bool) → ((d && false) || false) ≡ false
-  none_yet true = refl
-  none_yet false = refl
+times_once : (j : ℕ) (is : List ℕ) → AreOnce is → times j is ≡ cond (list_any (nat_eq j) is) 1 0
+times_once j [] h = refl
+times_once j (i ∷ is) h = by (nat_eq j i) refl (times_once j is h.1)
+  where
+    by : (b : Bool) → nat_eq j i ≡ b → times j is ≡ cond (list_any (nat_eq j) is) 1 0 → cond b 1 0 + times j is ≡ cond (b || list_any (nat_eq j) is) 1 0
+    by true q r = let none : times j is ≡ 0 = r ∙ ap (λ b. cond b 1 0) (ap (λ n. list_any (nat_eq n) is) (eqb-true j i q) ∙ h.0) in omega (arith, none)
+    by false q r = omega (arith, r)
 
-  ways : (a b c d : Bool) → ((a && (b || d)) || (c || (b && d))) ≡ (((a && b) || c) || ((a || b) && d))
-  ways true true c d = refl
-  ways true false true true = refl
-  ways true false true false = refl
-  ways true false false true = refl
-  ways true false false false = refl
-  ways false true true d = refl
-  ways false true false d = refl
-  ways false false true d = refl
-  ways false false false d = refl
+-- one number's count is put in place of another
+pub one_more : (old mid new : List ℕ) (i n : ℕ) → ((j : ℕ) → get_or mid j 0 ≡ get_or old j 0) → n ≡ get_or mid i 0 + 1 → ((j : ℕ) → get_or new j 0 ≡ cond (nat_eq j i) n (get_or mid j 0))
+    → (j : ℕ) → get_or new j 0 ≡ get_or old j 0 + cond (nat_eq j i) 1 0
+one_more old mid new i n room e g j = g j ∙ by (nat_eq j i) refl
+  where
+    by : (b : Bool) → nat_eq j i ≡ b → cond b n (get_or mid j 0) ≡ get_or old j 0 + cond b 1 0
+    by true q = let r : get_or mid i 0 ≡ get_or old j 0 = ap (λ k. get_or mid k 0) (sym (eqb-true j i q)) ∙ room j in omega (arith, e, r)
+    by false q = omega (arith, room j)
 
-  two_more : (fs : List Tree) (f : Tree) → in_two l (fs ++ f ∷ []) ≡ (in_two l fs || (in_one l fs && occurs l f))
-  two_more [] f = none_yet (occurs l f)
-  two_more (g ∷ fs) f = (λ k. (occurs l g && one_more fs f k) || two_more fs f k) ∙ ways (occurs l g) (in_one l fs) (in_two l fs) (occurs l f)
+pub one_less : (old new : List ℕ) (i n : ℕ) → n ≡ get_or old i 0 - 1 → ((j : ℕ) → get_or new j 0 ≡ cond (nat_eq j i) n (get_or old j 0)) → (j : ℕ) → get_or new j 0 ≡ get_or old j 0 - cond (nat_eq j i) 1 0
+one_less old new i n e g j = g j ∙ by (nat_eq j i) refl
+  where
+    by : (b : Bool) → nat_eq j i ≡ b → cond b n (get_or old j 0) ≡ get_or old j 0 - cond b 1 0
+    by true q = e ∙ ap (λ k. get_or old k 0 - 1) (sym (eqb-true j i q))
+    by false q = omega arith
 
-  -- what occurs in two occurs in one
-  two_one : (fs : List Tree) → in_two l fs ≡ true → in_one l fs ≡ true
-  two_one [] h = absurd (true≢false (sym h))
-  two_one (f ∷ fs) h = by (occurs l f) (in_one l fs) (two_one fs) h
+past_all : (xs : List ℕ) (i : ℕ) → length xs ≤ i → get_or xs i 0 ≡ 0
+past_all [] i l = refl
+past_all (x ∷ xs) zero l = absurd (omega (arith, l))
+past_all (x ∷ xs) (suc i) l = past_all xs i (omega (arith, l))
+
+pub none_there : (xs : List ℕ) (i : ℕ) → length xs ≤ i → (j : ℕ) → get_or xs j 0 ≡ get_or xs j 0 - cond (nat_eq j i) 1 0
+none_there xs i l j = by (nat_eq j i) refl
+  where
+    by : (b : Bool) → nat_eq j i ≡ b → get_or xs j 0 ≡ get_or xs j 0 - cond b 1 0
+    by true q = let e : get_or xs j 0 ≡ 0 = ap (λ k. get_or xs k 0) (eqb-true j i q) ∙ past_all xs i l in omega (arith, e)
+    by false q = omega arith
+
+-- facts one after another
+module _ (has : ℕ → ℕ → Bool) where
+  with_append : (j : ℕ) (xs ys : List ℕ) → facts_with has j (xs ++ ys) ≡ facts_with has j xs + facts_with has j ys
+  with_append j [] ys = omega arith
+  with_append j (x ∷ xs) ys = omega (arith, with_append j xs ys)
+
+  between : (j : ℕ) (xs ys : List ℕ) (t : ℕ) → facts_with has j (xs ++ t ∷ ys) ≡ cond (has j t) 1 0 + facts_with has j (xs ++ ys)
+  between j xs ys t = omega (arith, with_append j xs (t ∷ ys), with_append j xs ys)
+
+  counted_in : (xs ys c d : List ℕ) (t : ℕ) → AreCounted has (xs ++ ys) c → ((j : ℕ) → get_or d j 0 ≡ get_or c j 0 + cond (has j t) 1 0) → AreCounted has (xs ++ t ∷ ys) d
+  counted_in xs ys c d t h g j = omega (arith, g j, h j, between j xs ys t)
+
+  counted_out : (xs ys c d : List ℕ) (t : ℕ) → AreCounted has (xs ++ t ∷ ys) c → ((j : ℕ) → get_or d j 0 ≡ get_or c j 0 - cond (has j t) 1 0) → AreCounted has (xs ++ ys) d
+  counted_out xs ys c d t h g j = omega (arith, g j, h j, between j xs ys t)
+
+-- the atoms of a fact, in a store that goes on
+beyond : (us : List Tree) (j : ℕ) → length us ≤ j → at us j ≡ truth true
+beyond [] j l = refl
+beyond (u ∷ us) zero l = absurd (omega (arith, l))
+beyond (u ∷ us) (suc j) l = beyond us j (omega (arith, l))
+
+not_among : (n j : ℕ) (is : List ℕ) → n ≤ j → AllByRecursion (λ i. i < n) is → list_any (nat_eq j) is ≡ false
+not_among n j [] l h = refl
+not_among n j (i ∷ is) l h = λ k. (ne_eqb j i (λ e. absurd (omega (arith, e, h.0, l))) k || not_among n j is l h.1 k)
+
+and_false : (a b : Bool) → b ≡ false → (a && b) ≡ false
+and_false true b e = e
+and_false false b e = refl
+
+module _ (ts us : List Tree) (b : Begins ts us) (stored : AreStored us) (i : ℕ) (is : List ℕ) (low : i < length ts) (atoms : AreAtomsIn ts i is) (j : ℕ) where
+  new_dont : length ts ≤ j → (j < length us) ⊎ (length us ≤ j) → has_atom us j i ≡ false
+  new_dont n (inl w) = and_false (is_atom (at us j)) (occurs (at us j) (at us i)) (by (occurs (at us j) (at us i)) refl)
     where
-      by : (a b : Bool) → (in_two l fs ≡ true → b ≡ true) → ((a && b) || in_two l fs) ≡ true → (a || b) ≡ true
-      by true b r k = refl
-      by false b r k = r k
+      by : (x : Bool) → occurs (at us j) (at us i) ≡ x → x ≡ false
+      by true e = absurd (higher_dont us stored i j (omega (arith, low, n)) w e)
+      by false e = refl
+  new_dont n (inr w) = ap (λ t. is_atom t && occurs t (at us i)) (beyond us j w)
 
--- a term of a higher number occurs in none
-none_in : (ts : List Tree) → AreStored ts → (j : ℕ) → j < length ts → (is : List ℕ) → AllByRecursion (λ i. i < j) is → in_one (at ts j) (map (at ts) is) ≡ false
-none_in ts stored j w [] h = refl
-none_in ts stored j w (i ∷ is) h = by (occurs (at ts j) (at ts i)) refl (none_in ts stored j w is h.1)
-  where
-    by : (b : Bool) → occurs (at ts j) (at ts i) ≡ b → in_one (at ts j) (map (at ts) is) ≡ false → (b || in_one (at ts j) (map (at ts) is)) ≡ false
-    by true e r = absurd (higher_dont ts stored i j h.0 w e)
-    by false e r = r
+  atoms_are : (j < length ts) ⊎ (length ts ≤ j) → has_atom us j i ≡ list_any (nat_eq j) is
+  atoms_are (inl l) = (λ k. is_atom (begins_at ts us j b l k) && occurs (begins_at ts us j b l k) (begins_at ts us i b low k)) ∙ sym (atoms.are j l)
+  atoms_are (inr n) = new_dont n (cases_lt j (length us)) ∙ sym (not_among (length ts) j is n atoms.within)
 
--- in a longer store
-pub shared_later : (ts us : List Tree) (b : Begins ts us) → AreStored us → (is seen again : List ℕ) → AllByRecursion (λ i. i < length ts) is → AreShared ts is seen again → AreShared us is seen again
-shared_later ts us b stored is seen again low h = record { once = λ j w a g. one j w a g (cases_lt j (length ts)); twice = λ j w a g. two j w a g (cases_lt j (length ts)) }
-  where
-    one : (j : ℕ) → j < length us → is_atom (at us j) ≡ true → in_one (at us j) (map (at us) is) ≡ true → (j < length ts) ⊎ (length ts ≤ j) → list_any (nat_eq j) seen ≡ true
-    one j w a g (inl l) = let e = begins_at ts us j b l in h.once j l (ap is_atom (sym e) ∙ a) ((λ k. in_one (sym e k) (sym (terms_stay ts us b is low) k)) ∙ g)
-    one j w a g (inr n) = absurd (true≢false (sym g ∙ none_in us stored j w is (all_lower (length ts) j is n low)))
+  times_are : times j is ≡ cond (has_atom us j i) 1 0
+  times_are = times_once j is atoms.once ∙ ap (λ x. cond x 1 0) (sym (atoms_are (cases_lt j (length ts))))
 
-    two : (j : ℕ) → j < length us → is_atom (at us j) ≡ true → in_two (at us j) (map (at us) is) ≡ true → (j < length ts) ⊎ (length ts ≤ j) → list_any (nat_eq j) again ≡ true
-    two j w a g (inl l) = let e = begins_at ts us j b l in h.twice j l (ap is_atom (sym e) ∙ a) ((λ k. in_two (sym e k) (sym (terms_stay ts us b is low) k)) ∙ g)
-    two j w a g (inr n) = absurd (true≢false (sym (two_one (at us j) (map (at us) is) g) ∙ none_in us stored j w is (all_lower (length ts) j is n low)))
+pub atoms_more : (ts : List Tree) (i : ℕ) (is old new : List ℕ) → i < length ts → AreAtomsIn ts i is → ((j : ℕ) → get_or new j 0 ≡ get_or old j 0 + times j is) → IsOneMore ts i old new
+atoms_more ts i is old new low atoms g us b stored j = g j ∙ ap (λ n. get_or old j 0 + n) (times_are ts us b stored i is low atoms j)
 
-both : (a b : Bool) → a ≡ true → b ≡ true → (a && b) ≡ true
-both true true h g = refl
-both true false h g = g
-both false b h g = h
+pub atoms_less : (ts : List Tree) (i : ℕ) (is old new : List ℕ) → i < length ts → AreAtomsIn ts i is → ((j : ℕ) → get_or new j 0 ≡ get_or old j 0 - times j is) → IsOneLess ts i old new
+atoms_less ts i is old new low atoms g us b stored j = g j ∙ ap (λ n. get_or old j 0 - n) (times_are ts us b stored i is low atoms j)
 
--- one fact more, whose atoms are counted
-pub shared_next : (ts : List Tree) (fact : ℕ) (before seen again seen' again' atoms : List ℕ) → AreShared ts before seen again → AreAtomsIn ts fact atoms
-    → ((j : ℕ) → list_any (nat_eq j) seen ≡ true → list_any (nat_eq j) seen' ≡ true) → ((j : ℕ) → list_any (nat_eq j) again ≡ true → list_any (nat_eq j) again' ≡ true)
-    → ((j : ℕ) → list_any (nat_eq j) atoms ≡ true → list_any (nat_eq j) seen' ≡ true) → ((j : ℕ) → list_any (nat_eq j) atoms ≡ true → list_any (nat_eq j) seen ≡ true → list_any (nat_eq j) again' ≡ true)
-    → AreShared ts (before ++ fact ∷ []) seen' again'
-shared_next ts fact before seen again seen' again' atoms h inside kept kept_again new new_again = record {
-  once = λ j w a g. either (in_one (at ts j) (map (at ts) before)) (occurs (at ts j) (at ts fact)) (λ k. kept j (h.once j w a k)) (λ k. new j (there j w a k))
-      (sym (one_more (at ts j) (map (at ts) before) (at ts fact)) ∙ ap (in_one (at ts j)) (sym (map-append (at ts) before (fact ∷ []))) ∙ g);
-  twice = λ j w a g. either (in_two (at ts j) (map (at ts) before)) (in_one (at ts j) (map (at ts) before) && occurs (at ts j) (at ts fact)) (λ k. kept_again j (h.twice j w a k))
-      (λ k. let two = both_true (in_one (at ts j) (map (at ts) before)) (occurs (at ts j) (at ts fact)) k in new_again j (there j w a two.1) (h.once j w a two.0))
-      (sym (two_more (at ts j) (map (at ts) before) (at ts fact)) ∙ ap (in_two (at ts j)) (sym (map-append (at ts) before (fact ∷ []))) ∙ g);
-}
-  where
-    there : (j : ℕ) → j < length ts → is_atom (at ts j) ≡ true → occurs (at ts j) (at ts fact) ≡ true → list_any (nat_eq j) atoms ≡ true
-    there j w a k = inside.are j w ∙ both (is_atom (at ts j)) (occurs (at ts j) (at ts fact)) a k
+-- what is counted, in a store that goes on
+module _ (ts us : List Tree) (b : Begins ts us) where
+  pub shared_on : (is counts : List ℕ) → AreShared ts is counts → AreShared us is counts
+  shared_on is counts h vs c stored = h vs (begins_then ts us vs b c) stored
 
-pub none_shared : (ts : List Tree) (seen again : List ℕ) → AreShared ts [] seen again
-none_shared ts seen again = record { once = λ j w a g. absurd (true≢false (sym g)); twice = λ j w a g. absurd (true≢false (sym g)) }
+  pub shared_in : (xs ys c d : List ℕ) (t : ℕ) → AreShared ts (xs ++ ys) c → IsOneMore us t c d → AreShared us (xs ++ t ∷ ys) d
+  shared_in xs ys c d t h g vs e stored = counted_in (has_atom vs) xs ys c d t (h vs (begins_then ts us vs b e) stored) (g vs e stored)
 
--- an atom that isn't among those of two facts
-pub alone : (ts : List Tree) (is seen again : List ℕ) (j : ℕ) → AreShared ts is seen again → j < length ts → is_atom (at ts j) ≡ true → list_any (nat_eq j) again ≡ false → in_two (at ts j) (map (at ts) is) ≡ false
-alone ts is seen again j h w a absent = by (in_two (at ts j) (map (at ts) is)) refl
-  where
-    by : (b : Bool) → in_two (at ts j) (map (at ts) is) ≡ b → b ≡ false
-    by true e = absurd (true≢false (sym (h.twice j w a e) ∙ absent))
-    by false e = refl
+  pub shared_out : (xs ys c d : List ℕ) (t : ℕ) → AreShared ts (xs ++ t ∷ ys) c → IsOneLess us t c d → AreShared us (xs ++ ys) d
+  shared_out xs ys c d t h g vs e stored = counted_out (has_atom vs) xs ys c d t (h vs (begins_then ts us vs b e) stored) (g vs e stored)
 
--- one number more in a set
-pub put_there : (i : ℕ) (is js : List ℕ) → js ≡ cond (list_any (nat_eq i) is) is (is ++ i ∷ []) → list_any (nat_eq i) js ≡ true
-put_there i is js e = inserted i i is js e ∙ or_second (list_any (nat_eq i) is) (nat_eq i i) (eq-eqb i i refl)
+  pub numbers_on : (is : List ℕ) → AllByRecursion (λ i. i < length ts) is → AllByRecursion (λ i. i < length us) is
+  numbers_on [] h = tt
+  numbers_on (i ∷ is) h = (omega (arith, h.0, begins_length ts us b), numbers_on is h.1)
 
-pub put_kept : (i j : ℕ) (is js : List ℕ) → js ≡ cond (list_any (nat_eq i) is) is (is ++ i ∷ []) → list_any (nat_eq j) is ≡ true → list_any (nat_eq j) js ≡ true
-put_kept i j is js e h = inserted i j is js e ∙ or_first (list_any (nat_eq j) is) (nat_eq j i) h
+  pub counted_on : (s : Shared) → IsCounted ts s → IsCounted us s
+  counted_on s h = (numbers_on s.listed.items h.0, shared_on s.listed.items s.counts.items h.1)
 
--- one atom more of a fact
-module _ (xs : List ℕ) (i x j : ℕ) (l : i < length xs) (e : x ≡ get_or xs i x) where
-  next_is : list_any (nat_eq j) (take (i + 1) xs) ≡ (list_any (nat_eq j) (take i xs) || nat_eq j x)
-  next_is = ap (list_any (nat_eq j)) (take_item xs i x l e) ∙ any_append (nat_eq j) (take i xs) (x ∷ []) ∙ ap (λ b. list_any (nat_eq j) (take i xs) || b) (or_false (nat_eq j x))
+pub none_shared : (ts : List Tree) (is counts : List ℕ) → is ≡ [] → counts ≡ [] → AreShared ts is counts
+none_shared ts is counts e f us b stored j = (λ k. get_or (f k) j 0) ∙ sym (ap (facts_with (has_atom us) j) e)
 
-  pub count_seen : (old new : List ℕ) → (list_any (nat_eq j) (take i xs) ≡ true → list_any (nat_eq j) old ≡ true) → (list_any (nat_eq j) old ≡ true → list_any (nat_eq j) new ≡ true) → list_any (nat_eq x) new ≡ true
-      → list_any (nat_eq j) (take (i + 1) xs) ≡ true → list_any (nat_eq j) new ≡ true
-  count_seen old new before kept here h = either (list_any (nat_eq j) (take i xs)) (nat_eq j x) (λ k. kept (before k)) (λ k. ap (λ n. list_any (nat_eq n) new) (eqb-true j x k) ∙ here) (sym next_is ∙ h)
+-- an atom that one fact alone has
+module _ (ts : List Tree) (j : ℕ) where
+  abbrev count : List ℕ → ℕ
+  count is = facts_with (has_atom ts) j is
 
-  pub count_again : (first old again new : List ℕ) → (list_any (nat_eq j) (take i xs) ≡ true → list_any (nat_eq j) first ≡ true → list_any (nat_eq j) again ≡ true) → (list_any (nat_eq j) again ≡ true → list_any (nat_eq j) new ≡ true)
-      → (list_any (nat_eq j) first ≡ true → list_any (nat_eq j) old ≡ true) → (list_any (nat_eq x) old ≡ true → list_any (nat_eq x) new ≡ true) → list_any (nat_eq j) (take (i + 1) xs) ≡ true → list_any (nat_eq j) first ≡ true → list_any (nat_eq j) new ≡ true
-  count_again first old again new before kept older here h f = either (list_any (nat_eq j) (take i xs)) (nat_eq j x) (λ k. kept (before k f))
-      (λ k. let same = eqb-true j x k in ap (λ n. list_any (nat_eq n) new) same ∙ here (ap (λ n. list_any (nat_eq n) old) (sym same) ∙ older f)) (sym next_is ∙ h)
+  none_has : is_atom (at ts j) ≡ false → (is : List ℕ) → count is ≡ 0
+  none_has e [] = refl
+  none_has e (i ∷ is) = let none : ◌≡◌ {A = ℕ} (cond (has_atom ts j i) 1 0) 0 = ap (λ b. cond (b && occurs (at ts j) (at ts i)) 1 0) e in omega (arith, none, none_has e is)
+
+  one_has : is_atom (at ts j) ≡ true → (is : List ℕ) → in_one (at ts j) (map (at ts) is) ≡ true → 1 ≤ count is
+  one_has e [] h = absurd (true≢false (sym h))
+  one_has e (i ∷ is) h = by (is_atom (at ts j)) (occurs (at ts j) (at ts i)) e (one_has e is) h
+    where
+      by : (p q : Bool) → p ≡ true → (in_one (at ts j) (map (at ts) is) ≡ true → 1 ≤ count is) → (q || in_one (at ts j) (map (at ts) is)) ≡ true → 1 ≤ cond (p && q) 1 0 + count is
+      by true true f rec k = omega arith
+      by true false f rec k = omega (arith, rec k)
+      by false q f rec k = absurd (true≢false (sym f))
+
+  two_have : is_atom (at ts j) ≡ true → (is : List ℕ) → in_two (at ts j) (map (at ts) is) ≡ true → 2 ≤ count is
+  two_have e [] h = absurd (true≢false (sym h))
+  two_have e (i ∷ is) h = by (is_atom (at ts j)) (occurs (at ts j) (at ts i)) (in_one (at ts j) (map (at ts) is)) e (one_has e is) (two_have e is) h
+    where
+      by : (p q r : Bool) → p ≡ true → (r ≡ true → 1 ≤ count is) → (in_two (at ts j) (map (at ts) is) ≡ true → 2 ≤ count is) → ((q && r) || in_two (at ts j) (map (at ts) is)) ≡ true → 2 ≤ cond (p && q) 1 0 + count is
+      by true true true f one two k = omega (arith, one refl)
+      by true true false f one two k = omega (arith, two k)
+      by true false r f one two k = omega (arith, two k)
+      by false q r f one two k = absurd (true≢false (sym f))
+
+  pub alone : (is counts : List ℕ) → get_or counts j 0 ≡ 1 → AreCounted (has_atom ts) is counts → in_two (at ts j) (map (at ts) is) ≡ false
+  alone is counts one h = by (is_atom (at ts j)) (in_two (at ts j) (map (at ts) is)) refl refl
+    where
+      by : (a b : Bool) → is_atom (at ts j) ≡ a → in_two (at ts j) (map (at ts) is) ≡ b → b ≡ false
+      by a false p q = refl
+      by true true p q = absurd (omega (arith, two_have p is q, h j, one))
+      by false true p q = absurd (omega (arith, none_has p is, h j, one))
+
+-- what is so is so of an Ok
+pub on_ok : {A E P : Type 0} (r : Result A E) → P → OnOk r P
+on_ok (Ok a) h = h
+on_ok (Err e) h = tt

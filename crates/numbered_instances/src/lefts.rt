@@ -1,5 +1,5 @@
 // The oldest oriented fact whose left side occurs in another fact, by number.
-ghost use Rattle.std.specs.Prelude.{◌≡◌, ◌<◌, ℕ, Some, length, map, slice_get, option_map, IfOk, IfSome};
+ghost use Rattle.std.specs.Prelude.{◌≡◌, ◌<◌, ℕ, Some, length, map, slice_get, option_map, IfOk, IfSome, OnOk};
 ghost use Rattle.std.specs.List.{AllByRecursion, list_any};
 ghost use Rattle.tableau_branch.specs.Branch.{first_from, oldest};
 ghost use Rattle.tableau_branch.specs.Replacing.{rewrites};
@@ -8,7 +8,7 @@ ghost use Rattle.term_bank.specs.Numbered.{at};
 ghost use Rattle.numbered_terms.specs.Stored.{Grows};
 ghost use Rattle.numbered_facts.specs.Answers.{StandsFor};
 ghost use Rattle.numbered_branches.specs.Branches.{IsBranchOver, IsFactBelow, branch_at, fact_at};
-ghost use Rattle.numbered_instances.specs.Shared.{AreShared};
+ghost use Rattle.numbered_instances.specs.Shared.{AreShared, IsCounted};
 ghost use Rattle.numbered_instances.specs.Lefts.{left_at, left_among, IsLeftOver};
 
 use crate::candidates::facts_of;
@@ -74,7 +74,7 @@ fn left_in_another(
 ) -> Result<Option<TermId>, AllocError>
     requires facts { AllByRecursion (IsFactBelow (length store.old.terms)) facts.now }
     requires there { (i : ℕ) × (slice_get facts.now i ≡ Some fact.now) }
-    requires shared { AreShared store.old.terms (map (λ f. f.term) facts.now) shared.now.seen shared.now.again }
+    requires shared { AreShared store.old.terms (map (λ f. f.term) facts.now) shared.now.counts.items }
     ensures grows { Grows store.old store.new }
     ensures gives { IfOk result (λ o. StandsFor store.new.terms o (left_among store.old facts.now (fact_at store.old.terms fact.now))) }
 {
@@ -82,7 +82,7 @@ fn left_in_another(
         return Ok(None);
     };
     store.terms().are_stored();
-    if shared.is_alone(store.terms(), left) {
+    if shared.is_alone(left) {
         return Ok(None);
     }
     if occurs_in_another(store, fact.number, left, facts)? {
@@ -91,20 +91,19 @@ fn left_in_another(
     Ok(None)
 }
 
-// The first of the facts of which there is one, with its place. The atoms of the facts are listed.
+// The first of the facts of which there is one, with its place. The atoms of the facts are counted.
 fn listed_left(
     store: &mut Store,
     shared: &Shared,
     facts: &[Fact],
 ) -> Result<Option<Left>, AllocError>
     requires facts { AllByRecursion (IsFactBelow (length store.old.terms)) facts.now }
-    requires shared { AreShared store.old.terms (map (λ f. f.term) facts.now) shared.now.seen shared.now.again }
+    requires shared { AreShared store.old.terms (map (λ f. f.term) facts.now) shared.now.counts.items }
     ensures grows { Grows store.old store.new }
     ensures left { IfOk result (λ o. option_map (left_at store.new.terms) o ≡ first_from (left_among store.old facts.now) 0 (map (fact_at store.old.terms) facts.now)) }
     ensures over { IfOk result (λ o. IfSome o (IsLeftOver store.new.terms)) }
 {
     for (at, fact) in facts.iter().enumerate() {
-        store.terms().are_stored();
         if let Some(term) = left_in_another(store, shared, facts, fact)? {
             return Ok(Some(Left {
                 at,
@@ -124,9 +123,11 @@ pub fn oldest_left(
 ) -> Result<Option<Left>, AllocError>
     requires branch { IsBranchOver store.old.terms branch.now }
     requires vars { store.old.vars ≡ branch.now.vars }
+    requires counted { IsCounted store.old.terms shared.old }
     ensures grows { Grows store.old store.new }
     ensures left { IfOk result (λ o. option_map (left_at store.new.terms) o ≡ oldest (left_in_another store.old.defs (branch_at store.old.terms branch.now)) (branch_at store.old.terms branch.now)) }
     ensures over { IfOk result (λ o. IfSome o (IsLeftOver store.new.terms)) }
+    ensures counted { OnOk result (IsCounted store.new.terms shared.new) }
 {
     let facts = facts_of(branch);
     shared.list(store, facts)?;

@@ -5,8 +5,9 @@
 //! the numbers that it finds stand for, against the definitions of matching terms.
 //!
 //! What the rules look for in a branch they list first: `ground` its ground terms, `marks` the tuples with
-//! which a ForAll was instantiated, `shared` the atoms that several facts have. Each list is exactly
-//! what a walk through the branch finds, so that no list shows in what a rule gives.
+//! which a ForAll was instantiated, `shared` in how many facts each atom occurs, which is kept from branch
+//! to branch. Each list is exactly what a walk through the branch finds, so that no list shows in what a
+//! rule gives.
 #![tactic(auto)]
 
 // The sort of a term.
@@ -25,6 +26,7 @@ pub mod marks;
 pub mod tuples;
 
 // The rule rewrite.
+mod counts;
 pub mod lefts;
 pub mod rewriting;
 pub mod shared;

@@ -7,6 +7,7 @@ ghost use Rattle.term_bank.specs.Numbered.{at};
 ghost use Rattle.numbered_terms.specs.Stored.{Grows};
 ghost use Rattle.numbered_branches.specs.Branches.{IsBranchOver, IsFactBelow, IsMadeOver, branch_at, fact_at, made_at};
 ghost use Rattle.numbered_branches.specs.Applied.{TriesAt, GivesMoveAt};
+ghost use Rattle.numbered_instances.specs.Shared.{IsCounted};
 
 use crate::lefts::oldest_left;
 use crate::shared::Shared;
@@ -100,7 +101,9 @@ pub fn rewrite(
 ) -> Result<Attempt, NormalFault>
     requires branch { IsBranchOver store.old.terms branch }
     requires vars { store.old.vars ≡ branch.vars }
+    requires counted { IsCounted store.old.terms shared.old }
     ensures grows { Grows store.old store.new }
+    ensures counted { OnOk result (IsCounted store.new.terms shared.new) }
     ensures tries { TriesAt store.new.terms (branch_at store.old.terms branch) result (rewrite store.old.defs (branch_at store.old.terms branch)) }
 {
     match oldest_left(store, shared, &branch)? {

@@ -1,96 +1,200 @@
-// The atoms that occur in two facts of a branch, by number.
-ghost use Rattle.std.specs.Prelude.{◌≡◌, ◌<◌, ◌++◌, ◌∷◌, [], ℕ, List, nat_eq, true, false, length, map, OnOk};
-ghost use Rattle.std.specs.List.{AllByRecursion, list_any};
+// In how many facts of a branch each atom occurs, kept from branch to branch.
+ghost use Rattle.std.specs.Prelude.{◌≡◌, ◌<◌, ◌++◌, ◌∷◌, [], ℕ, List, nat_eq, true, false, length, map, drop, IfOk, IfSome, OnOk};
+ghost use Rattle.std.specs.List.{AllByRecursion};
+ghost use Rattle.logic_core.specs.Tree.{Tree};
 ghost use Rattle.term_bank.specs.Numbered.{at};
 ghost use Rattle.numbered_terms.specs.Stored.{Grows};
 ghost use Rattle.numbered_branches.specs.Branches.{IsFactBelow};
-ghost use Rattle.numbered_instances.specs.Shared.{AreShared, in_two};
+ghost use Rattle.numbered_instances.specs.Shared.{AreShared, IsOneMore, IsOneLess, AreCounted, IsCounted, has_atom, in_two};
 
+use crate::counts::{add_each, count_of, take_each};
 use numbered_branches::branch::Fact;
 use numbered_facts::Store;
-use numbered_facts::inside::is_atom;
-use numbered_terms::Terms;
-use numbered_terms::number_set::NumberSet;
 use std::alloc::{AllocError, Global};
 use term_bank::TermId;
 
-/// The atoms of facts: those that occur in some, and those that occur in two.
+/// The facts that were listed last, and in how many of them each atom occurs.
 #[derive(Drop)]
 pub struct Shared {
-    seen: NumberSet,
-    again: NumberSet,
-}
-
-// An atom of one more fact.
-fn count(shared: &mut Shared, atom: TermId) -> Result<(), AllocError>
-    ensures kept { OnOk result ((j : ℕ) → list_any (nat_eq j) shared.old.seen ≡ true → list_any (nat_eq j) shared.new.seen ≡ true) }
-    ensures kept_again { OnOk result ((j : ℕ) → list_any (nat_eq j) shared.old.again ≡ true → list_any (nat_eq j) shared.new.again ≡ true) }
-    ensures seen { OnOk result (list_any (nat_eq atom) shared.new.seen ≡ true) }
-    ensures again { OnOk result (list_any (nat_eq atom) shared.old.seen ≡ true → list_any (nat_eq atom) shared.new.again ≡ true) }
-{
-    if shared.seen.contains(atom) {
-        shared.again.insert(atom)?;
-        return Ok(());
-    }
-    shared.seen.insert(atom)?;
-    Ok(())
-}
-
-// The atoms of one more fact.
-fn count_each(shared: &mut Shared, atoms: &[TermId]) -> Result<(), AllocError>
-    ensures kept { OnOk result ((j : ℕ) → list_any (nat_eq j) shared.old.seen ≡ true → list_any (nat_eq j) shared.new.seen ≡ true) }
-    ensures kept_again { OnOk result ((j : ℕ) → list_any (nat_eq j) shared.old.again ≡ true → list_any (nat_eq j) shared.new.again ≡ true) }
-    ensures seen { OnOk result ((j : ℕ) → list_any (nat_eq j) atoms.now ≡ true → list_any (nat_eq j) shared.new.seen ≡ true) }
-    ensures again { OnOk result ((j : ℕ) → list_any (nat_eq j) atoms.now ≡ true → list_any (nat_eq j) shared.old.seen ≡ true → list_any (nat_eq j) shared.new.again ≡ true) }
-{
-    for atom in atoms {
-        count(shared, *atom)?;
-    }
-    Ok(())
+    pub listed: Vec<TermId>,
+    pub counts: Vec<usize>,
 }
 
 // One more fact.
-fn count_fact(store: &mut Store, shared: &mut Shared, fact: &Fact) -> Result<(), AllocError>
-    requires { IsFactBelow (length store.old.terms) fact.now }
+fn count_fact(store: &mut Store, counts: &mut Vec<usize>, id: TermId) -> Result<(), AllocError>
+    requires { id < length store.old.terms }
     ensures grows { Grows store.old store.new }
-    ensures shared { OnOk result ((before : List ℕ) → AllByRecursion (λ i. i < length store.old.terms) before → AreShared store.old.terms before shared.old.seen shared.old.again → AreShared store.new.terms (before ++ fact.now.term ∷ []) shared.new.seen shared.new.again) }
+    ensures more { OnOk result (IsOneMore store.new.terms id counts.old.items counts.new.items) }
 {
-    let atoms = store.atoms(fact.term)?;
-    store.terms().are_stored();
-    count_each(shared, &atoms)?;
+    let atoms = store.atoms(id)?;
+    add_each(counts, &atoms)?;
+    Ok(())
+}
+
+// One fact less.
+fn leave_fact(store: &mut Store, counts: &mut Vec<usize>, id: TermId) -> Result<(), AllocError>
+    requires { id < length store.old.terms }
+    ensures grows { Grows store.old store.new }
+    ensures less { OnOk result (IsOneLess store.new.terms id counts.old.items counts.new.items) }
+{
+    let atoms = store.atoms(id)?;
+    take_each(counts, &atoms);
+    Ok(())
+}
+
+// The place behind the number, where it stands at this place.
+fn behind(listed: &[TermId], at: usize, id: TermId) -> Option<usize>
+    ensures { IfSome result (λ k. drop at listed.now ≡ id ∷ drop k listed.now) }
+{
+    if at < listed.len() && listed[at] == id {
+        return Some(at + 1);
+    }
+    None
+}
+
+// The fact at this place goes. The next place.
+fn leave_one(
+    store: &mut Store,
+    counts: &mut Vec<usize>,
+    listed: &[TermId],
+    at: usize,
+) -> Result<usize, AllocError>
+    requires { AllByRecursion (λ i. i < length store.old.terms) listed.now }
+    ensures grows { Grows store.old store.new }
+    ensures left { IfOk result (λ k. (before : List ℕ) → AreShared store.old.terms (before ++ drop at listed.now) counts.old.items → AreShared store.new.terms (before ++ drop k listed.now) counts.new.items) }
+{
+    if at < listed.len() {
+        leave_fact(store, counts, listed[at])?;
+        return Ok(at + 1);
+    }
+    Ok(at)
+}
+
+// The facts behind the last place go.
+fn leave_rest(
+    store: &mut Store,
+    counts: &mut Vec<usize>,
+    listed: &[TermId],
+    from: usize,
+) -> Result<(), AllocError>
+    requires { AllByRecursion (λ i. i < length store.old.terms) listed.now }
+    ensures grows { Grows store.old store.new }
+    ensures left { OnOk result ((before : List ℕ) → AreShared store.old.terms (before ++ drop from listed.now) counts.old.items → AreShared store.new.terms before counts.new.items) }
+{
+    for at in from..listed.len() {
+        leave_fact(store, counts, listed[at])?;
+    }
+    Ok(())
+}
+
+// One of the new facts: where it stands at this place it is passed, and else it is counted. The next place.
+fn count_at(
+    store: &mut Store,
+    counts: &mut Vec<usize>,
+    listed: &[TermId],
+    at: usize,
+    id: TermId,
+) -> Result<usize, AllocError>
+    requires { id < length store.old.terms }
+    ensures grows { Grows store.old store.new }
+    ensures counted { IfOk result (λ k. (before : List ℕ) → AreShared store.old.terms (before ++ drop at listed.now) counts.old.items → AreShared store.new.terms (before ++ id ∷ drop k listed.now) counts.new.items) }
+{
+    if let Some(next) = behind(listed, at, id) {
+        return Ok(next);
+    }
+    count_fact(store, counts, id)?;
+    Ok(at)
+}
+
+// The same, where a fact that stands before it may go.
+fn count_next(
+    store: &mut Store,
+    counts: &mut Vec<usize>,
+    listed: &[TermId],
+    at: usize,
+    id: TermId,
+) -> Result<usize, AllocError>
+    requires listed { AllByRecursion (λ i. i < length store.old.terms) listed.now }
+    requires id { id < length store.old.terms }
+    ensures grows { Grows store.old store.new }
+    ensures counted { IfOk result (λ k. (before : List ℕ) → AreShared store.old.terms (before ++ drop at listed.now) counts.old.items → AreShared store.new.terms (before ++ id ∷ drop k listed.now) counts.new.items) }
+{
+    if let Some(next) = behind(listed, at, id) {
+        return Ok(next);
+    }
+    let from = leave_one(store, counts, listed, at)?;
+    count_at(store, counts, listed, from, id)
+}
+
+// The formula of a fact.
+fn term_of(fact: &Fact) -> TermId
+    ensures { result ≡ fact.now.term }
+{
+    fact.term
+}
+
+// The new facts, one after another. The place behind the listed facts that were looked at.
+fn count_new(
+    store: &mut Store,
+    counts: &mut Vec<usize>,
+    listed: &[TermId],
+    facts: &[Fact],
+) -> Result<usize, AllocError>
+    requires listed { AllByRecursion (λ i. i < length store.old.terms) listed.now }
+    requires facts { AllByRecursion (IsFactBelow (length store.old.terms)) facts.now }
+    ensures grows { Grows store.old store.new }
+    ensures counted { IfOk result (λ k. AreShared store.old.terms listed.now counts.old.items → AreShared store.new.terms (map (λ f. f.term) facts.now ++ drop k listed.now) counts.new.items) }
+{
+    let mut at: usize = 0;
+    for fact in facts {
+        let id = term_of(fact);
+        let next = count_next(store, counts, listed, at, id)?;
+        at = next;
+    }
+    Ok(at)
+}
+
+// The numbers of these facts take the place of those that are listed.
+fn list_again(listed: &mut Vec<TermId>, facts: &[Fact]) -> Result<(), AllocError>
+    ensures { OnOk result (listed.new.items ≡ map (λ f. f.term) facts.now) }
+{
+    listed.clear();
+    for fact in facts {
+        let id = term_of(fact);
+        listed.push(id)?;
+    }
     Ok(())
 }
 
 impl Shared {
-    /// No atoms.
+    /// No facts.
     pub fn new(alloc: Global) -> Shared
-        ensures { result ≡ record { seen = []; again = [] } }
+        ensures { (ts : List Tree) → IsCounted ts result }
     {
         Shared {
-            seen: NumberSet::new(alloc),
-            again: NumberSet::new(alloc),
+            listed: Vec::new(alloc),
+            counts: Vec::new(alloc),
         }
     }
 
-    /// Lists the atoms of these facts.
+    /// Lists these facts: those that are listed already, in this order, are passed.
     pub fn list(&mut self, store: &mut Store, facts: &[Fact]) -> Result<(), AllocError>
-        requires { AllByRecursion (IsFactBelow (length store.old.terms)) facts.now }
+        requires facts { AllByRecursion (IsFactBelow (length store.old.terms)) facts.now }
+        requires counted { IsCounted store.old.terms self.old }
         ensures grows { Grows store.old store.new }
-        ensures shared { OnOk result (AreShared store.new.terms (map (λ f. f.term) facts.now) self.new.seen self.new.again) }
+        ensures counted { OnOk result (IsCounted store.new.terms self.new) }
+        ensures listed { OnOk result (self.new.listed.items ≡ map (λ f. f.term) facts.now) }
     {
-        self.seen.clear();
-        self.again.clear();
-        for fact in facts {
-            count_fact(store, self, fact)?;
-        }
+        let from = count_new(store, &mut self.counts, &self.listed, facts)?;
+        leave_rest(store, &mut self.counts, &self.listed, from)?;
+        list_again(&mut self.listed, facts)?;
         Ok(())
     }
 
-    /// Whether the term is an atom that doesn't occur in two of the facts.
-    pub fn is_alone(&self, terms: &Terms, id: TermId) -> bool
-        requires { id < length terms.now }
-        ensures { result ≡ true → (facts : List ℕ) → AreShared terms.now facts self.now.seen self.now.again → in_two (at terms.now id) (map (at terms.now) facts) ≡ false }
+    /// Whether the term is an atom that occurs in one of the facts alone.
+    pub fn is_alone(&self, id: TermId) -> bool
+        ensures { result ≡ true → (ts : List Tree) (facts : List ℕ) → AreCounted (has_atom ts) facts self.now.counts.items → in_two (at ts id) (map (at ts) facts) ≡ false }
     {
-        is_atom(terms, id) && !self.again.contains(id)
+        count_of(&self.counts, id) == 1
     }
 }

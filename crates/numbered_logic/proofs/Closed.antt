@@ -21,17 +21,21 @@ use Rattle.numbered_logic.proofs.Later.{fact_later}
 pub closes_none : (fs : List Fact) → pair_from [] fs ≡ None → close (with_facts (branch_over []) fs) ≡ none
 closes_none fs h = rw h refl
 
+facts_are : (n m : Numbered) → Grows n m → (fs : List NumberedFact) → AllByRecursion (IsFactBelow (length n.terms)) fs → map (fact_at m.terms) fs ≡ map (fact_at n.terms) fs
+facts_are n m g [] h = refl
+facts_are n m g (f ∷ fs) h = λ k. fact_later n m f g h.0 k ∷ facts_are n m g fs h.1 k
+
+-- where no two facts do
+pub apart_passes : (n m : Numbered) → Grows n m → (b : NumberedBranch) → IsBranchOver n.terms b → pair_from [] (map (fact_at m.terms) b.facts) ≡ None → TriesAt m.terms (branch_at n.terms b) (Ok (Passes b)) (close (branch_at n.terms b))
+apart_passes n m g b over h = (branch_more n.terms m.terms g.terms b over, closes_none (map (fact_at n.terms) b.facts) (ap (pair_from []) (sym (facts_are n m g b.facts over.facts)) ∙ h))
+
 as_facts : (ts : List Tree) (ds : List Denied) → map (denied_at ts) ds ≡ map (fact_at ts) (map (λ (d : Denied). d.fact) ds)
 as_facts ts [] = refl
 as_facts ts (d ∷ ds) = ap (λ fs. denied_at ts d ∷ fs) (as_facts ts ds)
 
 module _ (n m : Numbered) (g : Grows n m) (b : NumberedBranch) (ds : List Denied) (over : IsBranchOver n.terms b) (denied : AreDenied m.terms ds b.facts) where
-  facts_are : (fs : List NumberedFact) → AllByRecursion (IsFactBelow (length n.terms)) fs → map (fact_at m.terms) fs ≡ map (fact_at n.terms) fs
-  facts_are [] h = refl
-  facts_are (f ∷ fs) h = λ k. fact_later n m f g h.0 k ∷ facts_are fs h.1 k
-
   of_branch : close (with_facts (branch_over []) (map (denied_at m.terms) ds)) ≡ close (branch_at n.terms b)
-  of_branch = ap (λ fs. close (with_facts (branch_over []) fs)) (as_facts m.terms ds ∙ ap (map (fact_at m.terms)) denied.1 ∙ facts_are b.facts over.facts)
+  of_branch = ap (λ fs. close (with_facts (branch_over []) fs)) (as_facts m.terms ds ∙ ap (map (fact_at m.terms)) denied.1 ∙ facts_are n m g b.facts over.facts)
 
   pub closed_by : (v : Move) (p q : ℕ) → v.ending ≡ Closes p q → v.made.items ≡ [] → close_of (Some (p, q)) ≡ close (with_facts (branch_over []) (map (denied_at m.terms) ds)) → TriesAt m.terms (branch_at n.terms b) (Ok (Gives v)) (close (branch_at n.terms b))
   closed_by v p q ending made h = let x : close (branch_at n.terms b) ≡ close_of (Some (p, q)) = sym (h ∙ of_branch) in

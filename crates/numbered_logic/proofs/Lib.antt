@@ -1,4 +1,3 @@
-pub mod Apart
 pub mod Attempts
 pub mod Bodies
 pub mod Calls
@@ -6,6 +5,7 @@ pub mod CaseBranches
 pub mod Closed
 pub mod Denying
 pub mod Later
+pub mod NoPair
 pub mod Oldest
 pub mod Pairing
 pub mod Rules

@@ -1,8 +1,7 @@
 -- Facts of numbers, each with the number of its normal Not.
-use Rattle.std.specs.Prelude.{◌≡◌, ℕ, nat_eq, Bool, true, Option, List, length, map}
-use Rattle.std.specs.List.{list_any, AllByRecursion}
+use Rattle.std.specs.Prelude.{◌≡◌, List, length, map}
+use Rattle.std.specs.List.{AllByRecursion}
 use Rattle.logic_core.specs.Tree.{Tree}
-use Rattle.logic_core.specs.Same.{is_some_and}
 use Rattle.logic_core.specs.Junction.{negated}
 use Rattle.term_bank.specs.Numbered.{at}
 use Rattle.tableau_branch.specs.Branch.{Fact}
@@ -20,11 +19,3 @@ module _ (ts : List Tree) where
 
   abbrev pub denied_at : Denied → Fact
   denied_at d = fact_at ts d.fact
-
--- whether the number, if there is one, is among these
-abbrev pub is_among : List ℕ → Option ℕ → Bool
-is_among keys o = is_some_and o (λ n. list_any (nat_eq n) keys)
-
--- whether the fact's number is among these
-abbrev pub IsListed : List ℕ → Denied → Type 0
-IsListed keys d = list_any (nat_eq d.fact.term) keys ≡ true

@@ -1,3 +1,4 @@
+pub mod Apart
 pub mod Denied
 pub mod Forms
 pub mod Found

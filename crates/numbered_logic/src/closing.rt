@@ -1,7 +1,6 @@
 // The rule close, over numbers.
-ghost use Rattle.std.specs.Prelude.{◌≡◌, ◌||◌, [], false, nat_eq, find, map, length, option_map, Some, IfOk, OnOk, IfSome};
+ghost use Rattle.std.specs.Prelude.{◌≡◌, [], false, find, map, length, option_map, Some, IfOk, OnOk, IfSome};
 ghost use Rattle.std.specs.List.{AllByRecursion};
-ghost use Rattle.indexmap.specs.IndexSet.{insert_key};
 ghost use Rattle.logic_core.specs.Junction.{is_truth};
 ghost use Rattle.term_bank.specs.Numbered.{at};
 ghost use Rattle.proof_core.specs.Close.{is_negation_of};
@@ -12,8 +11,10 @@ ghost use Rattle.numbered_terms.specs.Stored.{Grows};
 ghost use Rattle.numbered_branches.specs.Applied.{TriesAt};
 ghost use Rattle.numbered_branches.specs.Branches.{branch_at, IsFactBelow, IsBranchOver};
 ghost use Rattle.numbered_logic.specs.Forms.{branch_over};
-ghost use Rattle.numbered_logic.specs.Denied.{IsDenied, AreDenied, denied_at, is_among, IsListed};
+ghost use Rattle.numbered_logic.specs.Apart.{AreApart};
+ghost use Rattle.numbered_logic.specs.Denied.{IsDenied, AreDenied, denied_at};
 
+use crate::apart::Apart;
 use crate::found::term_of;
 use logic_core::NormalFault;
 use numbered_branches::branch::{Branch, Fact};
@@ -21,7 +22,6 @@ use numbered_branches::played::{Attempt, Ending, Move};
 use numbered_facts::Store;
 use numbered_forms::junction::is_truth;
 use numbered_terms::Terms;
-use numbered_terms::number_set::NumberSet;
 use std::alloc::AllocError;
 use term_bank::TermId;
 
@@ -57,65 +57,12 @@ fn with_negations(store: &mut Store, facts: &[Fact]) -> Result<Vec<Denied>, Allo
     Ok(all)
 }
 
-// The number of one more fact.
-fn note(numbers: &mut NumberSet, one: &Denied) -> Result<(), AllocError>
-    ensures { OnOk result (numbers.new ≡ insert_key nat_eq numbers.old one.now.fact.term) }
-{
-    numbers.insert(one.fact.term)?;
-    Ok(())
-}
-
 // Whether the fact is false.
 fn is_false(terms: &Terms, one: &Denied) -> bool
     requires { IsDenied terms.now one.now }
     ensures { result ≡ is_truth false (at terms.now one.now.fact.term) }
 {
     is_truth(terms, one.fact.term, false)
-}
-
-// Lists the numbers of the facts.
-fn list_numbers(numbers: &mut NumberSet, denied: &[Denied]) -> Result<(), AllocError>
-    ensures { OnOk result (AllByRecursion (IsListed numbers.new) denied.now) }
-{
-    numbers.clear();
-    for one in denied {
-        note(numbers, one)?;
-    }
-    Ok(())
-}
-
-// Whether the number, if there is one, is among these.
-fn is_among(numbers: &NumberSet, id: Option<TermId>) -> bool
-    ensures { result ≡ is_among numbers.now id }
-{
-    match id {
-        Some(id) => numbers.contains(id),
-        None => false,
-    }
-}
-
-// Whether the fact may close the branch: it is false, or its normal Not is among these numbers.
-fn may_close_by(terms: &Terms, numbers: &NumberSet, one: &Denied) -> bool
-    requires { IsDenied terms.now one.now }
-    ensures { result ≡ (is_truth false (at terms.now one.now.fact.term) || is_among numbers.now one.now.negation) }
-{
-    is_false(terms, one) || is_among(numbers, one.negation)
-}
-
-// Whether a fact is false, or the normal Not of one is among the numbers, which are those of the facts.
-// Else none closes the branch.
-fn may_close(terms: &Terms, numbers: &NumberSet, denied: &[Denied]) -> bool
-    requires denied { AllByRecursion (IsDenied terms.now) denied.now }
-    requires numbers { AllByRecursion (IsListed numbers.now) denied.now }
-    ensures { result ≡ false → pair_from [] (map (denied_at terms.now) denied.now) ≡ None }
-{
-    terms.are_stored();
-    for one in denied {
-        if may_close_by(terms, numbers, one) {
-            return true;
-        }
-    }
-    false
 }
 
 // Whether the first fact is the normal Not of the second.
@@ -203,38 +150,32 @@ fn closing_numbers(terms: &Terms, denied: &[Denied]) -> Option<(u64, u64)>
     }
 }
 
-// The same, where the branch may be closed.
-fn numbers_that_close(
-    terms: &Terms,
-    numbers: &mut NumberSet,
-    denied: &[Denied],
-) -> Result<Option<(u64, u64)>, AllocError>
-    requires { AllByRecursion (IsDenied terms.now) denied.now }
-    ensures { IfOk result (λ o. close_of o ≡ close (with_facts (branch_over []) (map (denied_at terms.now) denied.now))) }
-{
-    list_numbers(numbers, denied)?;
-    if may_close(terms, numbers, denied) {
-        return Ok(closing_numbers(terms, denied));
-    }
-    Ok(None)
-}
-
-/// A fact that is false, or two facts of which one is the normal Not of the other, close the branch.
-pub fn close(
-    store: &mut Store,
-    numbers: &mut NumberSet,
-    branch: Branch,
-) -> Result<Attempt, NormalFault>
+// The pair that closes the branch is looked for among all pairs of facts.
+fn close_among(store: &mut Store, branch: Branch) -> Result<Attempt, NormalFault>
     requires { IsBranchOver store.old.terms branch }
     ensures grows { Grows store.old store.new }
     ensures tries { TriesAt store.new.terms (branch_at store.old.terms branch) result (close (branch_at store.old.terms branch)) }
 {
     let denied = with_negations(store, &branch.facts)?;
-    match numbers_that_close(store.terms(), numbers, &denied)? {
+    match closing_numbers(store.terms(), &denied) {
         Some((first, second)) => Ok(Attempt::Gives(Move {
             ending: Ending::Closes { first, second },
             made: Vec::new(store.alloc()),
         })),
         None => Ok(Attempt::Passes(branch)),
     }
+}
+
+/// A fact that is false, or two facts of which one is the normal Not of the other, close the branch.
+pub fn close(store: &mut Store, apart: &mut Apart, branch: Branch) -> Result<Attempt, NormalFault>
+    requires branch { IsBranchOver store.old.terms branch }
+    requires apart { AreApart store.old.terms apart.old }
+    ensures grows { Grows store.old store.new }
+    ensures apart { OnOk result (AreApart store.new.terms apart.new) }
+    ensures tries { TriesAt store.new.terms (branch_at store.old.terms branch) result (close (branch_at store.old.terms branch)) }
+{
+    if apart.are_apart(store, &branch.facts)? {
+        return Ok(Attempt::Passes(branch));
+    }
+    close_among(store, branch)
 }

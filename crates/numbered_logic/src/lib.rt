@@ -4,6 +4,7 @@
 #![tactic(auto)]
 
 // What is found in facts, and normal forms of several formulas.
+pub mod apart;
 pub mod closing;
 pub mod flattening;
 mod forms;

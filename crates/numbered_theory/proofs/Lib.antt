@@ -6,13 +6,17 @@ pub mod Deciding
 pub mod Entered
 pub mod Found
 pub mod KnownWays
+pub mod LeadsNoted
 pub mod Loops
+pub mod MeetingNone
 pub mod Once
 pub mod OpenTried
+pub mod OppositeSides
 pub mod PairMade
 pub mod Pairing
 pub mod PairsTried
 pub mod Passing
+pub mod Placed
 pub mod PlacesListed
 pub mod Reading
 pub mod ReadsTried

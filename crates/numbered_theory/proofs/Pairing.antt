@@ -36,6 +36,9 @@ module _ (es : List Entry) (d e : Entry) where
       by true None = refl
       by true (Some c) = last c (is_truth true c.fact || is_known es (tighten c.fact))
 
+  pub pair_apart : are_opposite (lead (counted d)) (lead (counted e)) ≡ false → combine_pair es (d, e) ≡ none
+  pair_apart h = by_parts ∙ ap (λ (b : Bool). pair_by b (combined_pair d e) says) h
+
   pub pair_known : (c : Combined) → are_opposite (lead (counted d)) (lead (counted e)) ≡ true → combined_pair d e ≡ Some c → (is_truth true c.fact || is_known es (tighten c.fact)) ≡ true → combine_pair es (d, e) ≡ none
   pair_known c h k l = by_parts ∙ (λ j. pair_by (h j) (k j) says) ∙ ap (λ (b : Bool). cond b none (gives c)) l
 

@@ -1,5 +1,5 @@
 -- Linear facts by number, and the linear facts that they stand for.
-use Rattle.std.specs.Prelude.{◌≡◌, ℕ, ◌<◌, List, [], map, length}
+use Rattle.std.specs.Prelude.{◌≡◌, ℕ, ◌<◌, nat_eq, Bool, ◌&&◌, not, List, [], map, length}
 use Rattle.std.specs.List.{AllByRecursion}
 use Rattle.logic_core.specs.Tree.{Kind, Tree}
 use Rattle.logic_core.specs.Def.{Def}
@@ -18,6 +18,10 @@ module _ (ts : List Tree) where
 -- the number of its sum is that of a term
 abbrev pub IsEntryBelow : ℕ → Entry → Type 0
 IsEntryBelow size e = e.sum < size
+
+-- it is of this sum, and counts as it is
+abbrev pub has_sum : ℕ → Entry → Bool
+has_sum i e = not e.turned && nat_eq e.sum i
 
 -- they are those that stand for these
 abbrev pub AreEntriesAt : List Tree → List Entry → List combining.Entry → Type 0

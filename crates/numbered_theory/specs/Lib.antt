@@ -2,6 +2,7 @@ pub mod Combined
 pub mod Counts
 pub mod Entries
 pub mod Forms
+pub mod Leads
 pub mod Passes
 pub mod Places
 pub mod Reads

@@ -1,5 +1,5 @@
 // The rule combine, by number.
-ghost use Rattle.std.specs.Prelude.{◌≡◌, ◌<◌, ◌||◌, neg_ℤ, pos, [], true, length, map, option_map, if◌then◌else◌, IfOk};
+ghost use Rattle.std.specs.Prelude.{◌≡◌, ◌<◌, ◌||◌, neg_ℤ, pos, [], true, length, map, option_map, if◌then◌else◌, ◌∷◌, ◌++◌, IfOk, OnOk};
 ghost use Rattle.std.specs.List.{AllByRecursion};
 ghost use Rattle.logic_core.specs.Combine.{combined, lead, sum_of};
 ghost use Rattle.logic_core.specs.Gives.{GivesAs};
@@ -18,8 +18,10 @@ ghost use Rattle.numbered_branches.specs.View.{move_seen};
 ghost use Rattle.theory_rules.specs.Combining.{are_opposite, counted, lead_size, combined_pair, is_known, combine_pair, pairs_from, combined_by, combine};
 ghost use Rattle.numbered_theory.specs.Combined.{combined_at, IsCombinedBelow, CombinesAt, AttemptsAt};
 ghost use Rattle.numbered_theory.specs.Entries.{entry_at, entries_at, IsEntryBelow};
+ghost use Rattle.numbered_theory.specs.Leads.{IsNoted};
 
-use crate::entries::{Entry, are_opposite, entries, is_known};
+use crate::entries::{Entry, are_opposite, entries, is_known, place_entries};
+use crate::leads::Leads;
 use linear_certs::gcd;
 use logic_core::NormalFault;
 use numbered_branches::branch::Branch;
@@ -31,6 +33,7 @@ use numbered_facts::linear::{lead, sum_of};
 use numbered_forms::junction::is_truth;
 use numbered_forms::sum::NumberedSum;
 use numbered_terms::Terms;
+use numbered_terms::slots::Slots;
 use std::alloc::AllocError;
 use term_bank::TermId;
 
@@ -117,7 +120,12 @@ fn combine_two(store: &mut Store, d: &Entry, e: &Entry) -> Result<Combined, Norm
 }
 
 // Whether the sum is true, or known after tightening.
-fn says_nothing_new(store: &mut Store, entries: &[Entry], sum: TermId) -> Result<bool, AllocError>
+fn says_nothing_new(
+    store: &mut Store,
+    places: &Slots<usize>,
+    entries: &[Entry],
+    sum: TermId,
+) -> Result<bool, AllocError>
     requires entries { AllByRecursion (IsEntryBelow (length store.old.terms)) entries.now }
     requires sum { sum < length store.old.terms }
     ensures grows { Grows store.old store.new }
@@ -127,12 +135,13 @@ fn says_nothing_new(store: &mut Store, entries: &[Entry], sum: TermId) -> Result
         return Ok(true);
     }
     let tight = store.tightened(sum)?;
-    is_known(store.terms(), entries, tight)
+    is_known(store.terms(), places, entries, tight)
 }
 
 // The combination of the two, unless it says nothing new. Wide exactly where it leaves 128 bits.
 fn combine_pair(
     store: &mut Store,
+    places: &Slots<usize>,
     entries: &[Entry],
     d: &Entry,
     e: &Entry,
@@ -147,7 +156,7 @@ fn combine_pair(
         return Ok(None);
     }
     let combined = combine_two(store, d, e)?;
-    let known = says_nothing_new(store, entries, combined.fact)?;
+    let known = says_nothing_new(store, places, entries, combined.fact)?;
     if known {
         return Ok(None);
     }
@@ -157,6 +166,7 @@ fn combine_pair(
 // The first combination of one of these with a later one.
 fn combine_with(
     store: &mut Store,
+    places: &Slots<usize>,
     entries: &[Entry],
     before: &[Entry],
     e: &Entry,
@@ -168,21 +178,52 @@ fn combine_with(
     ensures attempts { AttemptsAt store.new.terms result (first_attempt (combine_pair (entries_at store.old.terms entries.now)) (map (λ d. (d, entry_at store.old.terms e.now)) (entries_at store.old.terms before.now))) }
 {
     for d in before {
-        if let Some(combined) = combine_pair(store, entries, d, e)? {
+        if let Some(combined) = combine_pair(store, places, entries, d, e)? {
             return Ok(Some(combined));
         }
     }
     Ok(None)
 }
 
+// The first combination of one of these, which are noted, with a later one, which is noted then.
+fn combine_next(
+    store: &mut Store,
+    leads: &mut Leads,
+    places: &Slots<usize>,
+    entries: &[Entry],
+    before: &[Entry],
+    e: &Entry,
+) -> Result<Option<Combined>, NormalFault>
+    requires entries { AllByRecursion (IsEntryBelow (length store.old.terms)) entries.now }
+    requires before { AllByRecursion (IsEntryBelow (length store.old.terms)) before.now }
+    requires e { e.now.sum < length store.old.terms }
+    requires noted { AllByRecursion (IsNoted store.old.terms leads.old.above leads.old.below) before.now }
+    ensures grows { Grows store.old store.new }
+    ensures attempts { AttemptsAt store.new.terms result (first_attempt (combine_pair (entries_at store.old.terms entries.now)) (map (λ d. (d, entry_at store.old.terms e.now)) (entries_at store.old.terms before.now))) }
+    ensures noted { OnOk result (AllByRecursion (IsNoted store.new.terms leads.new.above leads.new.below) (before.now ++ e.now ∷ [])) }
+{
+    let meets = leads.may_meet(store.terms(), e);
+    leads.note(store.terms(), e)?;
+    if meets {
+        return combine_with(store, places, entries, before, e);
+    }
+    Ok(None)
+}
+
 // The first combination: that of the oldest later fact, and then of the oldest earlier one.
-fn first_combined(store: &mut Store, entries: &[Entry]) -> Result<Option<Combined>, NormalFault>
+fn first_combined(
+    store: &mut Store,
+    leads: &mut Leads,
+    places: &Slots<usize>,
+    entries: &[Entry],
+) -> Result<Option<Combined>, NormalFault>
     requires { AllByRecursion (IsEntryBelow (length store.old.terms)) entries.now }
     ensures grows { Grows store.old store.new }
     ensures attempts { AttemptsAt store.new.terms result (first_attempt (combine_pair (entries_at store.old.terms entries.now)) (pairs_from [] (entries_at store.old.terms entries.now))) }
 {
+    leads.clear();
     for (i, e) in entries.iter().enumerate() {
-        if let Some(combined) = combine_with(store, entries, &entries[..i], e)? {
+        if let Some(combined) = combine_next(store, leads, places, entries, &entries[..i], e)? {
             return Ok(Some(combined));
         }
     }
@@ -207,14 +248,20 @@ fn add_combined(store: &mut Store, branch: Branch, combined: &Combined) -> Resul
 
 /// Of two linear facts with one lead atom and coefficients of opposite signs such multiples are added
 /// that it goes away.
-pub fn combine(store: &mut Store, branch: Branch) -> Result<Attempt, NormalFault>
+pub fn combine(
+    store: &mut Store,
+    leads: &mut Leads,
+    places: &mut Slots<usize>,
+    branch: Branch,
+) -> Result<Attempt, NormalFault>
     requires branch { IsBranchOver store.old.terms branch }
     requires vars { store.old.vars ≡ branch.vars }
     ensures grows { Grows store.old store.new }
     ensures tries { TriesAt store.new.terms (branch_at store.old.terms branch) result (combine store.old.defs (branch_at store.old.terms branch)) }
 {
     let entries = entries(store, &branch)?;
-    match first_combined(store, &entries)? {
+    place_entries(places, &entries)?;
+    match first_combined(store, leads, places, &entries)? {
         Some(combined) => Ok(Attempt::Gives(add_combined(store, branch, &combined)?)),
         None => Ok(Attempt::Passes(branch)),
     }

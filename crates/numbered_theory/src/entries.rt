@@ -1,5 +1,5 @@
 // The linear facts that are combined, by number.
-ghost use Rattle.std.specs.Prelude.{◌≡◌, ◌<◌, ◌++◌, int_le, length, Some, IfOk, OnOk};
+ghost use Rattle.std.specs.Prelude.{◌≡◌, ◌<◌, ◌++◌, true, int_le, length, Some, IfOk, OnOk};
 ghost use Rattle.std.specs.List.{list_any, AllByRecursion};
 ghost use Rattle.logic_core.specs.Combine.{lead, linear_of, sum_of};
 ghost use Rattle.term_bank.specs.Numbered.{at};
@@ -9,7 +9,7 @@ ghost use Rattle.numbered_forms.specs.Sums.{sum_at};
 ghost use Rattle.numbered_branches.specs.Branches.{branch_at, IsBranchOver};
 ghost use Rattle.theory_rules.specs.Combining.{counted, is_at_most, is_positive, is_negative, are_opposite, is_known, entries};
 ghost use Rattle.theory_rules.specs.Counting.{counted_number, has_no_greater};
-ghost use Rattle.numbered_theory.specs.Entries.{entry_at, entries_at, IsEntryBelow, AreEntriesAt, entries_over};
+ghost use Rattle.numbered_theory.specs.Entries.{entry_at, entries_at, has_sum, IsEntryBelow, AreEntriesAt, entries_over};
 ghost use Rattle.numbered_theory.specs.Counts.{counted_as, Counts};
 
 use crate::linear::{has_parts, rest};
@@ -18,6 +18,7 @@ use numbered_facts::Store;
 use numbered_facts::linear::{lead, linear_side, sum_of};
 use numbered_forms::sum::NumberedSum;
 use numbered_terms::Terms;
+use numbered_terms::slots::Slots;
 use std::alloc::AllocError;
 use term_bank::{Node, TermId};
 
@@ -43,7 +44,7 @@ pub fn is_at_most(terms: &Terms, fact: TermId) -> bool
 
 // Whether the coefficient is positive as the entry counts.
 #[tactic(auto, using(theory_rules::proofs::CountedForms::turned_above))]
-fn is_positive(turned: bool, k: i128) -> bool
+pub(crate) fn is_positive(turned: bool, k: i128) -> bool
     ensures { result ≡ is_positive (counted_number turned k) }
 {
     if turned { k < 0 } else { k > 0 }
@@ -51,7 +52,7 @@ fn is_positive(turned: bool, k: i128) -> bool
 
 // Whether the coefficient is negative as the entry counts.
 #[tactic(auto, using(theory_rules::proofs::CountedForms::turned_below))]
-fn is_negative(turned: bool, k: i128) -> bool
+pub(crate) fn is_negative(turned: bool, k: i128) -> bool
     ensures { result ≡ is_negative (counted_number turned k) }
 {
     if turned { k > 0 } else { k < 0 }
@@ -111,14 +112,49 @@ fn any_no_greater(terms: &Terms, entries: &[Entry], form: &NumberedSum) -> bool
     false
 }
 
+// Whether the fact is of this sum, and counts as it is.
+fn has_sum(entry: &Entry, sum: TermId) -> bool
+    ensures { result ≡ has_sum sum entry.now }
+{
+    !entry.turned && entry.sum == sum
+}
+
+/// Keeps of each sum the place of a fact that has it.
+pub fn place_entries(places: &mut Slots<usize>, entries: &[Entry]) -> Result<(), AllocError> {
+    for (place, entry) in entries.iter().enumerate() {
+        if !entry.turned {
+            places.put(entry.sum, place)?;
+        }
+    }
+    Ok(())
+}
+
+// Whether the fact at the place that is kept of the sum has it.
+fn is_placed(places: &Slots<usize>, entries: &[Entry], sum: TermId) -> bool
+    ensures { result ≡ true → list_any (has_sum sum) entries.now ≡ true }
+{
+    match places.get(sum) {
+        Some(place) => *place < entries.len() && has_sum(&entries[*place], sum),
+        None => false,
+    }
+}
+
 /// Whether a fact has the same parts, and a constant no greater.
-pub fn is_known(terms: &Terms, entries: &[Entry], fact: TermId) -> Result<bool, AllocError>
+pub fn is_known(
+    terms: &Terms,
+    places: &Slots<usize>,
+    entries: &[Entry],
+    fact: TermId,
+) -> Result<bool, AllocError>
     requires entries { AllByRecursion (IsEntryBelow (length terms.now)) entries.now }
     requires fact { fact < length terms.now }
     ensures { IfOk result (λ b. b ≡ is_known (entries_at terms.now entries.now) (at terms.now fact)) }
 {
     match linear_side(terms, fact) {
         Some(sum) => {
+            if is_placed(places, entries, sum) {
+                return Ok(true);
+            }
             let form = sum_of(terms, sum)?;
             Ok(any_no_greater(terms, entries, &form))
         }

@@ -5,6 +5,7 @@
 
 // Linear forms, the linear facts that are combined, and the ways of a number.
 pub mod entries;
+pub mod leads;
 pub mod linear;
 pub mod ways;
 

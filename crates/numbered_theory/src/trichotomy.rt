@@ -17,6 +17,7 @@ ghost use Rattle.theory_rules.specs.Ways.{open_ways, open_at, outer_of, trichoto
 ghost use Rattle.numbered_theory.specs.Places.{place_at, ways_at, IsPlaceBelow, AreWaysBelow, OpensAt, FindsAt, over};
 ghost use Rattle.numbered_theory.specs.Forms.{forms_at, AreFormsBelow, AreFormsAt, all_three};
 
+use crate::leads::Leads;
 use crate::undecided::{Place, undecided_places};
 use crate::ways::{above_zero, at_zero, below_zero};
 use logic_core::NormalFault;
@@ -247,13 +248,17 @@ fn decide(
 }
 
 // The rule by its two parts.
-fn trichotomy_in_parts(store: &mut Store, branch: Branch) -> Result<Attempt, NormalFault>
+fn trichotomy_in_parts(
+    store: &mut Store,
+    leads: &mut Leads,
+    branch: Branch,
+) -> Result<Attempt, NormalFault>
     requires branch { IsBranchOver store.old.terms branch }
     requires vars { store.old.vars ≡ branch.vars }
     ensures grows { Grows store.old store.new }
     ensures tries { TriesAt store.new.terms (branch_at store.old.terms branch) result (trichotomy_in_parts store.old.defs (branch_at store.old.terms branch)) }
 {
-    let places = undecided_places(store.terms(), &branch.facts)?;
+    let places = undecided_places(store.terms(), leads, &branch.facts)?;
     match first_open(store, &branch, &places)? {
         Some(found) => Ok(Attempt::Gives(decide(store, &branch, &found.0, &found.1)?)),
         None => Ok(Attempt::Passes(branch)),
@@ -262,11 +267,15 @@ fn trichotomy_in_parts(store: &mut Store, branch: Branch) -> Result<Attempt, Nor
 
 /// Of a fact `Not Eq(d, 0)`, or of a fact `Le(0, d)` beside a fact `Le(0, -d)`: a branch each where d is
 /// below, at and above zero. Passed over where one of the three is there already.
-pub fn trichotomy(store: &mut Store, branch: Branch) -> Result<Attempt, NormalFault>
+pub fn trichotomy(
+    store: &mut Store,
+    leads: &mut Leads,
+    branch: Branch,
+) -> Result<Attempt, NormalFault>
     requires branch { IsBranchOver store.old.terms branch }
     requires vars { store.old.vars ≡ branch.vars }
     ensures grows { Grows store.old store.new }
     ensures tries { TriesAt store.new.terms (branch_at store.old.terms branch) result (trichotomy store.old.defs (branch_at store.old.terms branch)) }
 {
-    trichotomy_in_parts(store, branch)
+    trichotomy_in_parts(store, leads, branch)
 }

@@ -1,5 +1,5 @@
 // Numbers that facts leave undecided, by number.
-ghost use Rattle.std.specs.Prelude.{◌≡◌, ◌<◌, ◌++◌, ℕ, [], length, map, option_map, IfOk, IfSome, OnOk};
+ghost use Rattle.std.specs.Prelude.{◌≡◌, ◌<◌, ◌++◌, false, ℕ, [], length, map, option_map, IfOk, IfSome, OnOk};
 ghost use Rattle.std.specs.List.{cons_option, list_any, AllByRecursion};
 ghost use Rattle.logic_core.specs.Combine.{sum_of};
 ghost use Rattle.logic_core.specs.Tree.{at_most};
@@ -8,13 +8,15 @@ ghost use Rattle.numbered_terms.specs.Lists.{AtomsBelow};
 ghost use Rattle.numbered_forms.specs.Sums.{sum_at};
 ghost use Rattle.numbered_branches.specs.Branches.{fact_at, IsFactBelow};
 ghost use Rattle.theory_rules.specs.Trichotomy.{at_most_form, at_most_forms, is_opposite, equation_of_zero, undecided_by};
+ghost use Rattle.numbered_theory.specs.Leads.{has_no_sign, side_entry, IsNoted};
 ghost use Rattle.numbered_theory.specs.Places.{placed, ArePlacesAt};
 ghost use Rattle.numbered_theory.specs.Sums.{sums_at, undecided_places};
 
-use crate::entries::is_at_most;
+use crate::entries::{Entry, is_at_most, is_negative, is_positive};
+use crate::leads::Leads;
 use crate::linear::{has_opposite_parts, rest};
 use numbered_branches::branch::Fact;
-use numbered_facts::linear::{linear_side, sum_of};
+use numbered_facts::linear::{lead, linear_side, sum_of};
 use numbered_forms::negation::is_zero;
 use numbered_forms::sum::NumberedSum;
 use numbered_terms::Terms;
@@ -70,6 +72,29 @@ fn at_most_sides(terms: &Terms, facts: &[Fact]) -> Result<Vec<TermId>, AllocErro
     Ok(sides)
 }
 
+// The side of a fact `Le(0, d)` as the fact counts.
+fn side_entry(sum: TermId) -> Entry
+    ensures { result ≡ side_entry sum }
+{
+    Entry {
+        number: 0,
+        sum,
+        turned: false,
+    }
+}
+
+// Notes the sides.
+fn note_sides(terms: &Terms, leads: &mut Leads, sides: &[TermId]) -> Result<(), AllocError>
+    requires { AllByRecursion (λ d. d < length terms.now) sides.now }
+    ensures { OnOk result (AllByRecursion (λ s. IsNoted terms.now leads.new.above leads.new.below (side_entry s)) sides.now) }
+{
+    leads.clear();
+    for side in sides {
+        leads.note(terms, &side_entry(*side))?;
+    }
+    Ok(())
+}
+
 // Whether the term as a sum is the opposite of the form.
 fn is_opposite(terms: &Terms, form: &NumberedSum, other: TermId) -> bool
     requires form { AtomsBelow (length terms.now) form.now.parts.items }
@@ -94,6 +119,47 @@ fn has_opposite(terms: &Terms, sides: &[TermId], form: &NumberedSum) -> bool
     false
 }
 
+// Whether there is no lead, or its coefficient is neither positive nor negative.
+fn has_no_sign(lead: Option<(i128, TermId)>) -> bool
+    ensures { result ≡ has_no_sign lead }
+{
+    match lead {
+        Some((k, _)) => !is_positive(false, k) && !is_negative(false, k),
+        None => true,
+    }
+}
+
+// Whether the term as a sum may be the opposite of one of the sides that were noted. Else it is of none.
+fn may_be_opposite(terms: &Terms, leads: &Leads, high: TermId) -> bool
+    requires { high < length terms.now }
+    ensures { result ≡ false → (s : ℕ) → IsNoted terms.now leads.now.above leads.now.below (side_entry s) → is_opposite (sum_of (at terms.now high)) (sum_of (at terms.now s)) ≡ false }
+{
+    let found = lead(terms, high);
+    if has_no_sign(found) {
+        return true;
+    }
+    leads.may_meet(terms, &side_entry(high))
+}
+
+// Whether one of the sides, which are noted, is the opposite of the term as a sum.
+fn is_opposite_to_side(
+    terms: &Terms,
+    leads: &Leads,
+    sides: &[TermId],
+    high: TermId,
+) -> Result<bool, AllocError>
+    requires sides { AllByRecursion (λ d. d < length terms.now) sides.now }
+    requires noted { AllByRecursion (λ s. IsNoted terms.now leads.now.above leads.now.below (side_entry s)) sides.now }
+    requires high { high < length terms.now }
+    ensures { IfOk result (λ b. b ≡ list_any (is_opposite (sum_of (at terms.now high))) (sums_at terms.now sides.now)) }
+{
+    if may_be_opposite(terms, leads, high) {
+        let form = sum_of(terms, high)?;
+        return Ok(has_opposite(terms, sides, &form));
+    }
+    Ok(false)
+}
+
 // d of `Eq(d, 0)`.
 fn equation_of_zero(terms: &Terms, id: TermId) -> Option<TermId>
     requires { id < length terms.now }
@@ -115,11 +181,13 @@ fn equation_of_zero(terms: &Terms, id: TermId) -> Option<TermId>
 // d of a fact `Le(0, d)` beside one whose form is opposite.
 fn undecided_inequality(
     terms: &Terms,
+    leads: &Leads,
     sides: &[TermId],
     low: TermId,
     high: TermId,
 ) -> Result<Option<TermId>, AllocError>
     requires sides { AllByRecursion (λ d. d < length terms.now) sides.now }
+    requires noted { AllByRecursion (λ s. IsNoted terms.now leads.now.above leads.now.below (side_entry s)) sides.now }
     requires low { low < length terms.now }
     requires high { high < length terms.now }
     ensures is { IfOk result (λ o. option_map (λ d. at terms.now d) o ≡ undecided_by (sums_at terms.now sides.now) (at_most (at terms.now low) (at terms.now high))) }
@@ -128,25 +196,27 @@ fn undecided_inequality(
     if !is_zero(terms, low) {
         return Ok(None);
     }
-    let form = sum_of(terms, high)?;
-    if has_opposite(terms, sides, &form) {
-        Ok(Some(high))
-    } else {
-        Ok(None)
-    }
+    let opposite = is_opposite_to_side(terms, leads, sides, high)?;
+    if opposite { Ok(Some(high)) } else { Ok(None) }
 }
 
 // d of a fact `Not Eq(d, 0)`, or of a fact `Le(0, d)` beside a fact `Le(0, -d)`, which has one of these
 // sides.
-fn undecided(terms: &Terms, sides: &[TermId], fact: TermId) -> Result<Option<TermId>, AllocError>
+fn undecided(
+    terms: &Terms,
+    leads: &Leads,
+    sides: &[TermId],
+    fact: TermId,
+) -> Result<Option<TermId>, AllocError>
     requires sides { AllByRecursion (λ d. d < length terms.now) sides.now }
+    requires noted { AllByRecursion (λ s. IsNoted terms.now leads.now.above leads.now.below (side_entry s)) sides.now }
     requires fact { fact < length terms.now }
     ensures is { IfOk result (λ o. option_map (λ d. at terms.now d) o ≡ undecided_by (sums_at terms.now sides.now) (at terms.now fact)) }
     ensures within { IfOk result (λ o. IfSome o (λ d. d < length terms.now)) }
 {
     match terms.node(fact) {
         Node::Not(t) => Ok(equation_of_zero(terms, *t)),
-        Node::Le(low, high) => undecided_inequality(terms, sides, *low, *high),
+        Node::Le(low, high) => undecided_inequality(terms, leads, sides, *low, *high),
         _ => Ok(None),
     }
 }
@@ -171,14 +241,19 @@ fn push_place(
 }
 
 /// The facts that leave a number undecided, oldest first.
-pub fn undecided_places(terms: &Terms, facts: &[Fact]) -> Result<Vec<Place>, AllocError>
+pub fn undecided_places(
+    terms: &Terms,
+    leads: &mut Leads,
+    facts: &[Fact],
+) -> Result<Vec<Place>, AllocError>
     requires { AllByRecursion (IsFactBelow (length terms.now)) facts.now }
     ensures { IfOk result (λ v. ArePlacesAt terms.now v.items (undecided_places (map (fact_at terms.now) facts.now))) }
 {
     let sides = at_most_sides(terms, facts)?;
+    note_sides(terms, leads, &sides)?;
     let mut places = Vec::new(terms.alloc());
     for (at, fact) in facts.iter().enumerate() {
-        let what = undecided(terms, &sides, fact.term)?;
+        let what = undecided(terms, leads, &sides, fact.term)?;
         push_place(&mut places, at, fact, what)?;
     }
     Ok(places)

@@ -10,7 +10,7 @@ use Rattle.clause_search.proofs.FirstAt.{attempts_err, rule_leaves, rule_gives, 
 use Rattle.clause_search.proofs.rules.first_rule.Goals as goal
 
 pub try_rule-requires : goal.try_rule-requires
-try_rule-requires c = record { branch = c.loop-rule.invariant.same.0; vars = c.loop-rule.invariant.grows.vars ∙ c.requires.vars ∙ sym (ap (λ (b : Branch). b.vars) c.loop-rule.invariant.same.1) }
+try_rule-requires c = record { branch = c.loop-rule.invariant.same.0; vars = c.loop-rule.invariant.grows.vars ∙ c.requires.vars ∙ sym (ap (λ (b : Branch). b.vars) c.loop-rule.invariant.same.1); tables = c.loop-rule.invariant.tables }
 
 pub returns-in_err-step-clause-attempts : goal.returns-in_err-step-clause-attempts
 returns-in_err-step-clause-attempts c =
@@ -39,4 +39,4 @@ loop-rule-preserved c =
     let us = c.try_rule.new.store.terms in
     let on = rule_passes (rule_of defs) order c.loop-rule.rule-index rule.Close us b d (step defs b)
     c.loop-rule-test.true c.loop-rule.invariant.ahead c.loop-rule.invariant.same.1 c.in_ok-step.field-0 c.in-Passes.same c.in-Passes.is (tried_over us c.loop-rule.store.defs defs c.loop-rule.invariant.grows.defs (λ ds. rule_of ds (get_or order c.loop-rule.rule-index rule.Close)) d (Ok c.in_ok-step.field-0) c.in_ok-step.ensures.tries) in
-    record { grows = then c.args.store.now c.loop-rule.store c.try_rule.new.store c.loop-rule.invariant.grows c.in_ok-step.ensures.grows; ahead = on.0; same = on.1 }
+    record { grows = then c.args.store.now c.loop-rule.store c.try_rule.new.store c.loop-rule.invariant.grows c.in_ok-step.ensures.grows; tables = c.in_ok-step.ensures.tables; ahead = on.0; same = on.1 }

@@ -1,13 +1,33 @@
-use Rattle.std.proofs.Common.{◌≡◌, ◌≤◌, ◌∙◌, ap, [], ◌∷◌, ◌++◌, map, arith}
+use Rattle.std.proofs.Common.{◌≡◌, ◌≤◌, ◌∙◌, refl, sym, ap, subst, List, [], ◌∷◌, ◌++◌, map, length, reverse, arith}
+use Rattle.std.specs.List.{AllByRecursion}
 use Rattle.std.proofs.lemmas.List.{map-append, nil_from_length}
-use Rattle.term_bank.proofs.Numbers.{begins_then}
-use Rattle.numbered_branches.specs.Moves.{NumberedPlayed, cost, played}
+use Rattle.term_bank.proofs.Numbers.{begins_same, begins_then}
+use Rattle.tableau.specs.Search.{run}
+use Rattle.tableau.proofs.Turns.{before_run}
+use Rattle.numbered_branches.specs.Branches.{NumberedBranch, IsBranchOver, branch_at}
+use Rattle.numbered_branches.specs.Moves.{NumberedPlayed, IsPlayedBelow, played_at, cost, played}
 use Rattle.numbered_branches.specs.View.{move_seen, played_seen}
 use Rattle.clause_search.proofs.Running.{top_over, still_below, end_open, end_wide, end_turns, next_over, next_below, next_run, end_proved}
 use Rattle.clause_search.proofs.run.run.Goals as goal
 
+pub loop-branch-init : goal.loop-branch-init
+loop-branch-init c =
+    let ts = c.args.store.now.terms in let first = c.args.first in let turns = c.args.turns in
+    let one : c.push.new.self.items ≡ first ∷ [] = c.in_ok-push.ensures.items ∙ ap (λ (bs : List NumberedBranch). bs ++ first ∷ []) c.new-stack.ensures.items in
+    record {
+      terms = begins_same ts;
+      defs = refl;
+      tables = c.new-tables.ensures ts;
+      over = subst (λ (bs : List NumberedBranch). AllByRecursion (IsBranchOver ts) (reverse bs)) (sym one) (c.requires, tt);
+      below = subst (λ ms. AllByRecursion (IsPlayedBelow (length ts)) (map played_seen ms)) (sym c.new-moves.ensures.items) tt;
+      run = λ k. before_run (map (played_at ts) (map played_seen (c.new-moves.ensures.items k))) (run c.args.store.now.defs turns turns (map (branch_at ts) (reverse (one k))));
+    }
+
 pub step-requires : goal.step-requires
-step-requires c = (top_over c.loop-branch.store.terms c.in-Some.branch c.pop.new.self.items c.loop-branch.stack.items c.in-Some.ensures.items c.loop-branch.invariant.over).0
+step-requires c = record {
+  branch = (top_over c.loop-branch.store.terms c.in-Some.branch c.pop.new.self.items c.loop-branch.stack.items c.in-Some.ensures.items c.loop-branch.invariant.over).0;
+  tables = c.loop-branch.invariant.tables;
+}
 
 pub loop-branch-preserved : goal.loop-branch-preserved
 loop-branch-preserved c =
@@ -28,6 +48,7 @@ loop-branch-preserved c =
     record {
       terms = begins_then c.args.store.now.terms ts us i.terms c.step.ensures.terms;
       defs = c.in-Ok-Some.ensures.defs ∙ i.defs;
+      tables = c.in-Ok-Some.ensures.tables;
       over = next_over ts c.in-Some.branch rest c.loop-branch.stack.items c.in-Some.ensures.items us c.step.ensures.terms c.loop-branch.store.defs defs i.defs c.loop-branch.left ms _ i.over i.below i.run m c.cost-cost.result price made paid stack moves c.in_ok-play-in-Ok-Some.ensures.pushed pushed;
       below = next_below ts c.in-Some.branch rest c.loop-branch.stack.items c.in-Some.ensures.items us c.step.ensures.terms c.loop-branch.store.defs defs i.defs c.loop-branch.left ms _ i.over i.below i.run m c.cost-cost.result price made paid stack moves c.in_ok-play-in-Ok-Some.ensures.pushed pushed;
       run = next_run ts c.in-Some.branch rest c.loop-branch.stack.items c.in-Some.ensures.items us c.step.ensures.terms c.loop-branch.store.defs defs i.defs c.loop-branch.left ms _ i.over i.below i.run m c.cost-cost.result price made paid stack moves c.in_ok-play-in-Ok-Some.ensures.pushed pushed;

@@ -8,11 +8,10 @@ use Rattle.term_bank.proofs.Numbers.{begins_at, begins_length}
 use Rattle.numbered_terms.specs.Stored.{AreStored}
 use Rattle.numbered_facts.specs.Answers.{StandsFor}
 use Rattle.numbered_branches.specs.Branches.{NumberedFact, IsFactBelow, fact_at}
-use Rattle.numbered_instances.specs.Shared.{in_two, AreShared}
-use Rattle.numbered_instances.proofs.SharedAtoms.{shared_later}
+use Rattle.numbered_instances.specs.Shared.{in_two}
 use Rattle.numbered_instances.proofs.Alone.{alone_rewrites}
 use Rattle.numbered_instances.proofs.LeftSides.{left_occurs}
-use Rattle.numbered_instances.proofs.LeftFacts.{some_left, low_terms, facts_low, facts_stay, terms_same, got_fact}
+use Rattle.numbered_instances.proofs.LeftFacts.{some_left, facts_low, facts_stay, terms_same, got_fact}
 use Rattle.numbered_instances.proofs.lefts.left_in_another.Goals as goal
 
 pub returns-then-is_alone-clause-gives : goal.returns-then-is_alone-clause-gives
@@ -24,9 +23,7 @@ returns-then-is_alone-clause-gives c =
     let side : left_side n.vars n.defs f.term ≡ Some l = sym (λ k. left_side n.vars n.defs (at ts (c.fact.view_is k).term)) ∙ gives.1 in
     let stored = subst AreStored c.terms.ensures c.are_stored.ensures in
     let ids = map (λ (g : NumberedFact). g.term) fs in
-    let seen = c.args.shared.now.seen in let again = c.args.shared.now.again in
-    let shared = shared_later ts us b stored ids seen again (low_terms ts us b fs c.requires.facts) c.requires.shared in
-    let two : in_two l (map (at us) ids) ≡ false = subst (λ zs. AreShared zs ids seen again → in_two (at zs c.in-Some.left) (map (at zs) ids) ≡ false) c.terms-2.ensures (c.is_alone.ensures c.if-is_alone.true ids) shared in
+    let two : in_two l (map (at us) ids) ≡ false = c.is_alone.ensures c.if-is_alone.true us ids (c.requires.shared us b stored) in
     some_left n fs f l false side (sym (alone_rewrites l f.number (map (fact_at ts) fs) c.requires.there.0 f (got_fact ts fs c.requires.there.0 c.args.fact.now c.requires.there.1) refl (left_occurs n.vars n.defs f.term l side)
     (ap (in_two l) (sym (terms_same ts us b fs c.requires.facts)) ∙ two)))
 

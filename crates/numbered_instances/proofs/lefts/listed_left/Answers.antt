@@ -1,12 +1,11 @@
 use Rattle.std.proofs.Common.{◌≡◌, ◌<◌, refl, subst, length, map}
 use Rattle.std.proofs.lemmas.Option.{slice_get_read}
-use Rattle.numbered_terms.specs.Stored.{AreStored}
 use Rattle.numbered_facts.specs.Answers.{StandsFor}
 use Rattle.numbered_facts.proofs.Growing.{then}
 use Rattle.numbered_branches.specs.Branches.{NumberedFact, fact_at}
 use Rattle.numbered_instances.specs.Lefts.{left_among}
-use Rattle.numbered_instances.proofs.SharedAtoms.{shared_later}
-use Rattle.numbered_instances.proofs.LeftFacts.{low_terms, facts_low, left_here, left_past, left_below}
+use Rattle.numbered_instances.proofs.SharedAtoms.{shared_on}
+use Rattle.numbered_instances.proofs.LeftFacts.{facts_low, left_here, left_past, left_below}
 use Rattle.numbered_instances.proofs.lefts.listed_left.Goals as goal
 
 pub left_in_another-requires-clause-facts : goal.left_in_another-requires-clause-facts
@@ -17,9 +16,7 @@ left_in_another-requires-clause-there c = (c.loop-at.at, slice_get_read c.args.f
 
 pub left_in_another-requires-clause-shared : goal.left_in_another-requires-clause-shared
 left_in_another-requires-clause-shared c =
-    let ts = c.args.store.now.terms in let us = c.loop-at.store.terms in let fs = c.args.facts.now in
-    let b = c.loop-at.invariant.grows.terms in
-    shared_later ts us b (subst AreStored c.terms.ensures c.are_stored.ensures) (map (λ (f : NumberedFact). f.term) fs) c.args.shared.now.seen c.args.shared.now.again (low_terms ts us b fs c.requires.facts) c.requires.shared
+    shared_on c.args.store.now.terms c.loop-at.store.terms c.loop-at.invariant.grows.terms (map (λ (f : NumberedFact). f.term) c.args.facts.now) c.args.shared.now.counts.items c.requires.shared
 
 pub returns-in-Some-clause-left : goal.returns-in-Some-clause-left
 returns-in-Some-clause-left c =

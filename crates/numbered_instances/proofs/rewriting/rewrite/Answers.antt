@@ -6,6 +6,7 @@ use Rattle.numbered_branches.specs.Branches.{branch_at}
 use Rattle.numbered_branches.proofs.Changing.{branch_more}
 use Rattle.numbered_instances.specs.Lefts.{left_at}
 use Rattle.numbered_instances.proofs.Attempted.{rule_passes, rule_gives, rule_leaves}
+use Rattle.numbered_instances.proofs.SharedAtoms.{counted_on}
 use Rattle.numbered_instances.proofs.rewriting.rewrite.Goals as goal
 
 pub rewrite_by-requires-clause-branch : goal.rewrite_by-requires-clause-branch
@@ -36,3 +37,6 @@ pub returns-in-None-clause-tries : goal.returns-in-None-clause-tries
 returns-in-None-clause-tries c =
     let n = c.args.store.now in let m = c.oldest_left.new.store in let b = c.args.branch in let found = c.in_ok-found.ensures in let B = branch_at n.terms b in
     rule_passes (λ d x (a : At Tree). rewritten_by d x a.fact a.what) n m found.grows b c.requires.branch m.terms (oldest (left_in_another n.defs B) B) (sym found.left ∙ ap (option_map (left_at m.terms)) c.in-None.is)
+
+pub returns-in_ok-made-in-Some-clause-counted : goal.returns-in_ok-made-in-Some-clause-counted
+returns-in_ok-made-in-Some-clause-counted c = counted_on c.oldest_left.new.store.terms c.rewrite_by.new.store.terms c.in_ok-made-in-Some.ensures.grows.terms c.oldest_left.new.shared c.in_ok-found.ensures.counted

@@ -1,22 +1,29 @@
-use Rattle.std.proofs.Common.{◌∙◌, sym, ap, subst, [], ◌∷◌, length, map, take}
-use Rattle.std.proofs.lemmas.List.{map-append}
-use Rattle.term_bank.proofs.Numbers.{begins_same}
-use Rattle.tableau_branch.proofs.Lists.{take_item}
-use Rattle.numbered_branches.specs.Branches.{NumberedFact, IsFactBelow}
-use Rattle.numbered_branches.proofs.Changing.{all_take}
-use Rattle.numbered_instances.specs.Shared.{AreShared}
-use Rattle.numbered_instances.proofs.LeftFacts.{low_terms, facts_low}
+use Rattle.std.proofs.Common.{◌++◌, ◌<◌, ◌∙◌, List, ℕ, sym, subst, map, drop, length}
+use Rattle.std.specs.List.{AllByRecursion}
+use Rattle.term_bank.proofs.Numbers.{begins_same, begins_then}
 use Rattle.numbered_facts.proofs.Growing.{then}
+use Rattle.numbered_branches.specs.Branches.{NumberedFact}
+use Rattle.numbered_instances.specs.Shared.{AreShared}
+use Rattle.numbered_instances.proofs.LeftFacts.{low_terms}
+use Rattle.numbered_instances.proofs.SharedAtoms.{numbers_on}
 use Rattle.numbered_instances.proofs.shared.Shared.list.Goals as goal
 
-pub loop-fact-preserved : goal.loop-fact-preserved
-loop-fact-preserved c =
-    let ts = c.args.store.now.terms in let us = c.loop-fact.store.terms in let vs = c.count_fact.new.store.terms in
-    let fs = c.args.facts.now in let i = c.loop-fact.fact-index in let f = c.fact-item.result in
-    let T = λ (g : NumberedFact). g.term in let b = c.loop-fact.invariant.grows.terms in
-    let low = low_terms us us (begins_same us) (take i fs) (all_take (IsFactBelow (length us)) i fs (facts_low ts us b fs c.requires)) in
-    record {
-      grows = then c.args.store.now c.loop-fact.store c.count_fact.new.store c.loop-fact.invariant.grows c.count_fact.ensures.grows;
-      shared = subst (λ is. AreShared vs is c.count_fact.new.shared.seen c.count_fact.new.shared.again) (sym (ap (map T) (take_item fs i f c.loop-fact-test.true c.fact-item.is) ∙ map-append T (take i fs) (f ∷ [])))
-          (c.in_ok-count_fact.ensures.shared (map T (take i fs)) low c.loop-fact.invariant.shared);
-    }
+pub count_new-requires-clause-listed : goal.count_new-requires-clause-listed
+count_new-requires-clause-listed c = subst (AllByRecursion (λ i. i < length c.args.store.now.terms)) (sym c.deref.ensures.value) c.requires.counted.0
+
+pub leave_rest-requires : goal.leave_rest-requires
+leave_rest-requires c = let ts = c.args.store.now.terms in let us = c.count_new.new.store.terms in
+    subst (AllByRecursion (λ i. i < length us)) (sym c.deref-2.ensures.value) (numbers_on ts us c.in_ok-from.ensures.grows.terms c.args.self.now.listed.items c.requires.counted.0)
+
+pub returns-clause-grows : goal.returns-clause-grows
+returns-clause-grows c = then c.args.store.now c.count_new.new.store c.leave_rest.new.store c.in_ok-from.ensures.grows c.in_ok-leave_rest.ensures.grows
+
+pub returns-clause-counted : goal.returns-clause-counted
+returns-clause-counted c =
+    let ts = c.args.store.now.terms in let us = c.count_new.new.store.terms in let vs = c.leave_rest.new.store.terms in let fs = c.args.facts.now in
+    let T = λ (f : NumberedFact). f.term in let is = map T fs in let from = c.in_ok-from.from in
+    let begins = begins_then ts us vs c.in_ok-from.ensures.grows.terms c.in_ok-leave_rest.ensures.grows.terms in
+    let first = c.count_new.new.counts.items in let last = c.leave_rest.new.counts.items in
+    let counted = c.in_ok-from.ensures.counted (subst (λ (ys : List ℕ). AreShared ts ys c.args.self.now.counts.items) (sym c.deref.ensures.value) c.requires.counted.1) in
+    let left = c.in_ok-leave_rest.ensures.left is (subst (λ (ys : List ℕ). AreShared us (is ++ drop from ys) first) (c.deref.ensures.value ∙ sym c.deref-2.ensures.value) counted) in
+    subst (λ (ys : List ℕ). AllByRecursion (λ i. i < length vs) ys × AreShared vs ys last) (sym c.in_ok-list_again.ensures) (numbers_on ts vs begins is (low_terms ts ts (begins_same ts) fs c.requires.facts), left)
