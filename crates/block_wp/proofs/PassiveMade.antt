@@ -13,9 +13,11 @@ use Rattle.logic_core.specs.Wide.{◌>>=◌, when}
 use Rattle.logic_core.specs.Sorts.{is, sort_of}
 use Rattle.logic_core.specs.WellSorted.{IsFormula}
 use Rattle.logic_core.specs.Renamed.{both_renamed}
-use Rattle.logic_laws.proofs.SortTests.{same_kind_itself}
+use Rattle.logic_core.proofs.ThereIs.{There}
+use Rattle.logic_core.proofs.EachOf.{every_append, every_map}
+use Rattle.logic_core.proofs.SameTerm.{self_sort}
 use Rattle.logic_laws.proofs.SortFrame.{Within, within_more, within_itself, within_none, sort_over}
-use Rattle.logic_laws.proofs.SortedNumbers.{There, HasVariable, HasDefinition, mentions_there}
+use Rattle.logic_laws.proofs.SortedNumbers.{HasVariable, HasDefinition, mentions_there}
 use Rattle.logic_laws.proofs.RenamedSorts.{same_sort}
 use Rattle.flow_core.specs.declared.command.Command.{Command}
 use Rattle.flow_core.specs.declared.command.Command.TheVariants.{Assert, Assume, Assign, Havoc}
@@ -23,7 +25,7 @@ use Rattle.passive_form.specs.Passive.{formula_in}
 use Rattle.passive_form.specs.Sorted.{IsSortedPair, IsSortedCommand}
 use Rattle.passive_form.specs.declared.made.Made.{Made}
 use Rattle.passive_form.specs.Incarnations.{Incarnations, incarnation, read, anew, also, assigned, havocked, perform, perform_all, new_at_join}
-use Rattle.passive_form.proofs.Lists.{Prefix, prefix_next, prefix_get, get_after, each_append}
+use Rattle.passive_form.proofs.Lists.{Prefix, prefix_next, prefix_get, get_after}
 use Rattle.passive_form.proofs.Growing.{grows_havocked}
 
 pub get_there : {A : Type 0} (xs : List A) (n : ℕ) (d : A) → n < length xs → slice_get xs n ≡ Some (slice_index_or xs n d)
@@ -33,10 +35,6 @@ get_there (x ∷ xs) (suc n) d h = get_there xs n d (omega (h, arith))
 
 within_prefix : {A : Type 0} (xs ys : List A) → Prefix xs ys → Within xs ys
 within_prefix xs ys p = subst (Within xs) p.1 (within_more xs p.0)
-
-pub every_map : {A : Type 0} (P Q : A → Type 0) → ((x : A) → P x → Q x) → (xs : List A) → AllByRecursion P xs → AllByRecursion Q xs
-every_map P Q f [] h = tt
-every_map P Q f (x ∷ xs) h = (f x h.0, every_map P Q f xs h.1)
 
 below_length : {A : Type 0} (xs : List A) (n : ℕ) → There (slice_get xs n) → n < length xs
 below_length [] n h = let c : false ≡ true = h in absurd cc
@@ -110,12 +108,12 @@ module _ (vars : List Kind) (defs : List Def) where
       }
 
   pub sound_also : (s : Made) → SoundMade s → (c : Command) → HasFormula s.sorts c → SoundMade (also s c)
-  sound_also s h c e = record { first = h.first; present = h.present; formulas = each_append (HasFormula s.sorts) s.commands (c ∷ []) h.formulas (e, tt) }
+  sound_also s h c e = record { first = h.first; present = h.present; formulas = every_append (HasFormula s.sorts) s.commands (c ∷ []) h.formulas (e, tt) }
 
   pub equal_sorted : (sorts : List Kind) (n : ℕ) (t : Tree) (k : Kind) → slice_get sorts n ≡ Some k → sort_of sorts defs [] t ≡ Some k → IsFormula sorts defs (equal (free n) t)
   equal_sorted sorts n t k e h =
       ap (λ (o : Option Kind). o >>= λ s. when (is s (sort_of sorts defs [] t)) (Some boolean)) e
-      ∙ ap (λ (o : Option Kind). when (is k o) (Some boolean)) h ∙ ap (λ b. when b (Some boolean)) (same_kind_itself k)
+      ∙ ap (λ (o : Option Kind). when (is k o) (Some boolean)) h ∙ ap (λ b. when b (Some boolean)) (self_sort k)
 
   abbrev IsReadPair : List Kind → ℕ × Tree → Type 0
   IsReadPair sorts p = (p.0 < length vars) × (sort_of sorts defs [] p.1 ≡ Some (slice_index_or vars p.0 int))

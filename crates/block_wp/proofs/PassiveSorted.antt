@@ -10,6 +10,7 @@ use mathlib.Core.Path.{subst, sym}
 use mathlib.Core.Logic.{inl, inr}
 use Rattle.logic_core.specs.Tree.{Kind, int, free, equal}
 use Rattle.logic_core.specs.Def.{Def}
+use Rattle.logic_core.proofs.EachOf.{every_append, every_map}
 use Rattle.flow_core.specs.declared.command.Command.TheVariants.{Assume}
 use Rattle.flow_core.specs.Graph.{Graph, block_at}
 use Rattle.passive_form.specs.Sorted.{IsSortedBlock, IsSortedCommand}
@@ -17,10 +18,10 @@ use Rattle.passive_form.specs.Kept.{IsPairOfOneSort, MayBePassified}
 use Rattle.passive_form.specs.declared.made.Made.{Made}
 use Rattle.passive_form.specs.declared.done.Done.{Done}
 use Rattle.passive_form.specs.Incarnations.{Incarnations, incarnation, first_incarnation, first_incarnations, havocked, perform_all, new_at_join, nothing_done, numbers, predecessors, disagree, arriving, do_block, do_blocks, equations_for, passive_block, passify}
-use Rattle.passive_form.proofs.Lists.{Prefix, prefix_itself, prefix_next, each_append}
+use Rattle.passive_form.proofs.Lists.{Prefix, prefix_itself, prefix_next}
 use Rattle.passive_form.proofs.Growing.{grows_havocked, grows_all}
 use Rattle.block_wp.specs.Broken.{FormulasAreSorted}
-use Rattle.block_wp.proofs.PassiveMade.{get_there, every_map, HasSortOf, FitsNow, HasFormula, SoundMade, get_more, formulas_more, fits_more, first_fits, equal_sorted, sound_havocked, sound_all, IsNewPair, joined_fit}
+use Rattle.block_wp.proofs.PassiveMade.{get_there, HasSortOf, FitsNow, HasFormula, SoundMade, get_more, formulas_more, fits_more, first_fits, equal_sorted, sound_havocked, sound_all, IsNewPair, joined_fit}
 
 passing : {A : Type 0} (p : A → Bool) (P : A → Type 0) (xs : List A) → ((x : A) → p x ≡ true → P x) → AllByRecursion P (filter p xs)
 passing p P [] f = tt
@@ -40,7 +41,7 @@ each_mapped P Q f g (x ∷ xs) h = (g x h.0, each_mapped P Q f g xs h.1)
 
 to_flat : {A B : Type 0} (P : B → Type 0) (f : A → List B) (xs : List A) → ((x : A) → AllByRecursion P (f x)) → AllByRecursion P (flat_map f xs)
 to_flat P f [] h = tt
-to_flat P f (x ∷ xs) h = each_append P (f x) (flat_map f xs) (h x) (to_flat P f xs h)
+to_flat P f (x ∷ xs) h = every_append P (f x) (flat_map f xs) (h x) (to_flat P f xs h)
 
 -- one of them, or what stands for none
 one_of : {A : Type 0} (P : A → Type 0) (xs : List A) (n : ℕ) (d : A) → P d → AllByRecursion P xs → P (slice_index_or xs n d)
@@ -154,7 +155,7 @@ module _ (defs : List Def) (vars : List Kind) where
         let r = do_block g firsts sorts before b in
         let s = block_sound sorts p before h b in
         blocks_sound bs r.0.sorts (prefix_next vars sorts r.0.sorts p s.0) (before ++ r.1 ∷ [])
-        (each_append (SoundDone r.0.sorts) before (r.1 ∷ []) (every_map (SoundDone sorts) (SoundDone r.0.sorts) (done_more sorts r.0.sorts s.0) before h) (s.1, tt))
+        (every_append (SoundDone r.0.sorts) before (r.1 ∷ []) (every_map (SoundDone sorts) (SoundDone r.0.sorts) (done_more sorts r.0.sorts s.0) before h) (s.1, tt))
 
     abbrev all_done : List Kind × List Done
     all_done = do_blocks g firsts vars [] (numbers g.blocks)
@@ -171,6 +172,6 @@ module _ (defs : List Def) (vars : List Kind) where
         let d = slice_index_or all_done.1 b nothing_done in
         let sound = one_of (SoundDone all_done.0) all_done.1 b nothing_done none s.1 in
         All-from_recursion (HasFormula vars defs all_done.0) (passive_block g all_done.1 b).commands
-        (each_append (HasFormula vars defs all_done.0) d.commands (flat_map (λ c. equations_for d (slice_index_or all_done.1 c nothing_done)) (block_at g.blocks b).next) sound.formulas
+        (every_append (HasFormula vars defs all_done.0) d.commands (flat_map (λ c. equations_for d (slice_index_or all_done.1 c nothing_done)) (block_at g.blocks b).next) sound.formulas
         (to_flat (HasFormula vars defs all_done.0) (λ c. equations_for d (slice_index_or all_done.1 c nothing_done)) (block_at g.blocks b).next (λ c.
         equations_sorted d (slice_index_or all_done.1 c nothing_done) sound (one_of (SoundDone all_done.0) all_done.1 c nothing_done none s.1))))))

@@ -1,12 +1,11 @@
 -- The first fault of a program without faults in which one procedure gets another body: that of this procedure.
 use Rattle.std.proofs.Common.{◌≡◌, refl, sym, ap, ◌∙◌, ℕ, zero, suc, ◌+◌, arith, List, [], ◌∷◌, ◌++◌, take, slice_get, slice_set, Option, Some, None}
 use Rattle.std.proofs.lemmas.Option.{none-some}
-use Rattle.std.proofs.lemmas.List.{append_assoc}
+use Rattle.std.proofs.lemmas.List.{append_assoc, append-nil}
 use Rattle.bpl_ast.specs.Statement.{DeclBody, Decl}
 use Rattle.bpl_scopes.specs.declared.fault.Fault.{Fault}
 use Rattle.bpl_scopes.specs.Fault.{first_fault}
 use Rattle.bpl_scopes.specs.Scopes.{Text, Table, table_of, Counts, counts_after, no_counts, texts_of, declared_names}
-use Rattle.bpl_faults.proofs.ListedNames.{nothing_behind}
 use Rattle.bpl_declaration_faults.specs.DeclFaults.{Before, before_with, body_names, decl_faults, faults_after, nothing_before, in_decl, first_from, fault_of}
 use Rattle.bpl_resolve.proofs.SameBefore.{none_here}
 use Rattle.body_revision.specs.Revised.{IsRevised}
@@ -35,7 +34,7 @@ revised_from t c k names bodies [] at d e is r none = absurd (none-some d is)
 revised_from t c k names bodies (x ∷ xs) zero d e is r none =
     let place : k ≡ k + 0 = omega arith in
     revised_here t c k (turned names bodies) xs x e (revised_first x d e is r) none
-    ∙ (λ i. in_decl (place i) (first_fault (decl_faults t c (turned (sym (nothing_behind names) i) (sym (nothing_behind bodies) i)) e.body)) None)
+    ∙ (λ i. in_decl (place i) (first_fault (decl_faults t c (turned (sym (append-nil names) i) (sym (append-nil bodies) i)) e.body)) None)
 revised_from t c k names bodies (x ∷ xs) (suc at) d e is r none =
     let here = (none_in k (first_fault (decl_faults t c (turned names bodies) x.body)) (first_from (k + 1) (faults_after t c (before_with (turned names bodies) x.body) xs)) none).0 in
     let more = names ++ texts_of (declared_names x.body) in

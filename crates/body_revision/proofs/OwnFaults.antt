@@ -5,7 +5,7 @@ use Rattle.bpl_ast.specs.Statement.{DeclBody, procedure, Decl}
 use Rattle.bpl_scopes.specs.declared.fault.Fault.{Fault}
 use Rattle.bpl_scopes.specs.declared.fault.TypeKind.TheVariants.{Twice as twice}
 use Rattle.bpl_scopes.specs.Fault.{first_fault, again, if_so, is_among}
-use Rattle.bpl_scopes.specs.Scopes.{Table, table_of, Counts, no_counts, counts_after}
+use Rattle.bpl_scopes.specs.Scopes.{contract_with, Table, table_of, Counts, no_counts, counts_after}
 use Rattle.bpl_scopes.proofs.IsFirst.{no_first-no_fault}
 use Rattle.bpl_declaration_faults.specs.DeclFaults.{Before, decl_faults, nothing_before, in_decl, fault_of, signature_faults, parameter_clause_faults, optional_locals, spec_faults, optional_body_faults}
 use Rattle.bpl_declaration_faults.specs.Variables.{names_in_body}
@@ -31,7 +31,7 @@ own_by t c b d e r none =
     let once : again twice b.names (n ∷ []) ≡ [] = front_empty (again twice b.names (n ∷ [])) _ old in
     let alone : if_so (is_among b.bodies n.text) twice n.at ≡ [] = front_empty (if_so (is_among b.bodies n.text) twice n.at) _ (back_empty (again twice b.names (n ∷ [])) _ old) in
     let others : List Fault = signature_faults t r.params r.signature ++ (parameter_clause_faults t c r.signature ++ (again twice [] (names_in_body r.signature (optional_locals (Some r.after))) ++ (flat_map (spec_faults t c r.signature) r.specs
-    ++ optional_body_faults t c r.signature (Some (modified_by t (record { signature = r.signature; specs = r.specs }))) (Some r.after)))) in
+    ++ optional_body_faults t c r.signature (Some (modified_by t (contract_with r.signature r.specs))) (Some r.after)))) in
     ap (decl_faults t c b) r.new ∙ (λ i. once i ++ (alone i ++ others)) ∙ sym (ap (decl_faults t c nothing_before) r.new)
 
 set_same : {A : Type 0} (xs : List A) (i : ℕ) (x : A) → slice_get xs i ≡ Some x → slice_set xs i x ≡ xs

@@ -4,14 +4,7 @@ use Rattle.bv_base.specs.declared.place.Place.{Place}
 use Rattle.bpl_ast.specs.Place.{Ty}
 use Rattle.bpl_ast.specs.Tree.{no_groups}
 use Rattle.bpl_ast.specs.Statement.{DeclBody, constant, function, axiom_of, variables, synonym, procedure, implementation, Decl}
-use Rattle.bpl_sorts.specs.Erased.{users_with, as_integers, maps_over}
-use Rattle.body_revision.specs.declared.readings.Reading.{Reading}
-use Rattle.body_revision.specs.declared.readings.Reading.TheVariants.{Integers, Apart}
-
--- what stands for the k-th user type, counted from 1
-abbrev pub stands_in : Reading → ℕ → Place → Ty
-stands_in Integers k p = as_integers k p
-stands_in Apart k p = maps_over k p
+use Rattle.bpl_sorts.specs.Erased.{users_with}
 
 -- axioms and implementations declare nothing, and the body of a procedure adds nothing
 module _ (stands : ℕ → Place → Ty) where

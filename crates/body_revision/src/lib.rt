@@ -32,5 +32,5 @@ pub mod laws;
 
 pub use declared_names::DeclaredNames;
 pub use heads::is_revised;
-pub use readings::{Reading, read_heads};
+pub use readings::read_heads;
 pub use revised::Revision;

@@ -19,7 +19,7 @@ use Rattle.bpl_blocks.proofs.RunSets.{Only, of_each}
 use Rattle.bpl_blocks.proofs.RunUntouched.{each_weaker, whole_sets}
 
 -- entry values are above all globals
-olds_within : (a k n : ℕ) → AllByRecursion (λ v. (a + k ≤ v) × (v < a + k + n)) (entry_values (map (λ g. (g, g + k)) (range_with_len a n)))
+pub olds_within : (a k n : ℕ) → AllByRecursion (λ v. (a + k ≤ v) × (v < a + k + n)) (entry_values (map (λ g. (g, g + k)) (range_with_len a n)))
 olds_within a k zero = tt
 olds_within a k (suc n) = (
   (omega arith, omega arith),
@@ -27,7 +27,7 @@ olds_within a k (suc n) = (
 )
 
 -- all numbers of the pairs
-apart : (a k n : ℕ) → AllByRecursion (λ v. ((a ≤ v) × (v < a + n)) ⊎ ((a + k ≤ v) × (v < a + k + n))) (paired_numbers (map (λ g. (g, g + k)) (range_with_len a n)))
+pub apart : (a k n : ℕ) → AllByRecursion (λ v. ((a ≤ v) × (v < a + n)) ⊎ ((a + k ≤ v) × (v < a + k + n))) (paired_numbers (map (λ g. (g, g + k)) (range_with_len a n)))
 apart a k zero = tt
 apart a k (suc n) = (
   inl (omega arith, omega arith),
@@ -38,7 +38,7 @@ apart a k (suc n) = (
   ),
 )
 
-paired : (a k n : ℕ) → n ≤ k → AllPairs (λ x y. x ≢ y) (paired_numbers (map (λ g. (g, g + k)) (range_with_len a n)))
+pub paired : (a k n : ℕ) → n ≤ k → AllPairs (λ x y. x ≢ y) (paired_numbers (map (λ g. (g, g + k)) (range_with_len a n)))
 paired a k zero l = λ i j d below there. absurd (omega (there, arith))
 paired a k (suc n) l =
     let rest = paired_numbers (map (λ g. (g, g + k)) (range_with_len (a + 1) n)) in

@@ -1,9 +1,7 @@
 -- Parts of declarations in turn, and parameters that agree.
-use Rattle.std.proofs.Common.{◌≡◌, refl, sym, ap, ◌∙◌, ℕ, ◌+◌, ◌<◌, Bool, true, false, ◌&&◌, ◌||◌, List, [], ◌∷◌, ◌++◌, length, drop, get_or, flat_map, reverse, bytes_eq, Option, Some, None, arith}
-use Rattle.std.specs.List.{list_any}
+use Rattle.std.proofs.Common.{◌≡◌, refl, sym, ap, ◌∙◌, ℕ, ◌+◌, ◌<◌, Bool, true, false, ◌&&◌, ◌||◌, List, [], ◌∷◌, ◌++◌, length, drop, get_or, flat_map, bytes_eq, Option, Some, None, arith}
 use Rattle.std.specs.Borrow.{Bor}
-use Rattle.std.proofs.lemmas.List.{append_assoc, reverse-append}
-use Rattle.std.proofs.lemmas.List.Folds.{list_any-append}
+use Rattle.std.proofs.lemmas.List.{append_assoc}
 use Rattle.logic_terms.specs.Tree.{Kind}
 use Rattle.bpl_ast.specs.Place.{Name}
 use Rattle.bpl_ast.specs.ExprView.{groups_of, each_groups_of, clause_of}
@@ -13,9 +11,9 @@ use Rattle.std.specs.Prelude.{Vec}
 use Rattle.std.specs.declared.alloc.Global.{Global}
 use Rattle.bpl_ast.specs.declared.expr.Group.{Group}
 use Rattle.bpl_scopes.specs.declared.fault.Fault.{Fault}
-use Rattle.bpl_scopes.specs.Fault.{is_among, earlier, first_fault}
+use Rattle.bpl_scopes.specs.Fault.{earlier, first_fault}
 use Rattle.bpl_scopes.specs.Functions.{argument_names, named_argument}
-use Rattle.bpl_scopes.specs.Scopes.{Text, Scope, texts_of}
+use Rattle.bpl_scopes.specs.Scopes.{Scope, texts_of}
 use Rattle.bpl_scopes.proofs.FirstFault.{joins}
 use Rattle.bpl_scopes.specs.declared.shape.Shape.{Shape}
 use Rattle.bpl_scopes.specs.Shape.{kind_seen}
@@ -63,11 +61,6 @@ turned true true = refl
 turned true false = refl
 turned false true = refl
 turned false false = refl
-
--- the order of names doesn't count
-pub among_turned : (ns : List Text) (n : Text) → is_among (reverse ns) n ≡ is_among ns n
-among_turned [] n = refl
-among_turned (m ∷ ms) n = ap (list_any (bytes_eq n)) (reverse-append (m ∷ []) ms) ∙ list_any-append (bytes_eq n) (reverse ms) (m ∷ []) ∙ ap (λ b. b || (bytes_eq n m || false)) (among_turned ms n) ∙ turned (is_among ms n) (bytes_eq n m)
 
 -- the faults of locals, after those of one `var` more
 pub locals_walked : (f : Groups → List Fault) (xs : List (Vec Group Global)) (i : ℕ) (x : Vec Group Global) (found after total : Option Fault) → i < length xs → x ≡ get_or xs i x → after ≡ earlier found (first_fault (f (groups_of x.items)))

@@ -10,6 +10,7 @@ use Rattle.bpl_ast.specs.declared.expr.Group.{Group}
 use Rattle.bpl_scopes.specs.declared.part.Role.{Role}
 use Rattle.bpl_scopes.specs.Scopes.{Text, Table, Var, typed_names, names_of, only_names}
 use Rattle.bpl_scopes.specs.Sorts.{sort_of_type}
+use Rattle.bpl_scopes.proofs.Declared.{typed_length}
 use Rattle.bpl_statement_faults.proofs.CallSteps.{only_joined}
 use Rattle.bpl_declaration_faults.specs.Variables.{vars_from, locals_of}
 use Rattle.bpl_declaration_faults.specs.DeclView.{vars_named}
@@ -24,10 +25,6 @@ vars_append t h r k (p ∷ ps) qs = ap (λ vs. record { name = (p.0).text; role 
 named_typed : (t : Table) (h : List Text) (r : Role) (k : ℕ) (ns : List Name) (s : Ty) → vars_from t h r k (typed_names ns s) ≡ vars_named (sort_of_type t h s) r k ns
 named_typed t h r k [] s = refl
 named_typed t h r k (n ∷ ns) s = ap (λ vs. record { name = n.text; role = r; number = k; sort = sort_of_type t h s } ∷ vs) (named_typed t h r (k + 1) ns s)
-
-typed_length : (ns : List Name) (t : Ty) → length (typed_names ns t) ≡ length ns
-typed_length [] t = refl
-typed_length (n ∷ ns) t = omega (arith, typed_length ns t)
 
 pub groups_next : (vs : List Var) (t : Table) (h : List Text) (r : Role) (k : ℕ) (s : Option Kind) (g : Group) (gs : List Group) → s ≡ sort_of_type t h g.of
     → vs ++ vars_from t h r k (names_of (groups_of (g ∷ gs))) ≡ (vs ++ vars_named s r k g.names.items) ++ vars_from t h r (k + length g.names.items) (names_of (groups_of gs))

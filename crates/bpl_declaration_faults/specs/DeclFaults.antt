@@ -11,7 +11,7 @@ use Rattle.bpl_scopes.specs.declared.fault.Construct.TheVariants.{UniqueWord as 
 use Rattle.bpl_scopes.specs.declared.fault.Fault.{Fault}
 use Rattle.bpl_scopes.specs.Fault.{fault, unless, if_so, again, is_among, first_fault}
 use Rattle.bpl_scopes.specs.declared.part.Part.TheVariants.{Axiom as in_axiom, Requires as in_requires, Ensures as in_ensures, Body as in_body, ClauseOfGlobal as in_clause_of_global, ClauseOfIn as in_clause_of_in, ClauseOfOut as in_clause_of_out, ClauseOfLocal as in_clause_of_local}
-use Rattle.bpl_scopes.specs.Scopes.{Text, Entity, a_constant, a_global, a_function, a_synonym, a_procedure, Table, table_of, Counts, counts_after, no_counts, declared_names, names_of, only_names, texts_of, signature_names, entity_of, Var}
+use Rattle.bpl_scopes.specs.Scopes.{Text, contract_with, Entity, a_constant, a_global, a_function, a_synonym, a_procedure, Table, table_of, Counts, counts_after, no_counts, declared_names, names_of, only_names, texts_of, signature_names, entity_of, Var}
 use Rattle.bpl_scopes.specs.Sorts.{sort_of_type, sorts_of_names}
 use Rattle.bpl_scopes.specs.Functions.{leads_to_itself, argument_names}
 use Rattle.bpl_scopes.specs.TypeFaults.{type_faults, group_type_faults, group_where_faults, params_faults}
@@ -143,7 +143,7 @@ module _ (t : Table) (c : Counts) where
   decl_faults b (synonym n s) = again twice b.names (n ∷ []) ++ (cycle_faults t n ++ synonym_faults t s)
   decl_faults b (procedure n ps g ss body) = again twice b.names (n ∷ []) ++ (if_so (has_body body && is_among b.bodies n.text) twice n.at
       ++ (signature_faults t ps g ++ (parameter_clause_faults t c g ++ (again twice [] (names_in_body g (optional_locals body)) ++ (flat_map (spec_faults t c g) ss
-      ++ optional_body_faults t c g (Some (modified_by t (record { signature = g; specs = ss }))) body)))))
+      ++ optional_body_faults t c g (Some (modified_by t (contract_with g ss))) body)))))
   decl_faults b (implementation n ps g body) = if_so (is_among b.bodies n.text) twice n.at ++ (implemented_faults t (entity_of t n.text) g n.at
       ++ (signature_faults t ps g ++ (group_where_faults g.ins ++ (group_where_faults g.outs ++ (again twice [] (names_in_body g body.locals)
       ++ body_faults t c g (implemented_modifies t (entity_of t n.text)) body)))))

@@ -36,7 +36,7 @@ pub fn note_declared<'a>(
 }
 
 /// Finds a body of a procedure that has one, and notes that it has.
-#[tactic(auto, using(crate::proofs::DeclSteps::among_turned))]
+#[tactic(auto, using(bpl_faults::proofs::ListedNames::among_reversed))]
 pub fn note_body_of<'a>(
     bodies: &mut Positions<'a>,
     name: &'a Name,

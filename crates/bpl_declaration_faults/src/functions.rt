@@ -70,7 +70,8 @@ fn bound_argument<'a>(types: &Types, argument: &'a Argument) -> Result<Bound<'a>
     }
 }
 
-fn bound_arguments<'a>(
+/// The parameters as bound variables, the last of them first.
+pub fn bound_arguments<'a>(
     alloc: Global,
     types: &Types,
     ins: &'a [Argument],

@@ -4,7 +4,7 @@ ghost use Rattle.bpl_scopes.specs.declared.fault.TypeKind.TheVariants.{Twice as 
 ghost use Rattle.bpl_scopes.specs.CountsView.{counts_seen};
 ghost use Rattle.bpl_scopes.specs.Fault.{again, earlier, first_fault};
 ghost use Rattle.bpl_scopes.specs.TableView.{entity_seen};
-ghost use Rattle.bpl_scopes.specs.Scopes.{texts_of, signature_names};
+ghost use Rattle.bpl_scopes.specs.Scopes.{contract_with, texts_of, signature_names};
 ghost use Rattle.bpl_faults.specs.Arguments.{names_seen};
 ghost use Rattle.bpl_statement_faults.specs.StmtFaults.{modified_by};
 ghost use Rattle.bpl_declaration_faults.specs.DeclFaults.{signature_faults, parameter_clause_faults, modified_entity_faults, modified_faults, clause_faults_in, spec_faults, optional_locals, optional_body_faults};
@@ -186,7 +186,7 @@ impl<'d, 'a> Declared<'d, 'a> {
         body: &'a Option<Body>,
         faults: &mut Faults,
     ) -> Result<(), AllocError>
-        ensures { OnOk result (faults.new.first ≡ earlier faults.old.first (first_fault (optional_body_faults self.now.environment.now (counts_seen self.now.counts) signature.now (Some (modified_by self.now.environment.now (record { signature = signature.now; specs = clauses.now }))) body.now))) }
+        ensures { OnOk result (faults.new.first ≡ earlier faults.old.first (first_fault (optional_body_faults self.now.environment.now (counts_seen self.now.counts) signature.now (Some (modified_by self.now.environment.now (contract_with signature.now clauses.now))) body.now))) }
     {
         let modified = modified_by(alloc, self.types().table(), signature, clauses)?;
         self.note_optional_body(alloc, signature, Some(&modified), body, faults)
@@ -203,7 +203,7 @@ impl<'d, 'a> Declared<'d, 'a> {
         body: &'a Option<Body>,
         faults: &mut Faults,
     ) -> Result<(), AllocError>
-        ensures { OnOk result (faults.new.first ≡ earlier faults.old.first (first_fault (signature_faults self.now.environment.now params.now signature.now ++ (parameter_clause_faults self.now.environment.now (counts_seen self.now.counts) signature.now ++ (again twice [] (names_in_body signature.now (optional_locals body.now)) ++ (flat_map (spec_faults self.now.environment.now (counts_seen self.now.counts) signature.now) clauses.now ++ optional_body_faults self.now.environment.now (counts_seen self.now.counts) signature.now (Some (modified_by self.now.environment.now (record { signature = signature.now; specs = clauses.now }))) body.now)))))) }
+        ensures { OnOk result (faults.new.first ≡ earlier faults.old.first (first_fault (signature_faults self.now.environment.now params.now signature.now ++ (parameter_clause_faults self.now.environment.now (counts_seen self.now.counts) signature.now ++ (again twice [] (names_in_body signature.now (optional_locals body.now)) ++ (flat_map (spec_faults self.now.environment.now (counts_seen self.now.counts) signature.now) clauses.now ++ optional_body_faults self.now.environment.now (counts_seen self.now.counts) signature.now (Some (modified_by self.now.environment.now (contract_with signature.now clauses.now))) body.now)))))) }
     {
         self.note_signature(alloc, params, signature, faults)?;
         self.note_parameter_clauses(alloc, signature, faults)?;

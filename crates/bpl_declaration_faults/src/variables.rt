@@ -11,11 +11,10 @@ ghost use Rattle.bpl_declaration_faults.specs.DeclView.{vars_named};
 ghost use Rattle.bpl_declaration_faults.specs.Variables.{vars_from, first_parameter, locals_of, names_in_body, parameters, body_vars};
 
 use bpl_ast::{Group, Name, Signature};
+use bpl_faults::listed::push_group_names;
 use bpl_faults::{Var, Vars};
 use bpl_scopes::{Counts, Hidden, Positions, Role, Shape, Types};
-use bpl_statement_faults::names::{
-    parameter_names, parameter_positions, positions_of, push_group_names,
-};
+use bpl_statement_faults::names::{parameter_names, parameter_positions, positions_of};
 use std::alloc::{AllocError, Global};
 
 // The sum of two counts. No memory holds as many names as a count of 64 bits doesn't hold.
@@ -53,7 +52,7 @@ fn push_named<'a>(
 }
 
 // Puts the names of groups behind others, numbered from a number on, where some names are no types.
-fn push_groups<'a>(
+fn push_group_vars<'a>(
     vars: &mut Vars<'a>,
     types: &Types,
     hidden: &Hidden,
@@ -95,8 +94,8 @@ fn numbered_parameters<'a>(
     };
     let mut vars = Vars::new(alloc);
     let first = first_parameter(counts)?;
-    let outs = push_groups(&mut vars, types, &hidden, Role::In, first, &signature.ins)?;
-    let locals = push_groups(&mut vars, types, &hidden, Role::Out, outs, &signature.outs)?;
+    let outs = push_group_vars(&mut vars, types, &hidden, Role::In, first, &signature.ins)?;
+    let locals = push_group_vars(&mut vars, types, &hidden, Role::Out, outs, &signature.outs)?;
     Ok((vars, locals))
 }
 
@@ -152,7 +151,7 @@ fn push_locals<'a>(
 {
     let mut number = from;
     for groups in locals {
-        number = push_groups(vars, types, hidden, Role::Local, number, groups)?;
+        number = push_group_vars(vars, types, hidden, Role::Local, number, groups)?;
     }
     Ok(())
 }

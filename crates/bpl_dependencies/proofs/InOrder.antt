@@ -5,9 +5,10 @@ use Rattle.std.specs.declared.alloc.Global.{Global}
 use Rattle.std.proofs.lemmas.Bool.{or_cases, or_left, or_right}
 use mathlib.Core.Logic.{inl, inr}
 use Rattle.logic_terms.proofs.Booleans.{same_test}
+use Rattle.bpl_scopes.proofs.SynonymRounds.{ups_is}
 use Rattle.bpl_dependencies.specs.Reach.{edges_seen}
 use Rattle.bpl_dependencies.specs.Rounds.{flag_of, IsUnder, row, leads_on, round_of, rounds_of, put_flag}
-use Rattle.bpl_dependencies.proofs.Reaching.{ups, ups_is}
+use Rattle.bpl_dependencies.proofs.Reaching.{ups}
 
 -- no entry has a flag
 pub none_under : (n : ℕ) → IsUnder (replicate n false) []

@@ -1,6 +1,6 @@
 -- Names in turn, and those of them that are of a kind.
 use Rattle.std.proofs.Common.{◌≡◌, refl, sym, ap, ◌∙◌, ℕ, Bool, true, false, true≢false, cond, List, [], ◌∷◌, ◌++◌, map, filter, Option, None}
-use Rattle.std.proofs.lemmas.List.{append_assoc}
+use Rattle.std.proofs.lemmas.List.{append_assoc, append-nil}
 use Rattle.bpl_ast.specs.Place.{Name, Ty}
 use Rattle.bpl_ast.specs.ExprView.{groups_of}
 use Rattle.bpl_ast.specs.declared.expr.Group.{Group}
@@ -39,13 +39,9 @@ kept_one f g n h = ap (λ b. map g (cond b (n ∷ []) [])) h
 pub kept_none : (f : Text → Bool) (g : Text → Option ℕ) (n : Text) → f n ≡ false → map g (filter f (n ∷ [])) ≡ []
 kept_none f g n h = ap (λ b. map g (cond b (n ∷ []) [])) h
 
-nothing_behind : {A : Type 0} (xs : List A) → xs ++ [] ≡ xs
-nothing_behind [] = refl
-nothing_behind (x ∷ xs) = ap (λ l. x ∷ l) (nothing_behind xs)
-
 pub functions_end : (t : Table) (before : List (Option ℕ)) → before ≡ before ++ functions_among t []
 unfolding functions_among
-functions_end t before = sym (nothing_behind before)
+functions_end t before = sym (append-nil before)
 
 pub functions_next : (t : Table) (before : List (Option ℕ)) (n : Text) (ns : List Text) → before ++ functions_among t (n ∷ ns) ≡ (before ++ function_alone t n) ++ functions_among t ns
 unfolding function_alone functions_among
@@ -54,7 +50,7 @@ functions_next t before n ns = ap (λ l. before ++ l) (filtered_next (λ m. is_f
 
 pub synonyms_end : (t : Table) (before : List (Option ℕ)) → before ≡ before ++ synonyms_among t []
 unfolding synonyms_among
-synonyms_end t before = sym (nothing_behind before)
+synonyms_end t before = sym (append-nil before)
 
 pub synonyms_next : (t : Table) (before : List (Option ℕ)) (n : Text) (ns : List Text) → before ++ synonyms_among t (n ∷ ns) ≡ (before ++ synonym_alone t n) ++ synonyms_among t ns
 unfolding synonym_alone synonyms_among

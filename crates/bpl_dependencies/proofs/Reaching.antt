@@ -5,17 +5,15 @@ use Rattle.std.proofs.lemmas.Option.{slice_get-map}
 use Rattle.std.proofs.lemmas.Bool.{false_from_ne_true}
 use Rattle.std.proofs.lemmas.Bool.Decides.{Decides-eqb}
 use Rattle.std.proofs.lemmas.Slice.Eq.{bytes_eq-Decides}
+use Rattle.std.proofs.lemmas.List.{append-nil}
 use Rattle.bpl_scopes.specs.Positions.{first_at, or_other}
 use Rattle.bpl_scopes.specs.Scopes.{Text, Table, Entry}
 use Rattle.bpl_scopes.specs.KnownSorts.{names_in}
 use Rattle.bpl_scopes.specs.Functions.{is_logical_within, is_logical, leads, leads_to_itself}
 use Rattle.bpl_scopes.specs.LogicalView.{logical_at}
+use Rattle.bpl_scopes.proofs.SynonymRounds.{ups_is}
 use Rattle.bpl_dependencies.specs.Reach.{next_of, reaches, flags_at, first_position, AreEdges, is_quantified_at, leads_at_once}
 use Rattle.bpl_dependencies.specs.Rounds.{leads_on, round_of, rounds_of, has_edge, edges_into}
-
-nothing_behind : {A : Type 0} (xs : List A) → xs ++ [] ≡ xs
-nothing_behind [] = refl
-nothing_behind (x ∷ xs) = ap (λ l. x ∷ l) (nothing_behind xs)
 
 none_is_some : {A : Type 0} (a : A) → None ≡ Some a → ⊥
 none_is_some a h = true≢false (sym (ap is_some h))
@@ -84,16 +82,12 @@ all_reached (e ∷ t) p es h = ap (rounds_of (flags_at (e ∷ t) p) es) (flags_l
 
 -- where no edges are left, nothing more comes
 pub ended : (before bs fs : List Bool) → before ++ round_of bs [] fs ≡ before
-ended before [] fs = nothing_behind before
-ended before (b ∷ bs) fs = nothing_behind before
+ended before [] fs = append-nil before
+ended before (b ∷ bs) fs = append-nil before
 
 abbrev pub ups : ℕ → ℕ → ℕ
 ups zero k = k
 ups (suc d) k = suc (ups d k)
-
-pub ups_is : (d k : ℕ) → ups d k ≡ d + k
-ups_is zero k = omega arith
-ups_is (suc d) k = omega (arith, ups_is d k)
 
 stays : (bs : List Bool) (es : List (List ℕ)) (k : ℕ) → rounds_of bs es (suc k) ≡ rounds_of bs es k → (d : ℕ) → rounds_of bs es (ups d k) ≡ rounds_of bs es k
 stays bs es k h zero = refl

@@ -61,12 +61,12 @@ fn group_names<'a>(alloc: Global, groups: &'a [Group]) -> Result<Vec<&'a [u8]>, 
 {
     let mut names = Vec::new(alloc);
     for group in groups {
-        push_names(&mut names, &group.names)?;
+        push_texts(&mut names, &group.names)?;
     }
     Ok(names)
 }
 
-fn push_names<'a>(texts: &mut Vec<&'a [u8]>, names: &'a [Name]) -> Result<(), AllocError>
+fn push_texts<'a>(texts: &mut Vec<&'a [u8]>, names: &'a [Name]) -> Result<(), AllocError>
     ensures { OnOk result (texts_seen texts.new.items ≡ texts_seen texts.old.items ++ texts_of names.now) }
 {
     for name in names {

@@ -1,5 +1,5 @@
 -- Names of groups in turn, names that stand before, and the variables that groups bind.
-use Rattle.std.proofs.Common.{◌≡◌, refl, sym, ap, ◌∙◌, Bool, ◌||◌, true, false, List, [], ◌∷◌, ◌++◌, reverse, map, ℕ, suc, ◌+◌, ◌<◌, length, drop, get_or, drop-cons, arith, Option, Some, None, bytes_eq}
+use Rattle.std.proofs.Common.{◌≡◌, refl, sym, ap, ◌∙◌, Bool, ◌||◌, true, false, List, [], ◌∷◌, ◌++◌, reverse, map, ℕ, suc, ◌+◌, ◌<◌, length, drop, get_or, drop-cons, arith, Option, Some, bytes_eq}
 use Rattle.std.specs.List.{list_any}
 use Rattle.std.proofs.lemmas.List.{append_assoc, reverse-append, map_push}
 use Rattle.std.proofs.lemmas.List.Folds.{list_any-append}
@@ -11,7 +11,7 @@ use Rattle.bpl_scopes.specs.declared.fault.TypeKind.{TypeKind}
 use Rattle.bpl_scopes.specs.declared.fault.Fault.{Fault}
 use Rattle.bpl_scopes.specs.Fault.{is_among, again, if_so, earlier, first_fault}
 use Rattle.bpl_scopes.specs.Scopes.{Text, Table, BoundVar, typed_names, names_of, only_names}
-use Rattle.bpl_scopes.specs.Sorts.{sort_of_type, bounds_of}
+use Rattle.bpl_scopes.specs.Sorts.{sort_of_type}
 use Rattle.bpl_scopes.proofs.FirstFault.{joins}
 
 only_typed : (ns : List Name) (t : Ty) (ps : List (Name × Ty)) → only_names (typed_names ns t ++ ps) ≡ ns ++ only_names ps
@@ -27,7 +27,7 @@ turned true false = refl
 turned false true = refl
 turned false false = refl
 
-among_reversed : (ns : List Text) (n : Text) → is_among (reverse ns) n ≡ is_among ns n
+pub among_reversed : (ns : List Text) (n : Text) → is_among (reverse ns) n ≡ is_among ns n
 among_reversed [] n = refl
 among_reversed (m ∷ ms) n = ap (list_any (bytes_eq n)) (reverse-append (m ∷ []) ms) ∙ list_any-append (bytes_eq n) (reverse ms) (m ∷ []) ∙ ap (λ b. b || (bytes_eq n m || false)) (among_reversed ms n) ∙ turned (is_among ms n) (bytes_eq n m)
 
@@ -56,10 +56,6 @@ bounds_next t h before after k g gs e put = ap (λ l. l ++ map (bound_for t h) (
 pub map_reversed : {A B : Type 0} (f : A → B) (xs : List A) → map f (reverse xs) ≡ reverse (map f xs)
 map_reversed f [] = refl
 map_reversed f (x ∷ xs) = ap (map f) (reverse-append (x ∷ []) xs) ∙ map_push f (reverse xs) x ∙ ap (λ l. l ++ f x ∷ []) (map_reversed f xs) ∙ sym (reverse-append (f x ∷ []) (map f xs))
-
-pub nothing_behind : {A : Type 0} (xs : List A) → xs ++ [] ≡ xs
-nothing_behind [] = refl
-nothing_behind (x ∷ xs) = ap (λ l. x ∷ l) (nothing_behind xs)
 
 -- what is left begins with the item at the position
 pub next_dropped : {A : Type 0} (xs : List A) (i : ℕ) (x : A) → i < length xs → x ≡ get_or xs i x → drop i xs ≡ x ∷ drop (i + 1) xs

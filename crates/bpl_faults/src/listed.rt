@@ -19,14 +19,25 @@ pub fn push_names<'a>(found: &mut Vec<&'a Name>, names: &'a [Name]) -> Result<()
     Ok(())
 }
 
+/// Puts the names of groups behind others.
+pub fn push_group_names<'a>(
+    found: &mut Vec<&'a Name>,
+    groups: &'a [Group],
+) -> Result<(), AllocError>
+    ensures { OnOk result (names_seen found.new.items ≡ names_seen found.old.items ++ only_names (names_of (groups_of groups.now))) }
+{
+    for group in groups {
+        push_names(found, &group.names)?;
+    }
+    Ok(())
+}
+
 /// The names of groups.
 pub fn group_names<'a>(alloc: Global, groups: &'a [Group]) -> Result<Vec<&'a Name>, AllocError>
     ensures { IfOk result (λ v. names_seen v.items ≡ only_names (names_of (groups_of groups.now))) }
 {
     let mut names = Vec::new(alloc);
-    for group in groups {
-        push_names(&mut names, &group.names)?;
-    }
+    push_group_names(&mut names, groups)?;
     Ok(names)
 }
 

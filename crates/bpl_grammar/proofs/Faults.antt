@@ -67,7 +67,7 @@ same_mark p us t wide syntax s r = absurd (r s.0)
 same_mark p us t wide deep s r = absurd (s.1 r.1)
 same_mark p us t wide wide s r = refl
 
-token_at : (ls : List Lexeme) (k : ℕ) → k < length ls → (t : Lexeme) × (slice_get ls k ≡ Some t)
+pub token_at : (ls : List Lexeme) (k : ℕ) → k < length ls → (t : Lexeme) × (slice_get ls k ≡ Some t)
 token_at [] k h = absurd (omega (arith, h))
 token_at (t ∷ ts) zero h = (t, refl)
 token_at (t ∷ ts) (suc k) h = token_at ts k (omega (arith, h))

@@ -21,3 +21,4 @@ mod SafeOnes
 pub mod WithClauses
 mod ClausesHold
 pub mod Jumps
+pub mod NumberLists

@@ -13,7 +13,8 @@ use Rattle.logic_core.specs.Sorts.{sort_of, is, are, bodies_sorted}
 use Rattle.logic_core.specs.Variables.{variables}
 use Rattle.logic_core.specs.View.{trees_of}
 use Rattle.logic_core.specs.WellSorted.{IsFormula}
-use Rattle.logic_laws.proofs.SortTests.{is_sort, sort_is, same_kind_equal, same_kind_itself}
+use Rattle.logic_core.proofs.SameTerm.{same_sort, self_sort}
+use Rattle.logic_laws.proofs.SortTests.{is_sort, sort_is}
 use Rattle.flow_core.specs.State.{sorts_at}
 use Rattle.flow_core.specs.Reading.{Mentions}
 use Rattle.flow_core.specs.declared.block.Invariant.{Invariant}
@@ -56,11 +57,11 @@ same_sorts [] [] = ((λ h. refl), (λ h. refl))
 same_sorts [] (k ∷ ks) = ((λ h. absurd (cc)), (λ h. absurd (cc)))
 same_sorts (j ∷ js) [] = ((λ h. absurd (cc)), (λ h. absurd (cc)))
 same_sorts (j ∷ js) (k ∷ ks) = (
-  (λ h. let e = and_parts (same_kind j k) (same_kinds js ks) h in cc (same_kind_equal j k e.0, (same_sorts js ks).0 e.1)),
+  (λ h. let e = and_parts (same_kind j k) (same_kinds js ks) h in cc (same_sort j k e.0, (same_sorts js ks).0 e.1)),
   (λ h.
       let e : j ≡ k = cc in
       let r : js ≡ ks = cc in
-      and_from (same_kind j k) (same_kinds js ks) (subst (λ i. same_kind j i ≡ true) e (same_kind_itself j)) ((same_sorts js ks).1 r)),
+      and_from (same_kind j k) (same_kinds js ks) (subst (λ i. same_kind j i ≡ true) e (self_sort j)) ((same_sorts js ks).1 r)),
 )
 
 in_range : (low high v : ℕ) → Decides (between low high v) ((low ≤ v) × (v < high))

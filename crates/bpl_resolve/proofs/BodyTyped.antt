@@ -5,6 +5,7 @@ use Rattle.std.specs.List.{AllByRecursion}
 use Rattle.std.proofs.lemmas.Option.{slice_get_within}
 use Rattle.bv_base.specs.declared.place.Place.{Place}
 use Rattle.logic_core.specs.Tree.{Kind}
+use Rattle.logic_core.proofs.EachOf.{every_both}
 use Rattle.bpl_ast.specs.Place.{Name, Ty}
 use Rattle.bpl_ast.specs.Tree.{Groups}
 use Rattle.bpl_ast.specs.Statement.{Signature, Body, Spec as SpecTree, Decl}
@@ -33,7 +34,7 @@ use Rattle.bpl_resolve.proofs.ModuleSorts.{T, C, M, fine, numbered_entity, const
 use Rattle.bpl_resolve.proofs.TermSorts.{Fits}
 use Rattle.bpl_resolve.proofs.TargetVariables.{Ready, IsSet}
 use Rattle.bpl_resolve.proofs.Statements.{IsCallee, list_typed}
-use Rattle.bpl_resolve.proofs.ProcedureVariables.{map_length, all_and, var_found, columns, Later, body_later, kinds_same, each_known, length_all_clauses}
+use Rattle.bpl_resolve.proofs.ProcedureVariables.{map_length, var_found, columns, Later, body_later, kinds_same, each_known, length_all_clauses}
 
 module _ (ds : List Decl) (none : fault_of ds ≡ None) where
   signature_known : (hidden : List Text) (gs : Groups) → group_type_faults (T ds none) hidden gs ≡ [] → EachKnown (sorts_of_names (T ds none) hidden (names_of gs))
@@ -132,12 +133,12 @@ module _ (ds : List Decl) (none : fault_of ds ≡ None) where
           let r = numbered_entity ds none f.text (a_procedure k d) q in
           let y = entity_fine (T ds none) (C ds none) (fine ds none) f.text (a_procedure k d) q in
           record {
-            callee = proc_of (T ds none) (C ds none) f.text d.signature d.specs r.0;
-            is_named = subst (λ w. slice_get (M ds none).procs (procedure_number w) ≡ Some (proc_of (T ds none) (C ds none) f.text d.signature d.specs r.0)) (sym q) r.1;
+            callee = proc_of (T ds none) (C ds none) f.text d.signature r.1 r.0;
+            is_named = subst (λ w. slice_get (M ds none).procs (procedure_number w) ≡ Some (proc_of (T ds none) (C ds none) f.text d.signature r.1 r.0)) (sym q) r.2;
             ins_known = signature_known (texts_of (signature_names d.signature)) d.signature.ins y.ins_fine;
             outs_known = signature_known (texts_of (signature_names d.signature)) d.signature.outs y.outs_fine;
-            ins_are = sym (ins_sorts f.text d.signature d.specs r.0 ∙ kinds_same (T ds none) (texts_of (signature_names d.signature)) in_parameter (first_parameter (C ds none)) (names_of d.signature.ins));
-            outs_are = sym (outs_sorts f.text d.signature d.specs r.0 ∙ kinds_same (T ds none) (texts_of (signature_names d.signature)) out_parameter (first_parameter (C ds none) + length (names_of d.signature.ins)) (names_of d.signature.outs));
+            ins_are = sym (ins_sorts f.text d.signature r.1 r.0 ∙ kinds_same (T ds none) (texts_of (signature_names d.signature)) in_parameter (first_parameter (C ds none)) (names_of d.signature.ins));
+            outs_are = sym (outs_sorts f.text d.signature r.1 r.0 ∙ kinds_same (T ds none) (texts_of (signature_names d.signature)) out_parameter (first_parameter (C ds none) + length (names_of d.signature.ins)) (names_of d.signature.outs));
           }
 
       -- a variable that is set
@@ -155,7 +156,7 @@ module _ (ds : List Decl) (none : fault_of ds ≡ None) where
       VarGood v = (slice_get (sorts_before ds none (rest_of kind_at)) v.number ≡ Some (kind_at v)) × ((slice_get N v.number ≡ Some v.name) × (Known v.sort × Later (first_parameter (C ds none) + length (names_of h.ins)) v))
 
       vars_good : AllByRecursion VarGood (body_vars (T ds none) (C ds none) h b.locals)
-      vars_good = all_and _ _ (body_vars (T ds none) (C ds none) h b.locals) kinds_at (all_and _ _ (body_vars (T ds none) (C ds none) h b.locals) names_at (all_and _ _ (body_vars (T ds none) (C ds none) h b.locals) known (body_later (T ds none) (C ds none) h b.locals)))
+      vars_good = every_both _ _ (body_vars (T ds none) (C ds none) h b.locals) kinds_at (every_both _ _ (body_vars (T ds none) (C ds none) h b.locals) names_at (every_both _ _ (body_vars (T ds none) (C ds none) h b.locals) known (body_later (T ds none) (C ds none) h b.locals)))
 
       out_or_local : (r : Role) (p : Place) (k j : ℕ) → (r ≡ in_parameter) ⊎ (k ≤ j) → role_faults r p ≡ [] → k ≤ j
       out_or_local in_parameter p k j o e = cc

@@ -4,6 +4,7 @@ use Rattle.std.specs.Prelude.{flat_map}
 use Rattle.std.specs.List.{AllByRecursion}
 use Rattle.logic_core.specs.Tree.{Kind}
 use Rattle.logic_core.specs.WellSorted.{IsFormula}
+use Rattle.logic_core.proofs.EachOf.{every_append}
 use Rattle.bpl_ast.specs.Statement.{Signature, Spec as SpecTree, requires, ensures, modifies, DeclBody, constant, function, axiom_of, variables, synonym, procedure, implementation, Decl}
 use Rattle.bpl_model.specs.Module.{Proc}
 use Rattle.bpl_model.specs.Numbering.{defs_of, const_sorts, global_sorts, contract_sorts, in_sorts}
@@ -23,7 +24,7 @@ use Rattle.bpl_resolve.proofs.EntriesFine.{SignatureFine, signature_fine, NoFaul
 use Rattle.bpl_resolve.proofs.ScopesKnown.{VarsKnown, vars_from_known, vars_joined}
 use Rattle.bpl_resolve.proofs.ScopesFit.{AreAt}
 use Rattle.bpl_resolve.proofs.ModuleSorts.{T, C, M, fine, constants_count, globals_count, sorts_before, formula_fits}
-use Rattle.bpl_resolve.proofs.ProcedureVariables.{all_join, columns}
+use Rattle.bpl_resolve.proofs.ProcedureVariables.{columns}
 use Rattle.bpl_resolve.proofs.BodyTyped.{ins_sorts, outs_sorts}
 use Rattle.bpl_resolve.proofs.InClauses.{in_clauses_typed}
 use Rattle.bpl_resolve.proofs.Modifies.{modifies_globals}
@@ -58,7 +59,7 @@ module _ (ds : List Decl) (none : fault_of ds ≡ None) where
   parameters_known g s = vars_joined TT CC (fine ds none) (in_vars TT CC g) (out_vars TT CC g) (vars_from_known TT CC (fine ds none) _ in_parameter _ g.ins s.ins_fine) (vars_from_known TT CC (fine ds none) _ out_parameter _ g.outs s.outs_fine)
 
   parameters_from : (g : Signature) → AllByRecursion (λ (u : Var). first_parameter CC ≤ u.number) (parameters TT CC g)
-  parameters_from g = all_join _ (in_vars TT CC g) (out_vars TT CC g) (numbers_from TT _ in_parameter _ _ (names_of g.ins) (omega arith)) (numbers_from TT _ out_parameter _ _ (names_of g.outs) (omega arith))
+  parameters_from g = every_append _ (in_vars TT CC g) (out_vars TT CC g) (numbers_from TT _ in_parameter _ _ (names_of g.ins) (omega arith)) (numbers_from TT _ out_parameter _ _ (names_of g.outs) (omega arith))
 
   contract_is : (n : Text) (g : Signature) (ss : List SpecTree) (i : Option Implemented) → contract_sorts (M ds none) (proc_of TT CC n g ss i) ≡ sorts_before ds none (Rest g)
   contract_is n g ss i = λ j. sorts_before ds none (ins_sorts ds none n g ss i j ++ outs_sorts ds none n g ss i j)
@@ -100,7 +101,7 @@ module _ (ds : List Decl) (none : fault_of ds ≡ None) where
 
   contracts_from : (bf : Before) (xs : List Decl) → NoFaults TT CC bf xs → AllByRecursion ContractOk (flat_map (λ (x : Decl). procs_in ds TT CC x.body) xs)
   contracts_from bf [] h = tt
-  contracts_from bf (x ∷ xs) h = all_join ContractOk (procs_in ds TT CC x.body) _ (decl_contracts bf x.body h.0) (contracts_from (before_with bf x.body) xs h.1)
+  contracts_from bf (x ∷ xs) h = every_append ContractOk (procs_in ds TT CC x.body) _ (decl_contracts bf x.body h.0) (contracts_from (before_with bf x.body) xs h.1)
 
   pub contracts_typed : AllByRecursion ContractOk (M ds none).procs
   contracts_typed = contracts_from nothing_before ds (none_faulty ds none)

@@ -7,7 +7,7 @@ use Rattle.bpl_ast.specs.Place.{Name, Ty}
 use Rattle.bpl_ast.specs.Statement.{DeclBody, constant, function, axiom_of, variables, synonym, procedure, implementation, Decl}
 use Rattle.bpl_scopes.specs.declared.fault.TypeKind.TheVariants.{Twice as twice}
 use Rattle.bpl_scopes.specs.Fault.{again, is_among}
-use Rattle.bpl_scopes.specs.Scopes.{Text, Entity, a_constant, a_global, a_procedure, Entry, Table, Counts, counts_with, declared_names, typed_names, names_of, only_names, texts_of, entries_from, entries_of, entries_after, entry_of, entity_of}
+use Rattle.bpl_scopes.specs.Scopes.{Text, contract_with, Entity, a_constant, a_global, a_procedure, Entry, Table, Counts, counts_with, declared_names, typed_names, names_of, only_names, texts_of, entries_from, entries_of, entries_after, entry_of, entity_of}
 use Rattle.bpl_declaration_faults.specs.DeclFaults.{decl_faults, Before, before_with}
 use Rattle.bpl_resolve.proofs.HasSort.{first_empty}
 use Rattle.bpl_resolve.proofs.GoesForward.{not_equal, if_so_empty}
@@ -60,7 +60,7 @@ New es b = (m : Text) → is_among b.names m ≡ false → HasNone m es
 
 -- the declaration that a procedure's name stands for
 abbrev pub StandsForIt : Table → DeclBody → Type 0
-StandsForIt t (procedure n ps g ss b) = (k : ℕ) × (entity_of t n.text ≡ Some (a_procedure k (record { signature = g; specs = ss })))
+StandsForIt t (procedure n ps g ss b) = (k : ℕ) × (entity_of t n.text ≡ Some (a_procedure k (contract_with g ss)))
 StandsForIt t d = ⊤
 
 module _ (t : Table) (c : Counts) where

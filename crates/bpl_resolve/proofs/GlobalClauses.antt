@@ -4,6 +4,7 @@ use Rattle.std.specs.Prelude.{⊤, flat_map}
 use Rattle.std.specs.List.{AllByRecursion}
 use Rattle.logic_core.specs.Tree.{Kind, Tree}
 use Rattle.logic_core.specs.Renamed.{EachHas}
+use Rattle.logic_core.proofs.EachOf.{every_append}
 use Rattle.bpl_ast.specs.Place.{Name, Ty}
 use Rattle.bpl_ast.specs.Tree.{Groups, no_groups, group, Clause, no_clause, clause}
 use Rattle.bpl_ast.specs.Statement.{DeclBody, constant, function, axiom_of, variables, synonym, procedure, implementation, Decl}
@@ -23,7 +24,6 @@ use Rattle.bpl_resolve.specs.Elaborate.{clause_term, clause_terms, globals_with,
 use Rattle.bpl_resolve.proofs.HasSort.{first_empty, second_empty}
 use Rattle.bpl_resolve.proofs.EntriesFine.{NoFaults, none_faulty}
 use Rattle.bpl_resolve.proofs.ScopesKnown.{name_has, any_bounds}
-use Rattle.bpl_resolve.proofs.ProcedureVariables.{all_join}
 use Rattle.bpl_resolve.proofs.ModuleSorts.{T, C, M, slice_left, slice_right, numbered_entity, constants_count, sorts_before, global_is_at, formula_fits}
 use Rattle.bpl_resolve.proofs.Reached.{reached}
 use Rattle.bpl_resolve.proofs.SameOver.{SameAt, same_over}
@@ -89,7 +89,7 @@ module _ (ds : List Decl) (none : fault_of ds ≡ None) where
     where
       by : (d : DeclBody) → decl_faults TT CC b d ≡ [] → AllByRecursion HasClause (flat_map (λ (d : Decl). globals_in TT CC d.body) xs)
           → AllByRecursion HasClause (globals_in TT CC d ++ flat_map (λ (d : Decl). globals_in TT CC d.body) xs)
-      by (variables gs) e later = all_join HasClause (globals_in TT CC (variables gs)) _ (with_clauses (names_of gs) (clause_terms S gs)
+      by (variables gs) e later = every_append HasClause (globals_in TT CC (variables gs)) _ (with_clauses (names_of gs) (clause_terms S gs)
           (clauses_typed gs (second_empty (group_type_faults TT [] gs) _ (second_empty (again twice b.names (only_names (names_of gs))) _ e)))) later
       by (constant u ns s) e later = later
       by (function n ps ins r y) e later = later

@@ -15,7 +15,7 @@ use Rattle.bpl_scopes.specs.declared.fault.TypeKind.{TypeKind}
 use Rattle.bpl_scopes.specs.declared.fault.TypeKind.TheVariants.{Twice as twice, Unknown as unknown, GotoHere as goto_here}
 use Rattle.bpl_scopes.specs.declared.fault.Fault.{Fault}
 use Rattle.bpl_scopes.specs.Fault.{fault, unless, if_so, is_among, again, earlier, first_fault}
-use Rattle.bpl_scopes.specs.Scopes.{Text, Table, table_of, Counts, no_counts, counts_after, texts_of, entity_of, Scope}
+use Rattle.bpl_scopes.specs.Scopes.{Text, contract_with, Table, table_of, Counts, no_counts, counts_after, texts_of, entity_of, Scope}
 use Rattle.bpl_statement_faults.specs.StmtFaults.{modified_by, labels_of as labels_of_tree, labels_in as labels_in_tree, inner_labels, branch_labels, many_labels_faults, BodyScope, labels_of_list, Position, label_faults, guard_faults, stmts_faults, stmt_faults, action_faults, branches_faults}
 use Rattle.bpl_scopes.specs.TypeFaults.{group_where_faults}
 use Rattle.bpl_faults.specs.ExprFaults.{formula_faults}
@@ -201,7 +201,7 @@ decl_fine t c b (procedure n ps g ss (Some body)) e =
     let r3 = second_empty (signature_faults t ps g) _ r2 in
     let r4 = second_empty (parameter_clause_faults t c g) _ r3 in
     let r5 = second_empty (again twice [] (names_in_body g body.locals)) _ r4 in
-    body_fine t c g (Some (modified_by t (record { signature = g; specs = ss }))) body (second_empty (flat_map (spec_faults t c g) ss) _ r5)
+    body_fine t c g (Some (modified_by t (contract_with g ss))) body (second_empty (flat_map (spec_faults t c g) ss) _ r5)
 decl_fine t c b (implementation n ps g body) e =
     let r1 = second_empty (if_so (is_among b.bodies n.text) twice n.at) _ e in
     let r2 = second_empty (implemented_faults t (entity_of t n.text) g n.at) _ r1 in

@@ -5,10 +5,11 @@ use Rattle.bv_base.specs.declared.place.Place.{Place}
 use Rattle.logic_core.specs.Tree.{Kind, int, boolean, map as map_of}
 use Rattle.logic_core.specs.Wide.{when}
 use Rattle.logic_core.specs.Sorts.{is, read_sort, write_sort, choice_sort, equation_sort}
+use Rattle.logic_core.proofs.SameTerm.{same_sort}
 use Rattle.bpl_scopes.specs.declared.fault.TypeKind.{TypeKind}
 use Rattle.bpl_scopes.specs.Fault.{unless}
 use Rattle.bpl_faults.specs.NameFaults.{sort_faults, same_sort_faults, map_faults}
-use Rattle.bpl_resolve.proofs.Below.{same_is, is_itself}
+use Rattle.bpl_resolve.proofs.Below.{is_itself}
 
 -- there is a sort
 abbrev pub Known : Option Kind → Type 0
@@ -29,7 +30,7 @@ unless_empty false k p h = cc
 -- a sort that has no fault is the one that is wanted
 pub has_sort : (k : Kind) (o : Option Kind) (p : Place) → Known o → sort_faults k o p ≡ [] → o ≡ Some k
 has_sort k None p (j, e) h = cc
-has_sort k (Some j) p h g = ap Some (same_is j k (unless_empty _ _ p g))
+has_sort k (Some j) p h g = ap Some (same_sort j k (unless_empty _ _ p g))
 
 pub has_same : (o q : Option Kind) (p : Place) → Known o → Known q → same_sort_faults o q p ≡ [] → o ≡ q
 has_same None q p (j, e) h g = cc

@@ -12,20 +12,17 @@ use Rattle.bpl_declaration_faults.specs.Variables.{bound_argument}
 use Rattle.bpl_resolve.proofs.Below.{back_onto}
 use Rattle.bpl_resolve.proofs.Ways.{Member, any_member, same_text, text_itself}
 use Rattle.bpl_resolve.proofs.FunctionOrder.{stays}
+use Rattle.bpl_resolve.proofs.TypeSorts.{member_right}
 
 -- each of the names has the property
 abbrev pub Each : (Text → Type 0) → List Text → Type 0
 Each P ns = (m : Text) → Member m ns → P m
 
-behind : (n : Text) (ms ns : List Text) → Member n ns → Member n (ms ++ ns)
-behind n [] ns h = h
-behind n (m ∷ ms) ns h = inr (behind n ms ns h)
-
 pub first_each : (P : Text → Type 0) (xs ys : List Text) → Each P (xs ++ ys) → Each P xs
 first_each P xs ys a m i = a m (stays m xs ys i)
 
 pub second_each : (P : Text → Type 0) (xs ys : List Text) → Each P (xs ++ ys) → Each P ys
-second_each P xs ys a m i = a m (behind m xs ys i)
+second_each P xs ys a m i = a m (member_right m xs ys i)
 
 -- under these bound variables the name stands for no function
 abbrev pub HidesName : List BoundVar → Text → Type 0

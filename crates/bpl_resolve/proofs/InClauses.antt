@@ -2,6 +2,7 @@
 use Rattle.std.proofs.Common.{◌≡◌, refl, ap, sym, ◌∙◌, subst, ◌+◌, ◌≤◌, arith, List, [], ◌∷◌, ◌++◌, append_assoc, append-nil, map, length, length-append, Option, None, ℕ, true, false, inl}
 use Rattle.std.specs.List.{AllByRecursion}
 use Rattle.logic_core.specs.Tree.{Kind}
+use Rattle.logic_core.proofs.EachOf.{every_append}
 use Rattle.bpl_ast.specs.Statement.{Signature, Spec as SpecTree, Decl}
 use Rattle.bpl_model.specs.Module.{Proc}
 use Rattle.bpl_model.specs.Numbering.{defs_of, const_sorts, global_sorts, in_sorts}
@@ -16,7 +17,6 @@ use Rattle.bpl_resolve.specs.Elaborate.{clause_term, clause_terms, Implemented, 
 use Rattle.bpl_resolve.proofs.HasSort.{first_empty, second_empty}
 use Rattle.bpl_resolve.proofs.EntriesFine.{SignatureFine}
 use Rattle.bpl_resolve.proofs.ModuleSorts.{T, C, M, fine, constants_count, globals_count, sorts_before, all_at}
-use Rattle.bpl_resolve.proofs.ProcedureVariables.{all_join}
 use Rattle.bpl_resolve.proofs.BodyTyped.{ins_sorts}
 use Rattle.bpl_resolve.proofs.OutClauses.{numbers_from, no_old, with_clauses}
 use Rattle.bpl_ast.specs.Place.{Name, Ty}
@@ -51,7 +51,7 @@ module _ (ds : List Decl) (none : fault_of ds ≡ None) where
   parameters_known g s = vars_joined TT CC (fine ds none) (in_vars TT CC g) (out_vars TT CC g) (vars_from_known TT CC (fine ds none) _ in_parameter _ g.ins s.ins_fine) (vars_from_known TT CC (fine ds none) _ out_parameter _ g.outs s.outs_fine)
 
   parameters_from : (g : Signature) → AllByRecursion (λ (u : Var). first_parameter CC ≤ u.number) (parameters TT CC g)
-  parameters_from g = all_join _ (in_vars TT CC g) (out_vars TT CC g) (numbers_from TT _ in_parameter _ _ (names_of g.ins) (omega arith)) (numbers_from TT _ out_parameter _ _ (names_of g.outs) (omega arith))
+  parameters_from g = every_append _ (in_vars TT CC g) (out_vars TT CC g) (numbers_from TT _ in_parameter _ _ (names_of g.ins) (omega arith)) (numbers_from TT _ out_parameter _ _ (names_of g.outs) (omega arith))
 
   abbrev V : Signature → List Kind
   V g = sorts_before ds none (Rest g)
@@ -72,13 +72,13 @@ module _ (ds : List Decl) (none : fault_of ds ≡ None) where
   clause_ok p g s (clause q x) e = (
     formula_sorted (V g) (defs_of (M ds none)) (Here g) (scope_known TT CC (fine ds none) CC in_clause_of_in (parameters TT CC g) [] (parameters_known g s)) tt
         (scope_fits ds TT CC (V g) (defs_of (M ds none)) in_clause_of_in (all_at ds none (Rest g) in_clause_of_in) (parameters TT CC g) []
-        (all_join _ (in_vars TT CC g) (out_vars TT CC g) (vars_fit ds TT CC (V g) (defs_of (M ds none)) (Here g) (in_vars TT CC g) (ins_at g)) (outs_fit g _ _ (names_of g.outs)))) tt x e,
+        (every_append _ (in_vars TT CC g) (out_vars TT CC g) (vars_fit ds TT CC (V g) (defs_of (M ds none)) (Here g) (in_vars TT CC g) (ins_at g)) (outs_fit g _ _ (names_of g.outs)))) tt x e,
     λ v z m. let b = lacks v (Here g) (no_old ds none v z in_clause_of_in (parameters TT CC g) (parameters_from g)) refl true x (first_empty _ _ e) in let bad : true ≡ false = sym m ∙ b in cc,
   )
 
   group_ok : (p : Proc) (g : Signature) → SignatureFine TT CC g → (gs : Groups) → group_clause_faults (Here g) gs ≡ [] → AllByRecursion (IsClause (M ds none) p (V g)) (clause_terms (Here g) gs)
   group_ok p g s no_groups e = tt
-  group_ok p g s (group ns t c gs) e = all_join _ (map (λ (n : Name). clause_term (Here g) c) ns) _ (each ns (clause_ok p g s c (first_empty _ _ e))) (group_ok p g s gs (second_empty (clause_faults (Here g) c) _ e))
+  group_ok p g s (group ns t c gs) e = every_append _ (map (λ (n : Name). clause_term (Here g) c) ns) _ (each ns (clause_ok p g s c (first_empty _ _ e))) (group_ok p g s gs (second_empty (clause_faults (Here g) c) _ e))
     where
       each : (ms : List Name) → IsClause (M ds none) p (V g) (clause_term (Here g) c) → AllByRecursion (IsClause (M ds none) p (V g)) (map (λ (n : Name). clause_term (Here g) c) ms)
       each [] x = tt

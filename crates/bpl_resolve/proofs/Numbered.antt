@@ -6,7 +6,7 @@ use Rattle.std.proofs.lemmas.List.{map-append}
 use Rattle.logic_core.specs.Tree.{Kind, Tree}
 use Rattle.bpl_ast.specs.Place.{Name, Ty}
 use Rattle.bpl_ast.specs.Tree.{Groups, no_groups, group}
-use Rattle.bpl_ast.specs.Statement.{DeclBody, constant, function, axiom_of, variables, synonym, procedure, implementation, Decl}
+use Rattle.bpl_ast.specs.Statement.{Spec, DeclBody, constant, function, axiom_of, variables, synonym, procedure, implementation, Decl}
 use Rattle.bpl_model.specs.Module.{Const, Global, Proc}
 use Rattle.bpl_scopes.specs.declared.part.Part.TheVariants.{ClauseOfGlobal as in_clause_of_global}
 use Rattle.bpl_scopes.specs.Scopes.{Text, Entity, a_constant, a_global, a_function, a_synonym, a_procedure, Entry, Table, Counts, counts_with, counts_after, typed_names, names_of, entries_from, entries_of, entries_after, Scope}
@@ -53,7 +53,7 @@ module _ (ds : List Decl) (t : Table) (c : Counts) where
   IsNumbered cs gs ps n (a_global k s) = slice_get gs k ≡ Some (kind_of s)
   IsNumbered cs gs ps n (a_function h) = ⊤
   IsNumbered cs gs ps n (a_synonym s) = ⊤
-  IsNumbered cs gs ps n (a_procedure k d) = (i : Option Implemented) × (slice_get ps k ≡ Some (proc_of t c n d.signature d.specs i))
+  IsNumbered cs gs ps n (a_procedure k d) = (i : Option Implemented) × (ss : List Spec) × (slice_get ps k ≡ Some (proc_of t c n d.signature ss i))
 
   abbrev pub AreNumbered : List Kind → List Kind → List Proc → Table → Type 0
   AreNumbered cs gs ps es = AllByRecursion (λ (e : Entry). IsNumbered cs gs ps e.name e.entity) es
@@ -99,7 +99,7 @@ module _ (ds : List Decl) (t : Table) (c : Counts) where
       (globals_numbered (cs ++ mc) gs mg (ps ++ mp) d k.globals (names_of vs) f)
   decl_numbered cs gs ps k d (synonym n s) mc mg mp e f g = (tt, tt)
   decl_numbered cs gs ps k d (procedure n q s ss b) mc mg mp e f g =
-      ((or_else (own_body s b) (implementation_of ds n.text), slice_at ps (proc_of t c n.text s ss (or_else (own_body s b) (implementation_of ds n.text))) mp k.procedures g), tt)
+      ((or_else (own_body s b) (implementation_of ds n.text), ss, slice_at ps (proc_of t c n.text s ss (or_else (own_body s b) (implementation_of ds n.text))) mp k.procedures g), tt)
   decl_numbered cs gs ps k d (implementation n q s b) mc mg mp e f g = tt
 
   numbered_joined : (cs gs : List Kind) (ps : List Proc) (es fs : Table) → AreNumbered cs gs ps es → AreNumbered cs gs ps fs → AreNumbered cs gs ps (es ++ fs)

@@ -31,7 +31,7 @@ set_elsewhere (p ∷ ps) zero (suc k) i h = refl
 set_elsewhere (p ∷ ps) (suc j) zero i h = refl
 set_elsewhere (p ∷ ps) (suc j) (suc k) i h = set_elsewhere ps j k i (λ e. h (ap suc e))
 
-first_there : (m : Text) (os : List Text) (k : ℕ) → first_at m os ≡ Some k → slice_get os k ≡ Some m
+pub first_there : (m : Text) (os : List Text) (k : ℕ) → first_at m os ≡ Some k → slice_get os k ≡ Some m
 first_there m [] k e = cc
 first_there m (o ∷ os) k e = by (bytes_eq m o) refl (first_at m os) (λ j q. first_there m os j q) e
   where
@@ -40,7 +40,7 @@ first_there m (o ∷ os) k e = by (bytes_eq m o) refl (first_at m os) (λ j q. f
     by false q None z y = cc
     by false q (Some j) z y = let u : suc j ≡ k = cc in subst (λ w. slice_get (o ∷ os) w ≡ Some m) u (z j refl)
 
-some_same : {A : Type 0} (a b : A) → Some a ≡ Some b → a ≡ b
+pub some_same : {A : Type 0} (a b : A) → Some a ≡ Some b → a ≡ b
 some_same a b e = cc
 
 all_same : (n k : ℕ) (a : ℕ) → k < n → slice_get (replicate n a) k ≡ Some a

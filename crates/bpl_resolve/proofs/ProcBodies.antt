@@ -6,6 +6,8 @@ use Rattle.logic_core.proofs.Booleans.{both_true}
 use Rattle.bv_base.specs.declared.place.Place.{Place}
 use Rattle.logic_core.specs.Tree.{Kind, Tree}
 use Rattle.logic_core.specs.Same.{same_kind}
+use Rattle.logic_core.proofs.EachOf.{every_append}
+use Rattle.logic_core.proofs.SameTerm.{same_sort}
 use Rattle.bpl_ast.specs.Place.{Name, Ty, Params}
 use Rattle.bpl_ast.specs.Tree.{Groups}
 use Rattle.bpl_ast.specs.Statement.{Signature, Body, Spec as SpecTree, DeclBody, constant, function, axiom_of, variables, synonym, procedure, implementation, Decl}
@@ -16,21 +18,20 @@ use Rattle.bpl_scopes.specs.declared.fault.TypeKind.TheVariants.{Twice as twice,
 use Rattle.bpl_scopes.specs.Fault.{again, is_among, if_so}
 use Rattle.bpl_scopes.specs.declared.part.Role.{Role}
 use Rattle.bpl_scopes.specs.declared.part.Role.TheVariants.{In as in_parameter, Out as out_parameter, Local as local_variable}
-use Rattle.bpl_scopes.specs.Scopes.{Text, Table, Counts, no_counts, Contract, Entity, a_constant, a_global, a_function, a_synonym, a_procedure, entity_of, names_of, texts_of, signature_names, Var}
+use Rattle.bpl_scopes.specs.Scopes.{Text, Table, Counts, no_counts, Contract, contract_with, Entity, a_constant, a_global, a_function, a_synonym, a_procedure, entity_of, names_of, texts_of, signature_names, Var}
 use Rattle.bpl_scopes.specs.TypeFaults.{group_type_faults, group_where_faults}
 use Rattle.bpl_statement_faults.specs.StmtFaults.{labels_of, many_labels_faults, modified_by}
 use Rattle.bpl_declaration_faults.specs.Variables.{vars_from, in_vars, out_vars, local_vars, parameters, body_vars, locals_of, names_in_body}
 use Rattle.bpl_declaration_faults.specs.DeclFaults.{fault_of, signature_faults, parameter_clause_faults, spec_faults, local_faults, body_faults, has_body, agree, same_groups, same_parameters, implemented_faults, implemented_modifies, decl_faults, Before, before_with, nothing_before}
 use Rattle.bpl_terms.specs.Terms.{sort_or_int}
 use Rattle.bpl_resolve.specs.Elaborate.{Implemented, or_else, implements, implementation_of, own_body, locals_with, proc_locals, proc_of, procs_in}
-use Rattle.bpl_resolve.proofs.Below.{same_is}
 use Rattle.bpl_resolve.proofs.HasSort.{first_empty, second_empty, unless_empty}
 use Rattle.bpl_resolve.proofs.Faultless.{TypesKnown, groups_known, EachKnown}
 use Rattle.bpl_resolve.proofs.Ways.{same_text}
 use Rattle.bpl_resolve.proofs.EntriesFine.{SignatureFine, signature_fine, NoFaults, none_faulty, entity_fine}
 use Rattle.bpl_resolve.proofs.ScopesKnown.{VarsKnown, fine_type, types_vars, vars_from_known, vars_joined}
 use Rattle.bpl_resolve.proofs.ModuleSorts.{T, C, M, fine}
-use Rattle.bpl_resolve.proofs.ProcedureVariables.{all_join, kinds_same, each_known}
+use Rattle.bpl_resolve.proofs.ProcedureVariables.{kinds_same, each_known}
 use Rattle.bpl_resolve.proofs.BodyTyped.{body_typed}
 use Rattle.bpl_resolve.proofs.LocalClauses.{local_clauses_typed}
 use Rattle.bpl_resolve.proofs.DeclaredOnce.{StandsForIt, each_stands}
@@ -46,7 +47,7 @@ agreed [] (k ∷ ks) h g e = cc
 agreed (j ∷ js) [] h g e = cc
 agreed (None ∷ js) (k ∷ ks) h g e = let b = h.0.1 in cc
 agreed (Some j ∷ js) (None ∷ ks) h g e = let b = g.0.1 in cc
-agreed (Some j ∷ js) (Some k ∷ ks) h g e = let q = same_is j k (both_true _ _ e).0 in let r = agreed js ks h.1 g.1 (both_true (same_kind j k) _ e).1 in λ i. q i ∷ r i
+agreed (Some j ∷ js) (Some k ∷ ks) h g e = let q = same_sort j k (both_true _ _ e).0 in let r = agreed js ks h.1 g.1 (both_true (same_kind j k) _ e).1 in λ i. q i ∷ r i
 
 none_are_own : (vs : List Var) (cs : List (Option Tree)) → AllByRecursion (λ (l : Local). IsTrue (not l.own)) (locals_with vs cs)
 none_are_own [] cs = tt
@@ -124,7 +125,7 @@ module _ (ds : List Decl) (none : fault_of ds ≡ None) where
   same_contract j k c d e = cc
 
   -- the implementation of a procedure with this contract
-  by_declaration : (bf : Before) (n : Text) (g : Signature) (ss : List SpecTree) (k : ℕ) → entity_of TT n ≡ Some (a_procedure k (record { signature = g; specs = ss })) → (x : DeclBody) → decl_faults TT CC bf x ≡ [] → OptionOk g (implements n x)
+  by_declaration : (bf : Before) (n : Text) (g : Signature) (ss : List SpecTree) (k : ℕ) → entity_of TT n ≡ Some (a_procedure k (contract_with g ss)) → (x : DeclBody) → decl_faults TT CC bf x ≡ [] → OptionOk g (implements n x)
   by_declaration bf n g ss k q (implementation m ps h b) e = by (bytes_eq m.text n) refl
     where
       by : (r : Bool) → bytes_eq m.text n ≡ r → OptionOk g (elim r [ true ↦ Some (h, b) | false ↦ None ])
@@ -137,7 +138,7 @@ module _ (ds : List Decl) (none : fault_of ds ≡ None) where
           let r5 = second_empty (group_where_faults h.outs) _ r4 in
           let u = implemented (entity_of TT m.text) m.text h m.at refl (first_empty _ _ r1) in
           let v = ap (entity_of TT) (same_text m.text n z) in
-          let w : u.1 ≡ record { signature = g; specs = ss } = same_contract u.0 k u.1 _ (sym u.2 ∙ (v ∙ q)) in
+          let w : u.1 ≡ contract_with g ss = same_contract u.0 k u.1 _ (sym u.2 ∙ (v ∙ q)) in
           let f = signature_fine TT CC ps h (first_empty _ _ r2) in
           let y = entity_fine TT CC (fine ds none) m.text (a_procedure u.0 u.1) u.2 in
           record {
@@ -157,7 +158,7 @@ module _ (ds : List Decl) (none : fault_of ds ≡ None) where
   or_ok g None b h k = k
   or_ok g (Some i) b h k = h
 
-  implementation_ok : (bf : Before) (n : Text) (g : Signature) (ss : List SpecTree) (k : ℕ) → entity_of TT n ≡ Some (a_procedure k (record { signature = g; specs = ss })) → (xs : List Decl) → NoFaults TT CC bf xs → OptionOk g (implementation_of xs n)
+  implementation_ok : (bf : Before) (n : Text) (g : Signature) (ss : List SpecTree) (k : ℕ) → entity_of TT n ≡ Some (a_procedure k (contract_with g ss)) → (xs : List Decl) → NoFaults TT CC bf xs → OptionOk g (implementation_of xs n)
   implementation_ok bf n g ss k q [] h = tt
   implementation_ok bf n g ss k q (x ∷ xs) h = or_ok g (implements n x.body) (implementation_of xs n) (by_declaration bf n g ss k q x.body h.0) (implementation_ok (before_with bf x.body) n g ss k q xs h.1)
 
@@ -173,7 +174,7 @@ module _ (ds : List Decl) (none : fault_of ds ≡ None) where
   locals_own (Some i) = none_are_own (local_vars TT CC i.0 i.1.locals) _
 
   proc_own : (n : Text) (g : Signature) (ss : List SpecTree) (i : Option Implemented) → NoneOwn (proc_of TT CC n g ss i)
-  proc_own n g ss i = all_join _ (proc_of TT CC n g ss i).ins _ (none_are_own (in_vars TT CC g) _) (all_join _ (proc_of TT CC n g ss i).outs _ (none_are_own (out_vars TT CC g) _) (locals_own i))
+  proc_own n g ss i = every_append _ (proc_of TT CC n g ss i).ins _ (none_are_own (in_vars TT CC g) _) (every_append _ (proc_of TT CC n g ss i).outs _ (none_are_own (out_vars TT CC g) _) (locals_own i))
 
   abbrev pub ProcOk : Proc → Type 0
   ProcOk p = (IsBody (M ds none) p p.body × HaveClauses (M ds none) p (sorts_of (M ds none) p) p.locals) × NoneOwn p
@@ -189,7 +190,7 @@ module _ (ds : List Decl) (none : fault_of ds ≡ None) where
       record {
         is_fine = signature_fine TT CC ps g (first_empty _ _ r2);
         same = record { ins_same = refl; outs_same = refl };
-        modified = Some (modified_by TT (record { signature = g; specs = ss }));
+        modified = Some (modified_by TT (contract_with g ss));
         no_fault = second_empty (flat_map (spec_faults TT CC g) ss) _ r5;
       }
 
@@ -206,7 +207,7 @@ module _ (ds : List Decl) (none : fault_of ds ≡ None) where
 
   procs_ok : (bf : Before) (xs : List Decl) → NoFaults TT CC bf xs → AllByRecursion (λ (x : Decl). StandsForIt TT x.body) xs → AllByRecursion ProcOk (flat_map (λ (x : Decl). procs_in ds TT CC x.body) xs)
   procs_ok bf [] h g = tt
-  procs_ok bf (x ∷ xs) h g = all_join ProcOk (procs_in ds TT CC x.body) _ (decl_procs bf x.body h.0 g.0) (procs_ok (before_with bf x.body) xs h.1 g.1)
+  procs_ok bf (x ∷ xs) h g = every_append ProcOk (procs_in ds TT CC x.body) _ (decl_procs bf x.body h.0 g.0) (procs_ok (before_with bf x.body) xs h.1 g.1)
 
   pub bodies_typed : AllByRecursion ProcOk (M ds none).procs
   bodies_typed = procs_ok nothing_before ds (none_faulty ds none) (each_stands TT CC [] nothing_before no_counts 0 ds (λ m h. tt) (none_faulty ds none))

@@ -2,6 +2,7 @@
 use Rattle.std.proofs.Common.{◌≡◌, refl, ap, sym, ◌∙◌, inl, inr, ◌⊎◌, subst, ℕ, suc, ◌+◌, ◌≤◌, arith, Bool, true, false, List, [], ◌∷◌, ◌++◌, append_assoc, append-nil, map, length, length-append, Some}
 use Rattle.std.specs.Prelude.{bytes_eq, find, cond, flat_map, slice_get}
 use Rattle.std.specs.List.{AllByRecursion}
+use Rattle.logic_core.proofs.EachOf.{every_append}
 use Rattle.bpl_ast.specs.Place.{Name, Ty}
 use Rattle.bpl_ast.specs.Tree.{Groups}
 use Rattle.bpl_ast.specs.Statement.{Signature}
@@ -20,14 +21,6 @@ use Rattle.bpl_resolve.proofs.ModuleSorts.{length_vars}
 pub map_length : {A B : Type 0} (f : A → B) (xs : List A) → length (map f xs) ≡ length xs
 map_length f [] = refl
 map_length f (x ∷ xs) = ap suc (map_length f xs)
-
-pub all_and : {A : Type 0} (P Q : A → Type 0) (xs : List A) → AllByRecursion P xs → AllByRecursion Q xs → AllByRecursion (λ x. P x × Q x) xs
-all_and P Q [] h g = tt
-all_and P Q (x ∷ xs) h g = ((h.0, g.0), all_and P Q xs h.1 g.1)
-
-pub all_join : {A : Type 0} (P : A → Type 0) (xs ys : List A) → AllByRecursion P xs → AllByRecursion P ys → AllByRecursion P (xs ++ ys)
-all_join P [] ys h g = g
-all_join P (x ∷ xs) ys h g = (h.0, all_join P xs ys h.1 g)
 
 -- the variable of a name
 pub var_found : (P : Var → Type 0) (vs : List Var) (n : Text) (v : Var) → AllByRecursion P vs → var_of vs n ≡ Some v → P v × (v.name ≡ n)
@@ -75,7 +68,7 @@ module _ {A : Type 0} (F : Var → A) (t : Table) where
       let b = subst (λ w. At w (out_vars t c g)) (append_assoc pre I (O ++ L)) (column (pre ++ I) L h out_parameter (k + length (names_of g.ins)) (names_of g.outs) l1) in
       let d = subst (λ w. At w (local_vars t c g vs)) (append_assoc (pre ++ I) O (L ++ []) ∙ (append_assoc pre I (O ++ (L ++ [])) ∙ ap (λ w. pre ++ (I ++ (O ++ w))) (append-nil L)))
       (column ((pre ++ I) ++ O) [] (texts_of (names_in_body g vs)) local_variable (k + (length (names_of g.ins) + length (names_of g.outs))) (locals_of vs) l3) in
-      all_join _ (parameters t c g) (local_vars t c g vs) (all_join _ (in_vars t c g) (out_vars t c g) a b) d
+      every_append _ (parameters t c g) (local_vars t c g vs) (every_append _ (in_vars t c g) (out_vars t c g) a b) d
 
 -- an in-parameter, or a number from there on
 abbrev pub Later : ℕ → Var → Type 0
@@ -91,7 +84,7 @@ all_later t hidden r o k (p ∷ ps) h = (inr h, all_later t hidden r o (k + 1) p
 
 pub body_later : (t : Table) (c : Counts) (g : Signature) (vs : List Groups) → AllByRecursion (Later (first_parameter c + length (names_of g.ins))) (body_vars t c g vs)
 body_later t c g vs = let o = first_parameter c + length (names_of g.ins) in
-    all_join _ (parameters t c g) (local_vars t c g vs) (all_join _ (in_vars t c g) (out_vars t c g) (all_ins t _ o _ (names_of g.ins)) (all_later t _ out_parameter o _ (names_of g.outs) (omega arith)))
+    every_append _ (parameters t c g) (local_vars t c g vs) (every_append _ (in_vars t c g) (out_vars t c g) (all_ins t _ o _ (names_of g.ins)) (all_later t _ out_parameter o _ (names_of g.outs) (omega arith)))
     (all_later t _ local_variable o _ (locals_of vs) (omega arith))
 
 pub kinds_same : (t : Table) (hidden : List Text) (r : Role) (k : ℕ) (ps : List (Name × Ty)) → map (λ (v : Var). sort_or_int v.sort) (vars_from t hidden r k ps) ≡ map sort_or_int (sorts_of_names t hidden ps)

@@ -3,6 +3,7 @@ use Rattle.std.proofs.Common.{◌≡◌, refl, ap, sym, ◌∙◌, inl, inr, ◌
 use Rattle.std.specs.Prelude.{⊤}
 use Rattle.std.specs.List.{AllByRecursion}
 use Rattle.std.proofs.lemmas.Option.{slice_get_within}
+use Rattle.logic_core.proofs.EachOf.{every_append}
 use Rattle.flow_core.specs.Reading.{Mentions}
 use Rattle.bpl_ast.specs.Place.{Name, Ty}
 use Rattle.bpl_ast.specs.Tree.{Expr}
@@ -20,7 +21,7 @@ use Rattle.bpl_resolve.specs.Elaborate.{Implemented, proc_of}
 use Rattle.bpl_resolve.proofs.HasSort.{first_empty}
 use Rattle.bpl_resolve.proofs.ScopesKnown.{name_has, any_bounds}
 use Rattle.bpl_resolve.proofs.ModuleSorts.{T, C, M, numbered_entity, constants_count, globals_count, length_vars}
-use Rattle.bpl_resolve.proofs.ProcedureVariables.{map_length, all_join}
+use Rattle.bpl_resolve.proofs.ProcedureVariables.{map_length}
 use Rattle.bpl_resolve.proofs.BodyTyped.{ins_sorts}
 use Rattle.bpl_resolve.proofs.Unmentioned.{Lacks, NoName, lacks}
 use Rattle.bpl_resolve.proofs.OutClauses.{different}
@@ -62,7 +63,7 @@ module _ (ds : List Decl) (none : fault_of ds ≡ None) where
 
     no_later : (g : Signature) → (v < first_parameter CC) ⊎ (first_parameter CC + length (names_of g.ins) ≤ v) → NoName v (scope_of TT CC in_requires (parameters TT CC g))
     no_later g c bs n = name_has (λ m. Lacks v (meaning_term false CC m)) refl (λ o. ⊤) (λ j o i. refl) (record { table = TT; counts = CC; part = in_requires; vars = parameters TT CC g; bounds = bs }) n (entity_lacks n)
-        (all_join VarLacks (in_vars TT CC g) (out_vars TT CC g) (ins_lack _ (first_parameter CC) (first_parameter CC + length (names_of g.ins)) _ (names_of g.ins) (omega arith) (omega arith) c) (outs_lack _ _ (names_of g.outs))) (any_bounds bs)
+        (every_append VarLacks (in_vars TT CC g) (out_vars TT CC g) (ins_lack _ (first_parameter CC) (first_parameter CC + length (names_of g.ins)) _ (names_of g.ins) (omega arith) (omega arith) c) (outs_lack _ _ (names_of g.outs))) (any_bounds bs)
 
   pub requires_lacks : (n : Text) (g : Signature) (ss : List SpecTree) (i : Option Implemented) (x : Expr) → formula_faults (scope_of TT CC in_requires (parameters TT CC g)) x ≡ []
       → (v : ℕ) → IsOnlyLater (M ds none) (proc_of TT CC n g ss i) v → ¬ Mentions (term_of (scope_of TT CC in_requires (parameters TT CC g)) x) v

@@ -10,13 +10,13 @@ use Rattle.bpl_scopes.specs.declared.fault.TypeKind.TheVariants.{Twice as twice}
 use Rattle.bpl_scopes.specs.declared.fault.Fault.{Fault}
 use Rattle.bpl_scopes.specs.Fault.{again, if_so, is_among, earlier, first_fault}
 use Rattle.bpl_scopes.specs.declared.part.Part.TheVariants.{ClauseOfGlobal as in_clause_of_global}
-use Rattle.bpl_scopes.specs.Scopes.{Text, Table, Counts, names_of, only_names, texts_of, declared_names, entity_of}
+use Rattle.bpl_scopes.specs.Scopes.{Text, contract_with, Table, Counts, names_of, only_names, texts_of, declared_names, entity_of}
 use Rattle.bpl_scopes.specs.Functions.{argument_names}
 use Rattle.bpl_scopes.specs.TypeFaults.{params_faults, type_faults, group_type_faults, group_where_faults}
 use Rattle.bpl_faults.specs.ExprFaults.{group_clause_faults}
+use Rattle.bpl_faults.proofs.ListedNames.{among_reversed}
 use Rattle.bpl_statement_faults.specs.StmtFaults.{modified_by}
 use Rattle.bpl_declaration_faults.specs.Variables.{scope_of, names_in_body}
-use Rattle.bpl_declaration_faults.proofs.DeclSteps.{among_turned}
 use Rattle.bpl_declaration_faults.specs.DeclFaults.{unique_faults, cycle_faults, argument_type_faults, function_value_faults, synonym_faults, signature_faults, parameter_clause_faults, optional_locals, spec_faults, optional_body_faults, implemented_faults, implemented_modifies, body_faults, Before, before_with, has_body, body_names, decl_faults, faults_after, first_from, in_decl}
 
 -- the same names
@@ -34,7 +34,7 @@ decl_same t c b d (axiom_of x) h g = refl
 decl_same t c b d (variables gs) h g = ap (λ fs. fs ++ (group_type_faults t [] gs ++ group_clause_faults (scope_of t c in_clause_of_global []) gs)) (again_same twice b.names d.names (only_names (names_of gs)) h)
 decl_same t c b d (synonym n s) h g = ap (λ fs. fs ++ (cycle_faults t n ++ synonym_faults t s)) (again_same twice b.names d.names (n ∷ []) h)
 decl_same t c b d (procedure n ps s ss y) h g = λ i. again_same twice b.names d.names (n ∷ []) h i ++ (if_so (has_body y && g n.text i) twice n.at
-    ++ (signature_faults t ps s ++ (parameter_clause_faults t c s ++ (again twice [] (names_in_body s (optional_locals y)) ++ (flat_map (spec_faults t c s) ss ++ optional_body_faults t c s (Some (modified_by t (record { signature = s; specs = ss }))) y)))))
+    ++ (signature_faults t ps s ++ (parameter_clause_faults t c s ++ (again twice [] (names_in_body s (optional_locals y)) ++ (flat_map (spec_faults t c s) ss ++ optional_body_faults t c s (Some (modified_by t (contract_with s ss))) y)))))
 decl_same t c b d (implementation n ps s y) h g = λ i. if_so (g n.text i) twice n.at ++ (implemented_faults t (entity_of t n.text) s n.at
     ++ (signature_faults t ps s ++ (group_where_faults s.ins ++ (group_where_faults s.outs ++ (again twice [] (names_in_body s y.locals) ++ body_faults t c s (implemented_modifies t (entity_of t n.text)) y)))))
 
@@ -55,8 +55,8 @@ either_way false false = refl
 
 -- names that are put behind others, the last first
 put_behind : (ms ns : List Text) → Same (ns ++ reverse ms) (reverse (ms ++ ns))
-put_behind ms ns n = list_any-append (bytes_eq n) ns (reverse ms) ∙ (λ i. is_among ns n || among_turned ms n i) ∙ either_way (is_among ns n) (is_among ms n)
-    ∙ sym (list_any-append (bytes_eq n) ms ns) ∙ sym (among_turned (ms ++ ns) n)
+put_behind ms ns n = list_any-append (bytes_eq n) ns (reverse ms) ∙ (λ i. is_among ns n || among_reversed ms n i) ∙ either_way (is_among ns n) (is_among ms n)
+    ∙ sym (list_any-append (bytes_eq n) ms ns) ∙ sym (among_reversed (ms ++ ns) n)
 
 -- the declarations behind one without a fault
 pub none_here : (t : Table) (c : Counts) (k : ℕ) (names bodies more others : List Text) (x : Decl) (xs : List Decl) → more ≡ names ++ texts_of (declared_names x.body) → others ≡ bodies ++ body_names x.body

@@ -68,7 +68,7 @@ member_left n [] ns h = absurd h
 member_left n (m ∷ ms) ns (inl e) = inl e
 member_left n (m ∷ ms) ns (inr h) = inr (member_left n ms ns h)
 
-member_right : (n : Text) (ms ns : List Text) → Member n ns → Member n (ms ++ ns)
+pub member_right : (n : Text) (ms ns : List Text) → Member n ns → Member n (ms ++ ns)
 member_right n [] ns h = h
 member_right n (m ∷ ms) ns h = inr (member_right n ms ns h)
 

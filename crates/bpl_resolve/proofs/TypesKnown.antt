@@ -27,7 +27,7 @@ one_more : (t : Table) (k : ℕ) (n : Text) → Below (synonym_sort t k n) (syno
 one_more t zero n = inl refl
 one_more t (suc k) n = bind_below (synonym_in (entity_of t n)) _ _ (sort_below (synonym_sort t k) (synonym_sort t (suc k)) (one_more t k))
 
-up_to : (t : Table) (j k : ℕ) (n : Text) → Below (synonym_sort t k n) (synonym_sort t (j + k) n)
+pub up_to : (t : Table) (j k : ℕ) (n : Text) → Below (synonym_sort t k n) (synonym_sort t (j + k) n)
 up_to t zero k n = let e : 0 + k ≡ k = omega arith in subst (λ w. Below (synonym_sort t k n) (synonym_sort t w n)) (sym e) (inr refl)
 up_to t (suc j) k n = let e : suc j + k ≡ suc (j + k) = omega arith in
     subst (λ w. Below (synonym_sort t k n) (synonym_sort t w n)) (sym e) (below_then _ _ _ (up_to t j k n) (one_more t (j + k) n))

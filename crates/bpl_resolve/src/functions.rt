@@ -11,11 +11,12 @@ ghost use Rattle.bpl_terms.specs.Terms.{sort_or_int, term_of};
 ghost use Rattle.bpl_resolve.specs.Elaborate.{value_term, function_def, typed_module};
 ghost use Rattle.bpl_resolve.specs.Places.{function_at, named_function, places};
 
-use crate::arguments::{argument_sorts, bound_arguments};
+use crate::arguments::argument_sorts;
 use crate::names::name_of;
 use crate::places::{function_name, places};
 use bpl_ast::{Argument, Decl, Expr, Name, Type};
 use bpl_declaration_faults::Declared;
+use bpl_declaration_faults::functions::bound_arguments;
 use bpl_faults::{Scope, Vars};
 use bpl_model::Function;
 use bpl_scopes::{Entity, Part, Positions};

@@ -44,7 +44,7 @@ fn push_named<'a>(
 }
 
 // Puts the global variables of groups behind others.
-fn push_groups<'a>(
+fn push_group_globals<'a>(
     alloc: alloc::Global,
     scope: &Scope<'_, 'a>,
     order: &Positions,
@@ -86,7 +86,7 @@ fn push_globals<'d, 'a>(
         DeclBody::Var(groups) => {
             let vars = Vars::new(alloc);
             let scope = declared.scope(alloc, Part::ClauseOfGlobal, &vars);
-            push_groups(alloc, &scope, order, groups, globals)
+            push_group_globals(alloc, &scope, order, groups, globals)
         }
         DeclBody::Const { .. } => Ok(()),
         DeclBody::Function { .. } => Ok(()),

@@ -57,7 +57,7 @@ abbrev ups : ℕ → ℕ → ℕ
 ups zero k = k
 ups (suc d) k = suc (ups d k)
 
-ups_is : (d k : ℕ) → ups d k ≡ d + k
+pub ups_is : (d k : ℕ) → ups d k ≡ d + k
 ups_is zero k = omega arith
 ups_is (suc d) k = omega (arith, ups_is d k)
 

@@ -5,16 +5,16 @@ use Rattle.std.proofs.Common.{ap, arith}
 use base.Stored.{Gv, gnum, gcons}
 use Rattle.bpl_ast.specs.Place.{Ty}
 use Rattle.bpl_ast.specs.Tree.{Expr}
-use Rattle.bpl_ast.specs.Statement.{Spec, Signature, Argument}
+use Rattle.bpl_ast.specs.Statement.{Signature, Argument}
 use Rattle.bpl_ast.specs.Codes.{tag, coded_ty, coded_expr}
-use Rattle.bpl_ast.specs.DeclCodes.{coded_spec, coded_signature, coded_argument}
+use Rattle.bpl_ast.specs.DeclCodes.{coded_signature, coded_argument}
 use Rattle.bpl_scopes.specs.Scopes.{Heading, Contract, Entity, a_constant, a_global, a_function, a_synonym, a_procedure, Entry}
 
 abbrev pub coded_heading : Coded Heading
 coded_heading = code_by (List Argument × (Ty × Option Expr)) (coded× (coded_list coded_argument) (coded× coded_ty (coded_option coded_expr))) (λ h. (h.ins, (h.result, h.value))) (λ p. record { ins = p.0; result = p.1.0; value = p.1.1 }) (λ _. refl)
 
 abbrev pub coded_contract : Coded Contract
-coded_contract = code_by (Signature × List Spec) (coded× coded_signature (coded_list coded_spec)) (λ c. (c.signature, c.specs)) (λ p. record { signature = p.0; specs = p.1 }) (λ _. refl)
+coded_contract = code_by (Signature × List (List ℕ)) (coded× coded_signature (coded_list (coded_list coded_ℕ))) (λ c. (c.signature, c.modified)) (λ p. record { signature = p.0; modified = p.1 }) (λ _. refl)
 
 abbrev pub entity_code : Entity → Gv
 entity_code (a_constant a b) = gcons (gnum 0) (gcons (coded_ℕ.code a) (coded_ty.code b))

@@ -1,9 +1,9 @@
 -- What is declared under which name, and what a name stands for in an expression.
-use Rattle.std.specs.Prelude.{ℕ, suc, ◌+◌, Bool, true, false, cond, List, [], ◌∷◌, ◌++◌, map, length, find, bytes_eq, Option, Some, None, option_map}
+use Rattle.std.specs.Prelude.{ℕ, suc, ◌+◌, Bool, true, false, cond, List, [], ◌∷◌, ◌++◌, map, flat_map, length, find, bytes_eq, Option, Some, None, option_map}
 use Rattle.logic_terms.specs.Tree.{Kind}
 use Rattle.bpl_ast.specs.Place.{Name, Ty}
 use Rattle.bpl_ast.specs.Tree.{Expr, Groups, no_groups, group}
-use Rattle.bpl_ast.specs.Statement.{Spec, Signature, Argument, DeclBody, constant, function, axiom_of, variables, synonym, procedure, implementation, Decl}
+use Rattle.bpl_ast.specs.Statement.{Spec, requires, ensures, modifies, Signature, Argument, DeclBody, constant, function, axiom_of, variables, synonym, procedure, implementation, Decl}
 use Rattle.bpl_scopes.specs.declared.part.Part.{Part}
 use Rattle.bpl_scopes.specs.declared.part.Part.TheVariants.{Axiom as in_axiom, Function as in_function, Requires as in_requires, Ensures as in_ensures, Body as in_body, ClauseOfGlobal as in_clause_of_global, ClauseOfIn as in_clause_of_in, ClauseOfOut as in_clause_of_out, ClauseOfLocal as in_clause_of_local}
 use Rattle.bpl_scopes.specs.declared.part.Role.{Role}
@@ -18,10 +18,10 @@ pub record Heading : Type 0 where
   pub result : Ty
   pub value : Option Expr
 
--- what a procedure is declared with
+-- what a procedure's declaration tells other declarations: its parameters and results, and the names in `modifies`
 pub record Contract : Type 0 where
   pub signature : Signature
-  pub specs : List Spec
+  pub modified : List Text
 
 -- constants, global variables and procedures are numbered each for themselves, in the order of the text
 pub data Entity : Type 0 where
@@ -54,6 +54,16 @@ only_names ps = map (λ p. p.0) ps
 
 abbrev pub texts_of : List Name → List Text
 texts_of ns = map (λ (n : Name). n.text) ns
+
+-- the names in a `modifies`
+abbrev pub spec_names : Spec → List Name
+spec_names (requires p f x) = []
+spec_names (ensures p f x) = []
+spec_names (modifies p ns) = ns
+
+-- a procedure with these clauses
+abbrev pub contract_with : Signature → List Spec → Contract
+contract_with g ss = record { signature = g; modified = texts_of (flat_map spec_names ss) }
 
 -- the names of parameters
 abbrev pub signature_names : Signature → List Name
@@ -96,7 +106,7 @@ entries_of c d (function n ps ins t x) = record { name = n.text; decl = d; entit
 entries_of c d (axiom_of x) = []
 entries_of c d (variables gs) = entries_from a_global d c.globals (names_of gs)
 entries_of c d (synonym n t) = record { name = n.text; decl = d; entity = a_synonym t } ∷ []
-entries_of c d (procedure n ps s ss b) = record { name = n.text; decl = d; entity = a_procedure c.procedures (record { signature = s; specs = ss }) } ∷ []
+entries_of c d (procedure n ps s ss b) = record { name = n.text; decl = d; entity = a_procedure c.procedures (contract_with s ss) } ∷ []
 entries_of c d (implementation n ps s b) = []
 
 abbrev pub entries_after : Counts → ℕ → List Decl → Table

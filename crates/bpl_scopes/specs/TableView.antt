@@ -1,6 +1,6 @@
 -- What the entries of the code's table stand for.
 use Rattle.std.specs.Prelude.{◌≡◌, ℕ, List, map, Option, Some, None, option_map, slice_get}
-use Rattle.bpl_scopes.specs.Scopes.{Text, Entity as declared, a_constant, a_global, a_function, a_synonym, a_procedure, Entry as noted}
+use Rattle.bpl_scopes.specs.Scopes.{Text, Entity as declared, a_constant, a_global, a_function, a_synonym, a_procedure, contract_with, Entry as noted}
 use Rattle.bpl_scopes.specs.declared.table.Entity.{Entity}
 use Rattle.bpl_scopes.specs.declared.table.Entity.TheVariants.{Constant, Global, Function, Synonym, Procedure}
 use Rattle.bpl_scopes.specs.declared.table.Entry.{Entry}
@@ -10,7 +10,7 @@ entity_seen (Constant k t) = a_constant k t.now
 entity_seen (Global k t) = a_global k t.now
 entity_seen (Function ins t x) = a_function (record { ins = ins.now; result = t.now; value = x.now })
 entity_seen (Synonym t) = a_synonym t.now
-entity_seen (Procedure k s ss) = a_procedure k (record { signature = s.now; specs = ss.now })
+entity_seen (Procedure k s ss) = a_procedure k (contract_with s.now ss.now)
 
 abbrev pub entry_seen : Entry → noted
 entry_seen e = record { name = e.name.now; decl = e.decl; entity = entity_seen e.entity }

@@ -2,7 +2,7 @@ mod Exchanges
 mod TypedSorts
 pub mod ExchangedValues
 pub mod Listed
-pub mod Readings
+pub mod SortReadings
 pub mod TypedTerms
 pub mod ReadTypes
 pub mod NumberedTypes

@@ -16,8 +16,9 @@ use Rattle.bpl_declaration_faults.specs.DeclFaults.{fault_of}
 use Rattle.bpl_resolve.proofs.EntriesFine.{synonyms_fine}
 use Rattle.bpl_resolve.proofs.ModuleSorts.{fine, acyclic}
 use Rattle.bpl_resolve.proofs.ProcedureVariables.{map_length}
-use Rattle.bpl_resolve.proofs.Ways.{Member, same_text, text_itself}
+use Rattle.bpl_resolve.proofs.Ways.{Member, same_text}
 use Rattle.bpl_resolve.proofs.DistinctOrder.{Distinct, order_distinct}
+use Rattle.bpl_resolve.proofs.PlacedFunctions.{first_there, some_same}
 use Rattle.bpl_sorts.specs.Types.{integers, Head}
 use Rattle.bpl_sorts.specs.TypeShapes.{put_at, heads_put}
 use Rattle.bpl_sorts.specs.DeclaredTypes.{head_of}
@@ -36,22 +37,10 @@ set_elsewhere (x ∷ hs) zero (suc k) h l = refl
 set_elsewhere (x ∷ hs) (suc j) zero h l = refl
 set_elsewhere (x ∷ hs) (suc j) (suc k) h l = set_elsewhere hs j k h (λ e. l (ap suc e))
 
-first_there : (m : Text) (os : List Text) (k : ℕ) → first_at m os ≡ Some k → slice_get os k ≡ Some m
-first_there m [] k e = cc
-first_there m (o ∷ os) k e = by (bytes_eq m o) refl (first_at m os) (λ j q. first_there m os j q) e
-  where
-    by : (r : Bool) → bytes_eq m o ≡ r → (f : Option ℕ) → ((j : ℕ) → f ≡ Some j → slice_get os j ≡ Some m) → cond r (Some 0) (option_map suc f) ≡ Some k → slice_get (o ∷ os) k ≡ Some m
-    by true q f z y = let u : 0 ≡ k = cc in subst (λ w. slice_get (o ∷ os) w ≡ Some m) u (ap Some (sym (same_text m o q)))
-    by false q None z y = cc
-    by false q (Some j) z y = let u : suc j ≡ k = cc in subst (λ w. slice_get (o ∷ os) w ≡ Some m) u (z j refl)
-
 all_same : (n k : ℕ) (h : Head) → k < n → slice_get (replicate n h) k ≡ Some h
 all_same zero k h l = absurd (omega (arith, l))
 all_same (suc n) zero h l = refl
 all_same (suc n) (suc k) h l = all_same n k h (omega (arith, l))
-
-some_same : {A : Type 0} (a b : A) → Some a ≡ Some b → a ≡ b
-some_same a b e = cc
 
 mapped_same : (f : Text → Head) (hs : List Head) (os : List Text) → length hs ≡ length os → ((k : ℕ) (n : Text) → slice_get os k ≡ Some n → slice_get hs k ≡ Some (f n)) → hs ≡ map f os
 mapped_same f [] [] e h = refl

@@ -4,6 +4,7 @@ use Rattle.std.specs.Prelude.{flat_map}
 use Rattle.std.specs.List.{AllByRecursion, AllZip}
 use Rattle.bv_base.specs.declared.place.Place.{Place}
 use Rattle.logic_core.specs.Tree.{Kind, Tree}
+use Rattle.logic_core.proofs.EachOf.{every_append}
 use Rattle.bpl_ast.specs.Place.{Name, Ty as Written}
 use Rattle.bpl_ast.specs.Statement.{Signature, DeclBody, constant, function, axiom_of, variables, synonym, procedure, implementation, Decl, axioms_with}
 use Rattle.bpl_model.specs.Module.{Const, Global, Proc}
@@ -11,7 +12,7 @@ use Rattle.bpl_scopes.specs.declared.fault.Fault.{Fault}
 use Rattle.bpl_scopes.specs.declared.fault.TypeKind.TheVariants.{Twice as twice}
 use Rattle.bpl_scopes.specs.declared.part.Part.TheVariants.{Axiom as in_axiom, ClauseOfGlobal as in_clause_of_global}
 use Rattle.bpl_scopes.specs.Fault.{again}
-use Rattle.bpl_scopes.specs.Scopes.{Text, Contract, a_procedure, table_of, no_counts, names_of, only_names, entity_of}
+use Rattle.bpl_scopes.specs.Scopes.{Text, Contract, contract_with, a_procedure, table_of, no_counts, names_of, only_names, entity_of}
 use Rattle.bpl_scopes.specs.Sorts.{sort_of_type}
 use Rattle.bpl_scopes.specs.TypeFaults.{type_faults, group_type_faults}
 use Rattle.bpl_declaration_faults.specs.Variables.{scope_of}
@@ -27,7 +28,6 @@ use Rattle.bpl_resolve.proofs.Numbered.{length_clauses}
 use Rattle.bpl_resolve.proofs.TypedModules.{module_typed}
 use Rattle.bpl_resolve.proofs.EntriesFine.{NoFaults, none_faulty}
 use Rattle.bpl_resolve.proofs.DeclaredOnce.{StandsForIt, each_stands}
-use Rattle.bpl_resolve.proofs.ProcedureVariables.{all_join}
 use Rattle.bpl_sorts.specs.Types.{Ty, kind_of, kinds_of}
 use Rattle.bpl_sorts.specs.TypeNames.{type_of}
 use Rattle.bpl_sorts.specs.UserTypes.{user_of}
@@ -44,7 +44,7 @@ use Rattle.bpl_sorts.proofs.TypedClauses.{globals_clauses, groups_typed}
 use Rattle.bpl_sorts.proofs.TypedProcs.{OptionOk, implements_ok, own_ok, or_ok, declared_proc}
 use Rattle.bpl_sorts.proofs.TypedFunctions.{as_many, functions_typed}
 
-no_fault : (o : Option (ℕ × Fault)) → option_map {U = ℕ × Place} (λ (p : ℕ × Fault). (p.0, p.1.at)) o ≡ None → o ≡ None
+pub no_fault : (o : Option (ℕ × Fault)) → option_map {U = ℕ × Place} (λ (p : ℕ × Fault). (p.0, p.1.at)) o ≡ None → o ≡ None
 no_fault None e = refl
 no_fault (Some p) e = absurd (cc)
 
@@ -131,7 +131,7 @@ module _ (ds : List Decl) (none : fault_of (E ds) ≡ None) (nope : fault_of (A 
   one_proc b c k (procedure n qs g ss y) ts ps e o q h =
       let i = or_else (own_body g y) (implementation_of (E ds) n.text) in (
         declared_proc ds none nope b c n qs g ss y i e o
-            (or_ok ds none nope g (own_body g y) (implementation_of (E ds) n.text) (own_ok ds none nope b c n qs g ss y e o) (each_implements n.text q.0 (record { signature = g; specs = ss }) q.1 nothing_before nothing_before 0 ds all_fine)),
+            (or_ok ds none nope g (own_body g y) (implementation_of (E ds) n.text) (own_ok ds none nope b c n qs g ss y e o) (each_implements n.text q.0 (contract_with g ss) q.1 nothing_before nothing_before 0 ds all_fine)),
         h,
       )
   one_proc b c k (constant u ns s) ts ps e o q h = h
@@ -246,7 +246,7 @@ module _ (ds : List Decl) (none : fault_of (E ds) ≡ None) (nope : fault_of (A 
   one_global b c k (variables vs) gs e o h =
       let s = scope_of (TE ds) (CE ds) in_clause_of_global [] in
       let u = scope_of (TA ds) (CA ds) in_clause_of_global [] in
-      all_join HasClause (globals_in (TE ds) (CE ds) (variables vs)) gs
+      every_append HasClause (globals_in (TE ds) (CE ds) (variables vs)) gs
       (globals_clauses T (with_own T []) (TE ds) (CE ds) (names_of vs) (clause_terms s vs)
       (groups_typed T (with_own T []) s u (λ x p q. truth_typed ds none nope (with_own T []) in_clause_of_global (all_at ds [] in_clause_of_global) [] [] [] [] [] tt tt tt tt tt tt true x p q) vs
       (second_empty (group_type_faults (TE ds) [] vs) _ (second_empty (again twice b.names (only_names (names_of vs))) _ e))

@@ -27,7 +27,7 @@ use Rattle.bpl_sorts.specs.TypeNames.{type_of}
 use Rattle.bpl_sorts.specs.DeclaredTypes.{types_named}
 use Rattle.bpl_sorts.specs.Readings.{BoundsAlike, Alike}
 use Rattle.bpl_sorts.proofs.ReadTypes.{types_fit}
-use Rattle.bpl_sorts.proofs.Readings.{one_type}
+use Rattle.bpl_sorts.proofs.SortReadings.{one_type}
 use Rattle.bpl_sorts.proofs.TypedTerms.{typed}
 use Rattle.bpl_sorts.proofs.AlikeScopes.{E, A, TE, TA, CE, hs, TypesAt, VarsAlike, S, U, alike}
 

@@ -5,6 +5,8 @@ use Rattle.std.specs.List.{AllByRecursion}
 use Rattle.logic_core.proofs.Booleans.{both_true}
 use Rattle.logic_core.specs.Tree.{Kind}
 use Rattle.logic_core.specs.Same.{same_kind}
+use Rattle.logic_core.proofs.EachOf.{every_append}
+use Rattle.logic_core.proofs.SameTerm.{same_sort}
 use Rattle.bpl_ast.specs.Place.{Name, Ty as Written, Params}
 use Rattle.bpl_ast.specs.Tree.{Expr, Groups}
 use Rattle.bpl_ast.specs.Statement.{Signature, Body, Spec as SpecTree, requires, ensures, modifies, procedure, implementation, Decl}
@@ -14,7 +16,7 @@ use Rattle.bpl_scopes.specs.Fault.{again, is_among, if_so}
 use Rattle.bpl_scopes.specs.declared.part.Part.{Part}
 use Rattle.bpl_scopes.specs.declared.part.Part.TheVariants.{Requires as in_requires, Ensures as in_ensures, Body as in_body, ClauseOfIn as in_clause_of_in, ClauseOfOut as in_clause_of_out, ClauseOfLocal as in_clause_of_local}
 use Rattle.bpl_scopes.specs.declared.part.Role.TheVariants.{In as in_parameter, Out as out_parameter, Local as local_variable}
-use Rattle.bpl_scopes.specs.Scopes.{table_of, Text, Contract, a_procedure, names_of, only_names, texts_of, signature_names, entity_of, Scope}
+use Rattle.bpl_scopes.specs.Scopes.{table_of, Text, Contract, contract_with, a_procedure, names_of, only_names, texts_of, signature_names, entity_of, Scope}
 use Rattle.bpl_scopes.specs.Sorts.{sorts_of_names}
 use Rattle.bpl_scopes.specs.TypeFaults.{group_type_faults, group_where_faults}
 use Rattle.bpl_faults.specs.ExprFaults.{formula_faults, group_clause_faults}
@@ -23,21 +25,20 @@ use Rattle.bpl_declaration_faults.specs.Variables.{in_vars, out_vars, local_vars
 use Rattle.bpl_declaration_faults.specs.DeclFaults.{fault_of, signature_faults, parameter_clause_faults, spec_faults, local_faults, body_faults, has_body, optional_locals, agree, same_texts, same_groups, same_parameters, implemented_faults, implemented_modifies, decl_faults, Before}
 use Rattle.bpl_terms.specs.Terms.{sort_or_int, term_of}
 use Rattle.bpl_resolve.specs.Elaborate.{Implemented, or_else, implements, own_body, stmts_of, clause_terms, proc_locals, proc_body, proc_of, spec_of}
-use Rattle.bpl_resolve.proofs.Below.{same_is}
 use Rattle.bpl_resolve.proofs.HasSort.{Known, first_empty, second_empty, unless_empty}
 use Rattle.bpl_resolve.proofs.Faultless.{TypesKnown, groups_known}
 use Rattle.bpl_resolve.proofs.Ways.{same_text}
 use Rattle.bpl_resolve.proofs.EntriesFine.{SignatureFine, signature_fine, entity_fine}
 use Rattle.bpl_resolve.proofs.ScopesKnown.{fine_type}
 use Rattle.bpl_resolve.proofs.ModuleSorts.{fine}
-use Rattle.bpl_resolve.proofs.ProcedureVariables.{all_join, kinds_same}
+use Rattle.bpl_resolve.proofs.ProcedureVariables.{kinds_same}
 use Rattle.bpl_resolve.proofs.BodyTyped.{ins_sorts, outs_sorts, locals_sorts}
 use Rattle.bpl_sorts.specs.Types.{Ty, kinds_of}
 use Rattle.bpl_sorts.specs.TypeNames.{type_of}
 use Rattle.bpl_sorts.specs.DeclaredTypes.{types_named, proc_types, Types, declared_types}
 use Rattle.bpl_sorts.specs.TypedModule.{with_own, body_types, IsTruth, IsOptional, IsSpec, AreStmts, IsBody, AreClauses, IsTypedProc}
 use Rattle.bpl_sorts.proofs.ReadTypes.{types_fit}
-use Rattle.bpl_sorts.proofs.Readings.{one_type}
+use Rattle.bpl_sorts.proofs.SortReadings.{one_type}
 use Rattle.bpl_sorts.proofs.AlikeScopes.{E, A, TE, TA, CE, all_at, procedure_too}
 use Rattle.bpl_sorts.proofs.TypedParts.{same_some, truth_typed}
 use Rattle.bpl_sorts.proofs.TypedStmts.{list_typed}
@@ -48,7 +49,7 @@ use Rattle.bpl_sorts.proofs.TypedClauses.{with_clauses, groups_typed}
 agree_first : (o p : Option Kind) (os ps : List (Option Kind)) → Known o → Known p → agree (o ∷ os) (p ∷ ps) ≡ true → (o ≡ p) × (agree os ps ≡ true)
 agree_first None p os ps h g e = let bad = h.1 in absurd (cc)
 agree_first (Some j) None os ps h g e = let bad = g.1 in absurd (cc)
-agree_first (Some j) (Some k) os ps h g e = (ap Some (same_is j k (both_true _ _ e).0), (both_true (same_kind j k) _ e).1)
+agree_first (Some j) (Some k) os ps h g e = (ap Some (same_sort j k (both_true _ _ e).0), (both_true (same_kind j k) _ e).1)
 
 module _ (ds : List Decl) (none : fault_of (E ds) ≡ None) (nope : fault_of (A ds) ≡ None) where
   abbrev T : Types
@@ -130,7 +131,7 @@ module _ (ds : List Decl) (none : fault_of (E ds) ≡ None) (nope : fault_of (A 
     local_clauses [] p q = tt
     local_clauses (v ∷ vs) p q =
         let hidden = texts_of (names_in_body h b.locals) in
-        all_join (IsOptional T (inside h b.locals)) (clause_terms (S in_clause_of_local) v) _
+        every_append (IsOptional T (inside h b.locals)) (clause_terms (S in_clause_of_local) v) _
         (groups_typed T (inside h b.locals) (S in_clause_of_local) (U in_clause_of_local) (inside_truth in_clause_of_local) v
         (second_empty (group_type_faults (TE ds) hidden v) _ (first_empty _ _ p)) (second_empty (group_type_faults (TA ds) hidden v) _ (first_empty _ _ q)))
         (local_clauses vs (second_empty (local_faults (TE ds) (CE ds) h b.locals v) _ p) (second_empty (local_faults (TA ds) (CA ds) h b.locals v) _ q))
@@ -253,8 +254,8 @@ module _ (ds : List Decl) (none : fault_of (E ds) ≡ None) (nope : fault_of (A 
         is_fine = record { first = signature_fine (TE ds) (CE ds) ps g (first_empty _ _ e2); second = signature_fine (TA ds) (CA ds) ps g (first_empty _ _ o2) };
         ins_same = refl;
         outs_same = refl;
-        modified = Some (modified_by (TE ds) (record { signature = g; specs = ss }));
-        others = Some (modified_by (TA ds) (record { signature = g; specs = ss }));
+        modified = Some (modified_by (TE ds) (contract_with g ss));
+        others = Some (modified_by (TA ds) (contract_with g ss));
         first = second_empty (flat_map (spec_faults (TE ds) (CE ds) g) ss) _ e5;
         second = second_empty (flat_map (spec_faults (TA ds) (CA ds) g) ss) _ o5;
       }

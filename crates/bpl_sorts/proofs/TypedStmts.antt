@@ -33,7 +33,7 @@ use Rattle.bpl_sorts.specs.TypeNames.{type_of}
 use Rattle.bpl_sorts.specs.DeclaredTypes.{types_named, Types, declared_types}
 use Rattle.bpl_sorts.specs.TypedModule.{IsOptional, IsTruth, IsSide, IsCall, IsStmt, AreStmts}
 use Rattle.bpl_sorts.proofs.ReadTypes.{types_fit}
-use Rattle.bpl_sorts.proofs.Readings.{one_type}
+use Rattle.bpl_sorts.proofs.SortReadings.{one_type}
 use Rattle.bpl_sorts.proofs.NumberedTypes.{types_numbered}
 use Rattle.bpl_sorts.proofs.AlikeScopes.{E, A, TE, TA, CE, hs, TypesAt, VarsAlike, same_procedure, declared_there}
 use Rattle.bpl_sorts.proofs.TypedParts.{same_some, CA, s as scope_s, u as scope_u, expression_typed, truth_typed, side_typed, entry_typed, arguments_typed}

@@ -18,7 +18,7 @@ use Rattle.bpl_sorts.specs.Typed.{HasType, HaveTypes, AreTruths, AreIntegers, Ar
 use Rattle.bpl_sorts.specs.Apart.{apart}
 use Rattle.bpl_sorts.specs.Readings.{Fits, Has, EachFits, BoundsAlike, Alike}
 use Rattle.bpl_sorts.specs.ReadingLaws.{SortedExpressionsHaveTypes}
-use Rattle.bpl_sorts.proofs.Readings.{has_known, has_integer, has_truth, has_when, read_parts, write_parts, choice_parts, equation_parts}
+use Rattle.bpl_sorts.proofs.SortReadings.{has_known, has_integer, has_truth, has_when, read_parts, write_parts, choice_parts, equation_parts}
 
 back_onto : {A : Type 0} (a : A) (xs ys : List A) → reverse (a ∷ xs) ++ ys ≡ reverse xs ++ (a ∷ ys)
 back_onto a xs ys = ap (λ w. w ++ ys) (reverse_onto xs a []) ∙ append_assoc (reverse xs) (a ∷ []) ys

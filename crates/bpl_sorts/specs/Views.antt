@@ -10,8 +10,8 @@ use Rattle.bpl_sorts.specs.UserTypes.{user_after}
 use Rattle.bpl_sorts.specs.Erased.{Unique, as_integers, maps_over}
 use Rattle.bpl_sorts.specs.declared.users.Step.{Step}
 use Rattle.bpl_sorts.specs.declared.users.Step.TheVariants.{Here, On, Nowhere}
-use Rattle.bpl_sorts.specs.declared.replaced.Reading.{Reading}
-use Rattle.bpl_sorts.specs.declared.replaced.Reading.TheVariants.{Integers, Apart}
+use Rattle.bpl_sorts.specs.declared.readings.Reading.{Reading}
+use Rattle.bpl_sorts.specs.declared.readings.Reading.TheVariants.{Integers, Apart}
 
 -- of the name that a type is, where it is one, by the user types of names
 abbrev pub named_by : (Text → Option ℕ) → Option Text → Option ℕ

@@ -3,7 +3,8 @@ ghost use Rattle.std.specs.Prelude.{◌≡◌, IfOk};
 ghost use Rattle.bpl_sorts.specs.Erased.{erased, told_apart};
 
 use crate::constants::{count_axioms, push_axioms, uniques};
-use crate::replaced::{Reading, replaced};
+use crate::readings::Reading;
+use crate::replaced::replaced;
 use bpl_ast::Program;
 use bpl_scopes::declare_all;
 use std::alloc::{AllocError, Global};

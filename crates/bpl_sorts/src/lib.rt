@@ -11,6 +11,7 @@ mod users;
 // Programs without user types: the two readings, and the carriers of constants.
 mod constants;
 pub mod erased;
+pub mod readings;
 mod replaced;
 
 // The types of what a program declares.
@@ -29,4 +30,5 @@ pub mod laws;
 
 pub use carriers::{CarrierFault, check_carriers, first_carrier_fault};
 pub use erased::erase;
+pub use readings::Reading;
 pub use value_types::{Ty, Types};

@@ -9,7 +9,7 @@ ghost use Rattle.bpl_sorts.specs.DeclaredTypes.{local_types, proc_types, proc_ty
 
 use crate::type_names::TypeNames;
 use crate::value_types::Ty;
-use crate::variable_types::{push_each_groups, push_groups};
+use crate::variable_types::{push_each_groups, push_group_types};
 use bpl_ast::{Body, Decl, DeclBody, Name, Signature};
 use bpl_scopes::Positions;
 use std::alloc::{AllocError, Global};
@@ -128,8 +128,8 @@ fn types_of(
     ensures { IfOk result (λ v. tys_seen v.items ≡ in_one_list (proc_types known.now signature.now (option_map implemented_seen implemented.entry))) }
 {
     let mut types = Vec::new(alloc);
-    push_groups(alloc, known, &signature.ins, &mut types)?;
-    push_groups(alloc, known, &signature.outs, &mut types)?;
+    push_group_types(alloc, known, &signature.ins, &mut types)?;
+    push_group_types(alloc, known, &signature.outs, &mut types)?;
     push_locals(alloc, known, implemented, &mut types)?;
     Ok(types)
 }

@@ -43,7 +43,7 @@ fn push_named(
 }
 
 /// Puts the types of the variables of groups behind others.
-pub(crate) fn push_groups(
+pub(crate) fn push_group_types(
     alloc: Global,
     known: &TypeNames,
     groups: &[Group],
@@ -67,7 +67,7 @@ pub(crate) fn push_each_groups(
     ensures { OnOk result (tys_seen types.new.items ≡ tys_seen types.old.items ++ types_named known.now (locals_of (each_groups_of groups.now))) }
 {
     for declared in groups {
-        push_groups(alloc, known, declared, types)?;
+        push_group_types(alloc, known, declared, types)?;
     }
     Ok(())
 }
@@ -115,7 +115,7 @@ fn push_globals(
     ensures { OnOk result (tys_seen types.new.items ≡ tys_seen types.old.items ++ global_types_in known.now (body_of body.now)) }
 {
     match body {
-        DeclBody::Var(groups) => push_groups(alloc, known, groups, types),
+        DeclBody::Var(groups) => push_group_types(alloc, known, groups, types),
         DeclBody::Const { .. } => Ok(()),
         DeclBody::Function { .. } => Ok(()),
         DeclBody::Axiom(_) => Ok(()),

@@ -1,7 +1,7 @@
 -- Names of groups and clauses in turn, the sorts of names, and the targets of calls.
 use Rattle.std.proofs.Common.{◌≡◌, refl, sym, ap, ◌∙◌, ℕ, ◌+◌, ◌<◌, ◌≤◌, min, nat_eq, Bool, true, false, true≢false, ◌&&◌, not, is_some, List, [], ◌∷◌, ◌++◌, map, length, drop, get_or, slice_get, filter, flat_map, Option, Some, arith}
 use Rattle.std.specs.List.{list_all}
-use Rattle.std.proofs.lemmas.List.{append_assoc, length-append, length-drop}
+use Rattle.std.proofs.lemmas.List.{append_assoc, length-append, length-drop, append-nil}
 use Rattle.std.proofs.lemmas.List.Elements.{filter-append}
 use Rattle.std.proofs.lemmas.List.Folds.{list_all-append}
 use Rattle.logic_terms.specs.Tree.{Kind}
@@ -15,12 +15,13 @@ use Rattle.bpl_scopes.specs.declared.fault.TypeKind.TheVariants.{Arity as arity}
 use Rattle.bpl_scopes.specs.declared.shape.Shape.{Shape}
 use Rattle.bpl_scopes.specs.Fault.{is_among, unless}
 use Rattle.bpl_scopes.specs.KnownSorts.{shapes_seen}
-use Rattle.bpl_scopes.specs.Scopes.{Text, Table, typed_names, names_of, only_names, texts_of, signature_names, entity_of}
+use Rattle.bpl_scopes.specs.Scopes.{Text, contract_with, spec_names, Table, typed_names, names_of, only_names, texts_of, signature_names, entity_of}
 use Rattle.bpl_scopes.specs.Sorts.{sort_of_type, sorts_of_names}
+use Rattle.bpl_scopes.proofs.Declared.{typed_length}
 use Rattle.bpl_faults.proofs.ArgumentSteps.{count_is}
-use Rattle.bpl_faults.proofs.ListedNames.{next_dropped, nothing_behind}
+use Rattle.bpl_faults.proofs.ListedNames.{next_dropped}
 use Rattle.bpl_statement_faults.specs.CallView.{modified_where}
-use Rattle.bpl_statement_faults.specs.StmtFaults.{spec_names, is_global, modified_by, count_faults, outs_faults}
+use Rattle.bpl_statement_faults.specs.StmtFaults.{is_global, modified_by, count_faults, outs_faults}
 
 texts_joined : (ms ns : List Name) → texts_of (ms ++ ns) ≡ texts_of ms ++ texts_of ns
 texts_joined [] ns = refl
@@ -45,10 +46,6 @@ sorts_next t h before after k g gs e put = ap (λ l. l ++ sorts_of_names t h (na
     ∙ append_assoc before (map (λ (n : Name). k) g.names.items) (sorts_of_names t h (names_of (groups_of gs)))
     ∙ sym (ap (λ l. before ++ l) (sorts_joined t h (typed_names g.names.items g.of) (names_of (groups_of gs)) ∙ ap (λ l. l ++ sorts_of_names t h (names_of (groups_of gs))) (sym (sorts_typed t h g.names.items g.of k e))))
 
-typed_length : (ns : List Name) (t : Ty) → length (typed_names ns t) ≡ length ns
-typed_length [] t = refl
-typed_length (n ∷ ns) t = omega (arith, typed_length ns t)
-
 pub count_next : (g : Group) (gs : List Group) → length (names_of (groups_of (g ∷ gs))) ≡ length g.names.items + length (names_of (groups_of gs))
 count_next g gs = length-append (typed_names g.names.items g.of) (names_of (groups_of gs)) ∙ ap (λ n. n + length (names_of (groups_of gs))) (typed_length g.names.items g.of)
 
@@ -61,10 +58,10 @@ modified_first t h c cs = ap (filter (λ n. is_global (entity_of t n) && not (is
 
 pub modified_nothing : (t : Table) (h : List Text) (before : List Text) → before ++ modified_where t h [] ≡ before
 unfolding modified_where
-modified_nothing t h before = nothing_behind before
+modified_nothing t h before = append-nil before
 
 -- what a procedure modifies
-pub modified_are : (t : Table) (g : Signature) (cs : List Spec) → modified_where t (texts_of (signature_names g)) cs ≡ modified_by t (record { signature = g; specs = cs })
+pub modified_are : (t : Table) (g : Signature) (cs : List Spec) → modified_where t (texts_of (signature_names g)) cs ≡ modified_by t (contract_with g cs)
 unfolding modified_where
 modified_are t g cs = refl
 

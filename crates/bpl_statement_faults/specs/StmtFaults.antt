@@ -7,7 +7,7 @@ use Rattle.logic_terms.specs.Sorts.{is, range}
 use Rattle.logic_terms.specs.Wide.{when, ◌>>=◌}
 use Rattle.bpl_ast.specs.Place.{Name}
 use Rattle.bpl_ast.specs.Tree.{Exprs, no_exprs, item}
-use Rattle.bpl_ast.specs.Statement.{Target, Guard, Invariant, Stmt, stmt, Action, assert, assume, havoc, assign, call, branches, loop, «break», «return», goto, Branches, branch, otherwise, no_branch, Stmts, no_stmts, next, Spec, requires, ensures, modifies}
+use Rattle.bpl_ast.specs.Statement.{Target, Guard, Invariant, Stmt, stmt, Action, assert, assume, havoc, assign, call, branches, loop, «break», «return», goto, Branches, branch, otherwise, no_branch, Stmts, no_stmts, next}
 use Rattle.bpl_scopes.specs.declared.fault.TypeKind.TheVariants.{Twice as twice, Unknown as unknown, Kind as wrong_kind, Arity as arity, NotAssignable as not_assignable, NotModified as not_modified, TargetTwice as target_twice, BreakHere as break_here, GotoHere as goto_here, Labels as many_labels}
 use Rattle.bpl_scopes.specs.declared.fault.Fault.{Fault}
 use Rattle.bpl_scopes.specs.Fault.{fault, unless, again, is_among}
@@ -19,18 +19,13 @@ use Rattle.bpl_faults.specs.NameFaults.{same_sort_faults, map_faults}
 use Rattle.bpl_faults.specs.ExprFaults.{faults_as, formula_faults, argument_faults, count}
 use Rattle.bpl_statement_faults.specs.Limits.{label_limit}
 
--- the global variables that a procedure modifies
-abbrev pub spec_names : Spec → List Name
-spec_names (requires p f x) = []
-spec_names (ensures p f x) = []
-spec_names (modifies p ns) = ns
-
 abbrev pub is_global : Option Entity → Bool
 is_global (Some (a_global k t)) = true
 is_global e = false
 
+-- the global variables that a procedure modifies
 abbrev pub modified_by : Table → Contract → List Text
-modified_by t c = filter (λ n. is_global (entity_of t n) && not (is_among (texts_of (signature_names c.signature)) n)) (texts_of (flat_map spec_names c.specs))
+modified_by t c = filter (λ n. is_global (entity_of t n) && not (is_among (texts_of (signature_names c.signature)) n)) c.modified
 
 -- the labels of the statements, in order, those inside them too
 abbrev mutual

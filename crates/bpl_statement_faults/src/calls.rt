@@ -3,14 +3,14 @@ ghost use Rattle.std.specs.Prelude.{◌≡◌, ◌+◌, ◌++◌, ◌&&◌, map,
 ghost use Rattle.std.specs.List.{list_all};
 ghost use Rattle.bpl_ast.specs.ExprView.{exprs_of, groups_of};
 ghost use Rattle.bpl_scopes.specs.Fault.{earlier, first_fault, is_among};
-ghost use Rattle.bpl_scopes.specs.Scopes.{names_of, texts_of, signature_names, entity_of};
+ghost use Rattle.bpl_scopes.specs.Scopes.{contract_with, spec_names, names_of, texts_of, signature_names, entity_of};
 ghost use Rattle.bpl_scopes.specs.Sorts.{sorts_of_names};
 ghost use Rattle.bpl_scopes.specs.Shape.{kind_seen};
 ghost use Rattle.bpl_scopes.specs.KnownSorts.{shapes_seen, hidden_seen};
 ghost use Rattle.bpl_faults.specs.ScopeView.{scope_seen, meaning_seen};
 ghost use Rattle.bpl_statement_faults.specs.BodyView.{body_seen};
 ghost use Rattle.bpl_statement_faults.specs.CallView.{modified_where};
-ghost use Rattle.bpl_statement_faults.specs.StmtFaults.{spec_names, is_global, modified_by, may_modify, target_sort, outs_faults, counted_outs_faults, contract_faults, callee_faults, callee_sorts, call_faults};
+ghost use Rattle.bpl_statement_faults.specs.StmtFaults.{is_global, modified_by, may_modify, target_sort, outs_faults, counted_outs_faults, contract_faults, callee_faults, callee_sorts, call_faults};
 
 use crate::body::BodyScope;
 use crate::names::parameter_positions;
@@ -152,7 +152,7 @@ pub fn modified_by<'a>(
     signature: &'a Signature,
     clauses: &'a [Spec],
 ) -> Result<Positions<'a>, AllocError>
-    ensures { IfOk result (λ p. p ≡ modified_by table.now (record { signature = signature.now; specs = clauses.now })) }
+    ensures { IfOk result (λ p. p ≡ modified_by table.now (contract_with signature.now clauses.now)) }
 {
     let hidden = parameter_positions(alloc, signature)?;
     let mut modified = Positions::new(alloc);
@@ -299,7 +299,7 @@ impl<'b, 's, 'a> BodyScope<'b, 's, 'a> {
         at: Place,
         faults: &mut Faults,
     ) -> Result<(), AllocError>
-        ensures { OnOk result (faults.new.first ≡ earlier faults.old.first (first_fault (contract_faults (body_seen self.now) outs.now (record { signature = signature.now; specs = clauses.now }) arguments at))) }
+        ensures { OnOk result (faults.new.first ≡ earlier faults.old.first (first_fault (contract_faults (body_seen self.now) outs.now (contract_with signature.now clauses.now) arguments at))) }
     {
         note_call_outs(self.scope, alloc, outs, signature, arguments, at, faults)?;
         let hidden = parameter_positions(alloc, signature)?;

@@ -1,26 +1,12 @@
 // Names of parameters, in order and found by hash.
-ghost use Rattle.std.specs.Prelude.{◌≡◌, ◌++◌, IfOk, OnOk};
-ghost use Rattle.bpl_ast.specs.ExprView.{groups_of};
-ghost use Rattle.bpl_scopes.specs.Scopes.{names_of, only_names, texts_of, signature_names};
+ghost use Rattle.std.specs.Prelude.{◌≡◌, IfOk};
+ghost use Rattle.bpl_scopes.specs.Scopes.{texts_of, signature_names};
 ghost use Rattle.bpl_faults.specs.Arguments.{names_seen};
 
-use bpl_ast::{Group, Name, Signature};
-use bpl_faults::listed::push_names;
+use bpl_ast::{Name, Signature};
+use bpl_faults::listed::push_group_names;
 use bpl_scopes::Positions;
 use std::alloc::{AllocError, Global};
-
-/// Puts the names of groups behind others.
-pub fn push_group_names<'a>(
-    found: &mut Vec<&'a Name>,
-    groups: &'a [Group],
-) -> Result<(), AllocError>
-    ensures { OnOk result (names_seen found.new.items ≡ names_seen found.old.items ++ only_names (names_of (groups_of groups.now))) }
-{
-    for group in groups {
-        push_names(found, &group.names)?;
-    }
-    Ok(())
-}
 
 /// The names of a procedure's parameters.
 #[tactic(auto, using(crate::proofs::CallSteps::only_joined))]

@@ -13,7 +13,7 @@ use bpl_dependencies::{Variables, argument_names};
 use bpl_scopes::Positions;
 use std::alloc::{AllocError, Global};
 
-fn push_names<'a>(texts: &mut Positions<'a>, names: &'a [Name]) -> Result<(), AllocError>
+fn push_texts<'a>(texts: &mut Positions<'a>, names: &'a [Name]) -> Result<(), AllocError>
     ensures { OnOk result (texts.new ≡ texts.old ++ texts_of names.now) }
 {
     for name in names {
@@ -22,11 +22,11 @@ fn push_names<'a>(texts: &mut Positions<'a>, names: &'a [Name]) -> Result<(), Al
     Ok(())
 }
 
-fn push_groups<'a>(texts: &mut Positions<'a>, groups: &'a [Group]) -> Result<(), AllocError>
+fn push_group_texts<'a>(texts: &mut Positions<'a>, groups: &'a [Group]) -> Result<(), AllocError>
     ensures { OnOk result (texts.new ≡ texts.old ++ texts_of (only_names (names_of (groups_of groups.now)))) }
 {
     for group in groups {
-        push_names(texts, &group.names)?;
+        push_texts(texts, &group.names)?;
     }
     Ok(())
 }
@@ -39,15 +39,15 @@ pub fn push_signature<'a>(
 ) -> Result<(), AllocError>
     ensures { OnOk result (texts.new ≡ texts.old ++ texts_of (signature_names signature.now)) }
 {
-    push_groups(texts, &signature.ins)?;
-    push_groups(texts, &signature.outs)
+    push_group_texts(texts, &signature.ins)?;
+    push_group_texts(texts, &signature.outs)
 }
 
 fn push_locals<'a>(texts: &mut Positions<'a>, locals: &'a [Vec<Group>]) -> Result<(), AllocError>
     ensures { OnOk result (texts.new ≡ texts.old ++ texts_of (only_names (flat_map names_of (each_groups_of locals.now)))) }
 {
     for groups in locals {
-        push_groups(texts, groups)?;
+        push_group_texts(texts, groups)?;
     }
     Ok(())
 }

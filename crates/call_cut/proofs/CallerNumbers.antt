@@ -7,6 +7,7 @@ use Rattle.bv_base.specs.declared.place.Place.{Place}
 use Rattle.logic_core.specs.Tree.{Tree}
 use Rattle.logic_core.specs.Variables.{variables, renamed}
 use Rattle.logic_core.specs.Renamed.{new_number}
+use Rattle.logic_core.proofs.EachOf.{every_map}
 use Rattle.flow_core.specs.Clause.{formula_of}
 use Rattle.bpl_model.specs.Module.{Stmt, assume, Spec, Local, Proc, Module}
 use Rattle.bpl_model.specs.Numbering.{first_out, contract_sorts}
@@ -14,7 +15,6 @@ use Rattle.bpl_model.specs.Contract.{call_checks, postconditions}
 use Rattle.bpl_model.specs.Typed.{IsSpec, HaveClauses}
 use Rattle.bpl_model.specs.Cut.{over, result, check}
 use Rattle.call_cut.specs.Own.{result_by}
-use Rattle.call_cut.proofs.TermVariables.{every_map}
 use Rattle.call_cut.proofs.Longer.{Under}
 use Rattle.call_cut.proofs.OwnVariables.{Known, local_clauses_known}
 use Rattle.call_cut.proofs.Contracts.{contract_length, Early, checks_early, postconditions_known}

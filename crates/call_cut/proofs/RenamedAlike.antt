@@ -4,11 +4,11 @@ use Rattle.std.specs.List.{AllByRecursion}
 use Rattle.bv_base.specs.declared.place.Place.{Place}
 use Rattle.logic_core.specs.Tree.{Tree, num, truth, free, bound, linear, mul, read, write, choose, call, negation, all, some, equal, at_most, for_all, exists, Trees, no_trees, tree, Parts, no_parts, part, Patterns, no_patterns, pattern}
 use Rattle.logic_core.specs.Variables.{variables, variables_of_each, variables_of_parts, variables_of_patterns, renamed, each_renamed, parts_renamed, patterns_renamed}
+use Rattle.logic_core.proofs.EachOf.{every_left, every_right}
 use Rattle.flow_core.specs.Clause.{Clause, checked, assumed, formula_of}
 use Rattle.bpl_model.specs.Module.{assert, assume, Local}
 use Rattle.bpl_model.specs.Cut.{check}
 use Rattle.call_cut.specs.Own.{result_by}
-use Rattle.call_cut.proofs.TermVariables.{every_left, every_right}
 
 module _ (f g : ℕ → ℕ) where
   abbrev pub Agree : List ℕ → Type 0

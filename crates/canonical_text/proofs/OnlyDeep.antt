@@ -19,7 +19,7 @@ use Rattle.bpl_grammar.specs.Fault.{Fault, marked, AreFaultless, IsStop, byte_of
 use Rattle.bpl_grammar.specs.Programs.{SpellsProgram}
 use Rattle.bpl_grammar.proofs.First.{nothing_lies}
 use Rattle.bpl_grammar.proofs.Longest.{stops_there}
-use Rattle.bpl_grammar.proofs.Faults.{fails_at_the_fault, faultless_or_fault}
+use Rattle.bpl_grammar.proofs.Faults.{fails_at_the_fault, faultless_or_fault, token_at}
 use Rattle.bpl_grammar.proofs.ProgramFaults.{programs_are_exact}
 use Rattle.canonical_text.specs.Tokens.{decl_tokens}
 use Rattle.canonical_text.specs.Spelled.{token, Spelled, done, next}
@@ -88,11 +88,6 @@ no_wide (next {g = g} p d) a zero t e w = not_wide p g a.0 (subst IsWide (sym (s
 no_wide (next p d) a (suc k) t e w = no_wide d a.1 k t e w
 
 -- where no token lies too deep, the text is as deep as is computed
-
-token_at : (ls : List Lexeme) (k : ℕ) → k < length ls → (t : Lexeme) × (slice_get ls k ≡ Some t)
-token_at [] k h = absurd (omega (arith, h))
-token_at (t ∷ ts) zero h = (t, refl)
-token_at (t ∷ ts) (suc k) h = token_at ts k (omega (arith, h))
 
 reached_shallow : (ls front rest : List Lexeme) (n : ℕ) → front ++ rest ≡ ls → Lies (rule program) front n → AreFaultless (rule program) ls → 200 < n → ⊥
 reached_shallow ls [] rest n e l f h = nothing_lies (rule program) n l

@@ -29,7 +29,7 @@ verdicts_are turns (p ∷ ps) =
     ∙ map-append (λ (a : Settled). a.verdict) (map settled_by (map (question_on turns) p.goals)) (map settled_by (questions_on turns ps))
     ∙ (λ i. its_verdicts turns p.goals i ++ verdicts_are turns ps i)
 
-map_map : {A B C : Type 0} (f : A → B) (g : B → C) (xs : List A) → map g (map f xs) ≡ map (λ x. g (f x)) xs
+pub map_map : {A B C : Type 0} (f : A → B) (g : B → C) (xs : List A) → map g (map f xs) ≡ map (λ x. g (f x)) xs
 map_map f g [] = refl
 map_map f g (x ∷ xs) = ap (λ ys. g (f x) ∷ ys) (map_map f g xs)
 

@@ -9,7 +9,7 @@ use Rattle.vc_build.specs.Large.{program_goals}
 use Rattle.program_opening.specs.ProcGoals.{goals_of_proc, goals_by_proc}
 use Rattle.check_report.specs.Questions.{question_on, questions_on}
 
-map_flat : {A B C : Type 0} (f : A → List B) (g : B → C) (xs : List A) → map g (flat_map f xs) ≡ flat_map (λ x. map g (f x)) xs
+pub map_flat : {A B C : Type 0} (f : A → List B) (g : B → C) (xs : List A) → map g (flat_map f xs) ≡ flat_map (λ x. map g (f x)) xs
 map_flat f g [] = refl
 map_flat f g (x ∷ xs) = map-append g (f x) (flat_map f xs) ∙ ap (λ ys. map g (f x) ++ ys) (map_flat f g xs)
 

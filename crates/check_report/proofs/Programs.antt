@@ -1,21 +1,17 @@
 -- Declarations that open are a program.
-use Rattle.std.specs.Prelude.{option_map}
-use Rattle.std.proofs.Common.{◌≡◌, refl, ℕ, List, Option, Some, None}
+use Rattle.std.proofs.Common.{◌≡◌, List}
 use Rattle.bv_base.specs.declared.place.Place.{Place}
 use Rattle.bpl_ast.specs.Statement.{Decl}
 use Rattle.bpl_scopes.specs.declared.fault.Fault.{Fault}
 use Rattle.bpl_declaration_faults.specs.DeclFaults.{fault_of}
 use Rattle.bpl_model.specs.Module.{Module}
 use Rattle.bpl_sorts.specs.Erased.{erased, told_apart}
+use Rattle.bpl_sorts.proofs.TypedModules.{no_fault}
 use Rattle.bpl_resolve.specs.Elaborated.{IsElaborated}
 use Rattle.bpl_resolve.specs.Elaborate.{module_of}
 use Rattle.program_opening.specs.Opening.{program, opening}
 use Rattle.program_opening.proofs.Openings.{program_of}
 use Rattle.check_report.specs.Called.{IsProgramOf}
-
-no_fault : (o : Option (ℕ × Fault)) → option_map {U = ℕ × Place} (λ (p : ℕ × Fault). (p.0, p.1.at)) o ≡ None → o ≡ None
-no_fault None e = refl
-no_fault (Some p) e = absurd (cc)
 
 is_elaborated : (ds : List Decl) (m : Module) → m ≡ module_of ds → IsElaborated ds m
 is_elaborated ds m e = record { consts = λ i. (e i).consts; axioms = λ i. (e i).axioms; functions = λ i. (e i).functions; globals = λ i. (e i).globals; procs = λ i. (e i).procs }

@@ -4,6 +4,7 @@ use Rattle.std.proofs.lemmas.Grind.{flat_map-append}
 use Rattle.std.specs.List.{AllByRecursion, list_all}
 use Rattle.std.proofs.lemmas.List.Elements.{recursion_from_All}
 use Rattle.logic_core.proofs.Booleans.{both_true}
+use Rattle.logic_core.proofs.EachOf.{every_append, every_left, every_right}
 use Rattle.bv_base.specs.declared.place.Place.{Place}
 use Rattle.bpl_lex.specs.Token.{Kind, id, number, text, sign, word, Token, text_of}
 use Rattle.bpl_lex.specs.Shape.{is_letter, is_digit, is_identifier, is_number, is_string, is_sign, among, words, kind_of}
@@ -22,7 +23,6 @@ use Rattle.bpl_model.specs.Module.{Proc}
 use Rattle.bpl_sorts.specs.Erased.{users_with, replaced_body, replaced_from, replaced, Unique, one_more, axioms_from, axioms_after, uniques, carrier_axioms, as_integers, erased}
 use Rattle.bpl_resolve.specs.Elaborate.{procs_in, module_of}
 use Rattle.program_opening.specs.Spelled.{IsSpelled, AreSpelled}
-use Rattle.vc_build.proofs.Joined.{all_join}
 use Rattle.report_text.specs.Lines.{line_feed, count, IsWithout}
 use Rattle.report_text.specs.Called.{colon, IsName}
 
@@ -92,14 +92,6 @@ named_so u us h k = id_is_name u.spelling (subst (λ (j : Kind). kind_of u.spell
 
 -- ---- parts of lists of which all hold
 
-all_front : {A : Type 0} (P : A → Type 0) (xs ys : List A) → AllByRecursion P (xs ++ ys) → AllByRecursion P xs
-all_front P [] ys h = tt
-all_front P (x ∷ xs) ys h = (h.0, all_front P xs ys h.1)
-
-all_back : {A : Type 0} (P : A → Type 0) (xs ys : List A) → AllByRecursion P (xs ++ ys) → AllByRecursion P ys
-all_back P [] ys h = h
-all_back P (x ∷ xs) ys h = all_back P xs ys h.1
-
 -- ---- the procedures of declarations
 
 abbrev AreNamed : List Proc → Type 0
@@ -121,15 +113,15 @@ module _ (ds : List Decl) (table : Table) (counts : Counts) where
   decls_named : (bytes : List ℕ) {k : ℕ} {ts : List Token} {es : List Decl} → Decls bytes k ts es → AllByRecursion (IsOfKind bytes) ts → AreNamed (flat_map (λ (d : Decl). procs_in ds table counts d.body) es)
   decls_named bytes programs.Decls.none h = tt
   decls_named bytes (programs.Decls.more t ts us b {ds = es} d e) h =
-      all_join (λ (p : Proc). IsName p.name) (procs_in ds table counts b) (flat_map (λ (d : Decl). procs_in ds table counts d.body) es)
-      (decl_named (λ u. u.place) d (lexemes_of_kind bytes t.start (t ∷ (ts ++ us)) h)) (decls_named bytes e (all_back (IsOfKind bytes) (t ∷ ts) us h))
+      every_append (λ (p : Proc). IsName p.name) (procs_in ds table counts b) (flat_map (λ (d : Decl). procs_in ds table counts d.body) es)
+      (decl_named (λ u. u.place) d (lexemes_of_kind bytes t.start (t ∷ (ts ++ us)) h)) (decls_named bytes e (every_right (IsOfKind bytes) (t ∷ ts) us h))
 
 -- the procedures of a declaration that stands in a text
 one_named : (ds : List Decl) (table : Table) (counts : Counts) (es : List Decl) (k : ℕ) (e d : Decl)
     → AreNamed (flat_map (λ (x : Decl). procs_in ds table counts x.body) es) → k < length es → get_or es k d ≡ e → AreNamed (procs_in ds table counts e.body)
 one_named ds table counts [] k e d h below at = absurd (omega (arith, below))
-one_named ds table counts (x ∷ es) zero e d h below at = subst (λ (y : Decl). AreNamed (procs_in ds table counts y.body)) at (all_front (λ (p : Proc). IsName p.name) (procs_in ds table counts x.body) _ h)
-one_named ds table counts (x ∷ es) (suc k) e d h below at = one_named ds table counts es k e d (all_back (λ (p : Proc). IsName p.name) (procs_in ds table counts x.body) _ h) (omega (arith, below)) at
+one_named ds table counts (x ∷ es) zero e d h below at = subst (λ (y : Decl). AreNamed (procs_in ds table counts y.body)) at (every_left (λ (p : Proc). IsName p.name) (procs_in ds table counts x.body) _ h)
+one_named ds table counts (x ∷ es) (suc k) e d h below at = one_named ds table counts es k e d (every_right (λ (p : Proc). IsName p.name) (procs_in ds table counts x.body) _ h) (omega (arith, below)) at
 
 in_text : (ds : List Decl) (table : Table) (counts : Counts) (bytes : List ℕ) (es : List Decl) (o : Result (List Token) ℕ) → tokens bytes ≡ o → SpelledIn bytes o es
     → AreNamed (flat_map (λ (x : Decl). procs_in ds table counts x.body) es)
@@ -145,7 +137,7 @@ spelled_one ds table counts d s =
 all_spelled : (ds : List Decl) (table : Table) (counts : Counts) (es : List Decl) → AreSpelled es → AreNamed (flat_map (λ (x : Decl). procs_in ds table counts x.body) es)
 all_spelled ds table counts [] h = tt
 all_spelled ds table counts (e ∷ es) h =
-    all_join (λ (p : Proc). IsName p.name) (procs_in ds table counts e.body) (flat_map (λ (x : Decl). procs_in ds table counts x.body) es)
+    every_append (λ (p : Proc). IsName p.name) (procs_in ds table counts e.body) (flat_map (λ (x : Decl). procs_in ds table counts x.body) es)
     (spelled_one ds table counts e h.0) (all_spelled ds table counts es h.1)
 
 -- ---- erased declarations have the same procedures

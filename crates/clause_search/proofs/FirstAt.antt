@@ -1,5 +1,5 @@
 -- The first rule of the table that can be applied to a branch of numbers, one rule on.
-use Rattle.std.specs.Prelude.{◌≡◌, ℕ, ◌+◌, ◌<◌, Option, Result, Ok, Err, OnOk, List, map, length, drop}
+use Rattle.std.specs.Prelude.{◌≡◌, ℕ, ◌+◌, ◌<◌, Option, Result, Ok, Err, List, map, length, drop}
 use Rattle.std.specs.Result.{IsErrAnd}
 use Rattle.std.proofs.Common.{ap, sym, subst, ◌∙◌, get_or}
 use Rattle.std.proofs.lemmas.List.{drop_more}
@@ -18,11 +18,6 @@ use Rattle.numbered_branches.specs.View.{move_seen}
 use Rattle.numbered_branches.specs.declared.played.Attempt as tried
 use Rattle.numbered_branches.specs.declared.played.Attempt.TheVariants as come
 use Rattle.numbered_branches.specs.declared.played.Move as made
-
--- what is so is so of an Ok
-pub on_ok : {A E P : Type 0} (r : Result A E) → P → OnOk r P
-on_ok (Ok a) h = h
-on_ok (Err e) h = tt
 
 -- the same fault is returned
 pub tries_err : (ts : List Tree) (b : Branch) (r : Result tried.Attempt NormalFault) (e : NormalFault) (x : Attempt Move) → IsErrAnd r (λ d. d ≡ e) → (e ≡ Wide → x ≡ leaves) → TriesAt ts b r x

@@ -5,13 +5,13 @@ use Rattle.std.proofs.lemmas.Result.{on_ok_weaker}
 use Rattle.logic_core.specs.Tree.{Tree}
 use Rattle.term_bank.specs.Numbered.{Begins}
 use Rattle.numbered_terms.specs.Stored.{Numbered, Grows}
+use Rattle.numbered_terms.proofs.Results.{on_ok}
 use Rattle.numbered_logic.specs.Apart.{AreApart}
 use Rattle.numbered_logic.proofs.NoPair.{apart_later}
 use Rattle.numbered_instances.specs.Shared.{IsCounted}
 use Rattle.numbered_instances.proofs.SharedAtoms.{counted_on}
 use Rattle.clause_search.specs.Tables.{AreRight}
 use Rattle.clause_search.specs.declared.rules.Tables.{Tables}
-use Rattle.clause_search.proofs.FirstAt.{on_ok}
 
 module _ {A E : Type 0} (r : Result A E) (n m : Numbered) (g : Grows n m) (t : Tables) (right : AreRight n.terms t) where
   -- another rule was tried

@@ -4,8 +4,8 @@ use Rattle.std.specs.List.{AllByRecursion}
 use Rattle.std.proofs.lemmas.List.{map-append, append-nil, reverse-append}
 use Rattle.logic_core.specs.Tree.{Tree}
 use Rattle.logic_core.specs.Def.{Def}
+use Rattle.logic_core.proofs.EachOf.{every_append}
 use Rattle.term_bank.specs.Numbered.{Begins}
-use Rattle.term_bank.proofs.NumberedLists.{all_append}
 use Rattle.tableau_branch.specs.Branch.{Attempt, gives, none, leaves}
 use Rattle.tableau_branch.specs.Move as move
 use Rattle.tableau.specs.Search.{Run, Verdict, proved, «open», wide, turns, run, step, ended, after_attempt}
@@ -44,10 +44,10 @@ module _ (defs : List Def) (ts us : List Tree) (grows : Begins ts us) (left : �
     -- the step is paid, and its branches are put on the stack
     module _ (paid : cost m ≤ left) (stack : List NumberedBranch) (moves : List NumberedPlayed) (s : stack ≡ branches_of m.made ++ bs) (p : moves ≡ ms ++ played m ∷ []) where
       stack_over : AllByRecursion (IsBranchOver us) stack
-      stack_over = subst (AllByRecursion (IsBranchOver us)) (sym s) (all_append (IsBranchOver us) (branches_of m.made) bs (one_branches us m.made h.made).0 (branches_on ts us bs grows over).0)
+      stack_over = subst (AllByRecursion (IsBranchOver us)) (sym s) (every_append (IsBranchOver us) (branches_of m.made) bs (one_branches us m.made h.made).0 (branches_on ts us bs grows over).0)
 
       played_below : AllByRecursion (IsPlayedBelow (length us)) moves
-      played_below = subst (AllByRecursion (IsPlayedBelow (length us))) (sym p) (all_append (IsPlayedBelow (length us)) ms (played m ∷ []) moves_below ((one_played us m h).0, tt))
+      played_below = subst (AllByRecursion (IsPlayedBelow (length us))) (sym p) (every_append (IsPlayedBelow (length us)) ms (played m ∷ []) moves_below ((one_played us m h).0, tt))
 
       same_stack : map (branch_at us) stack ≡ move.branches_of (map (made_at us) m.made) ++ map (branch_at ts) bs
       same_stack = ap (map (branch_at us)) s ∙ map-append (branch_at us) (branches_of m.made) bs ∙ (λ k. (one_branches us m.made h.made).1 k ++ (branches_on ts us bs grows over).1 k)

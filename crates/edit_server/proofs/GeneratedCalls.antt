@@ -1,9 +1,7 @@
 -- The calls by which a generated program is summed up on a board that is shared with workers.
 use Rattle.std.proofs.Common.{◌≡◌, ◌∙◌, refl, sym, ap, subst, inl, inr, ℕ, Bool, List, [], ◌∷◌, ◌++◌, map, length, Result, Ok, Err, IfOk}
-use Rattle.std.specs.Prelude.{OnOk, OnErr}
 use Rattle.std.specs.List.{list_all}
 use Rattle.obligation_text.specs.Asked.{key_of}
-use Rattle.board_core.specs.Kept.{Key}
 use Rattle.bpl_model.specs.Module.{Module}
 use Rattle.fault_text.specs.Written.{Written, fault_line}
 use Rattle.report_text.specs.Lines.{ended}
@@ -84,15 +82,3 @@ module _ {A E : Type 0} (written : A → List ℕ) (status : A → Status) (turn
       by (Err e) l f c = tt
 
 -- ---- by what a step gives or doesn't
-
-pub on_ok : {A E X Y : Type 0} (r : Result A E) → (X → Y) → OnOk r X → IfOk r (λ _. Y)
-on_ok (Ok a) f h = f h
-on_ok (Err e) f h = tt
-
-pub on_err : {A E X Y : Type 0} (r : Result A E) → (X → Y) → OnErr r X → OnErr r Y
-on_err (Ok a) f h = h
-on_err (Err e) f h = f h
-
-pub in_any_case : {A E X : Type 0} (r : Result A E) → X → OnErr r X
-in_any_case (Ok a) h = tt
-in_any_case (Err e) h = h

@@ -1,6 +1,5 @@
 -- What a line is answered, by what is known of the session before it.
-use Rattle.std.proofs.Common.{◌≡◌, ◌∙◌, ◌↔◌, ◌<◌, ◌^◌, ◌+◌, ℕ, Bool, IsTrue, List, Result, Ok, Err, sym, subst, arith}
-use Rattle.std.specs.Prelude.{OnErr}
+use Rattle.std.proofs.Common.{◌≡◌, ◌∙◌, ◌↔◌, ◌<◌, ◌^◌, ◌+◌, ℕ, Bool, IsTrue, List, sym, subst, arith}
 use Rattle.request_text.specs.Request.{Reply, ended}
 use Rattle.request_text.specs.Replies.{reply_text}
 use Rattle.edit_session.specs.Answers.{Asked}
@@ -28,8 +27,3 @@ answered_more old s t n same later answered =
       omega (arith, later.version, before.0),
       λ alone. let so = sym later.workers ∙ alone in omega (arith, later.claims so, before.1 so),
     )
-
--- what holds anyway holds after a refusal
-pub on_err : {A E X : Type 0} (r : Result A E) → X → OnErr r X
-on_err (Ok x) h = tt
-on_err (Err e) h = h

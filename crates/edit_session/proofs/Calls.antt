@@ -13,10 +13,11 @@ use Rattle.goal_board.specs.Made.{AreMade, AreSettled}
 use Rattle.goal_board.proofs.Gathering.{opens_tell_version}
 use Rattle.program_opening.specs.ProcGoals.{goals_by_proc}
 use Rattle.check_report.specs.Scratch.{lines_on}
+use Rattle.check_report.proofs.Answered.{map_map}
 use Rattle.edit_session.specs.Program.{question, questions, keys, text_or_none}
 use Rattle.edit_session.specs.Built.{proc_goals}
 use Rattle.edit_session.specs.Told.{IsOpened, IsReported, AreProved}
-use Rattle.edit_session.proofs.Parts.{map_map, proofs_by_question}
+use Rattle.edit_session.proofs.Parts.{proofs_by_question}
 
 module _ (workers : ℕ) (s : Board) (n : List BoardCall) (t : Board) (n' : List BoardCall) (turns : ℕ) (m : Module) where
   pub opened_told : {X : Type 0} (value : X → Asked) (new : ℕ) (xs : List X) (goals v done : ℕ) → map value xs ≡ questions turns m → goals ≡ length xs

@@ -1,7 +1,7 @@
 -- What is found of all goals, procedure by procedure.
 use Rattle.std.proofs.Common.{◌≡◌, ◌∙◌, refl, sym, ap, arith, add-one, append_assoc, drop-cons, ℕ, ◌+◌, ◌<◌, List, get_or, [], ◌∷◌, ◌++◌, map, length, take, drop, sum, length-append}
 use Rattle.std.specs.Prelude.{flat_map}
-use Rattle.std.proofs.lemmas.List.{map-append, map-id, take-map, drop-map, take_at, drop_at, length-map}
+use Rattle.std.proofs.lemmas.List.{map-id, take-map, drop-map, take_at, drop_at, length-map}
 use Rattle.std.proofs.lemmas.List.Sums.{sum_by-cons}
 use Rattle.obligation_text.specs.Asked.{Asked}
 use Rattle.tableau.specs.Settled.{Settled, settled_by}
@@ -15,18 +15,12 @@ use Rattle.report_text.specs.Report.{report}
 use Rattle.stmt_checksum.specs.SumLines.{sum_lines}
 use Rattle.program_opening.specs.ProcGoals.{ProcGoals}
 use Rattle.check_report.specs.Scratch.{verdicts, lines_on}
+use Rattle.check_report.proofs.Answered.{map_map}
+use Rattle.check_report.proofs.ProgramQuestions.{map_flat}
 use Rattle.edit_session.specs.Program.{question, text_or_none, proof_line}
 use Rattle.edit_session.specs.Sums.{sums_on}
 use Rattle.edit_session.specs.Built.{proc_goals, goal_counts, questions_of, in_parts}
 use Rattle.edit_session.specs.AnswerLines.{report_by}
-
-pub map_map : {A B C : Type 0} (f : A → B) (g : B → C) (xs : List A) → map g (map f xs) ≡ map (λ x. g (f x)) xs
-map_map f g [] = refl
-map_map f g (x ∷ xs) = ap (λ ys. g (f x) ∷ ys) (map_map f g xs)
-
-pub map_flat : {A B C : Type 0} (f : A → List B) (g : B → C) (xs : List A) → map g (flat_map f xs) ≡ flat_map (λ x. map g (f x)) xs
-map_flat f g [] = refl
-map_flat f g (x ∷ xs) = map-append g (f x) (flat_map f xs) ∙ ap (λ ys. map g (f x) ++ ys) (map_flat f g xs)
 
 -- parts of a list that is joined of parts are those parts
 parts_back : {A B C : Type 0} (f : A → C) (g : B → List C) (bs : List B) (xs : List A) → map f xs ≡ flat_map g bs → map (map f) (in_parts (map (λ b. length (g b)) bs) xs) ≡ map g bs

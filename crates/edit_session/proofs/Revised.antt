@@ -10,6 +10,7 @@ use Rattle.bpl_goto.specs.Forward.{AllGoForward}
 use Rattle.bpl_model.specs.Module.{Proc, DeclText, Module, with_procedure}
 use Rattle.bpl_model.specs.Typed.{IsTypedModule}
 use Rattle.bpl_sorts.specs.Erased.{erased, told_apart}
+use Rattle.bpl_sorts.proofs.TypedModules.{no_fault}
 use Rattle.canonical_text.specs.RoundTrip.{AreWrittenDecls}
 use Rattle.fault_text.specs.FaultView.{SourcesAreShort}
 use Rattle.bpl_resolve.specs.Elaborate.{module_of}
@@ -40,10 +41,6 @@ use Rattle.edit_session.proofs.OpenResolved.{as_many_texts, typed_resolved}
 use Rattle.edit_session.proofs.Programs.{opens_so}
 
 -- ---- the readings
-
-some_is_none : (o : Option (ℕ × Fault)) → option_map {U = ℕ × Place} (λ (p : ℕ × Fault). (p.0, p.1.at)) o ≡ None → o ≡ None
-some_is_none None h = refl
-some_is_none (Some p) h = absurd (cc)
 
 puts_are : (ds : List Decl) (rs : List Replacement) → all_put ds (changes rs) ≡ with_replacements ds rs
 puts_are ds [] = refl
@@ -125,7 +122,7 @@ module _ (ds : List Decl) (rs : List Replacement) (vs : List Revision) (m : Modu
   none_before = (program_of ds m (sym is)).0
 
   apart_before : fault_of (told_apart ds) ≡ None
-  apart_before = some_is_none (fault_of (told_apart ds)) (program_of ds m (sym is)).2
+  apart_before = no_fault (fault_of (told_apart ds)) (program_of ds m (sym is)).2
 
   reading_after : (erased (with_replacements ds rs) ≡ all_put (erased ds) (changes rs)) × (told_apart (with_replacements ds rs) ≡ all_put (told_apart ds) (changes rs))
   reading_after =

@@ -8,7 +8,7 @@ use flow_core::Mark;
 use obligation_text::Asked;
 use std::alloc::{AllocError, Global};
 use std::sync::Arc;
-use vc_rebuild::{BuiltProc, SharedGoal};
+use vc_rebuild::{BuiltProc, KeptGoal};
 
 /// The names of the procedures.
 pub fn names(alloc: Global, procs: &[BuiltProc]) -> Result<Vec<String>, AllocError>
@@ -22,7 +22,7 @@ pub fn names(alloc: Global, procs: &[BuiltProc]) -> Result<Vec<String>, AllocErr
 }
 
 // The marks of goals.
-fn marks_of(alloc: Global, goals: &[SharedGoal]) -> Result<Vec<Mark>, AllocError>
+fn marks_of(alloc: Global, goals: &[KeptGoal]) -> Result<Vec<Mark>, AllocError>
     ensures { IfOk result (λ v. v.items ≡ map (λ g. g.mark) goals.now) }
 {
     let mut found = Vec::new(alloc);
@@ -55,7 +55,7 @@ pub fn counts(alloc: Global, procs: &[BuiltProc]) -> Result<Vec<usize>, AllocErr
 }
 
 // The question whether the goal is proved in so many turns.
-fn question(alloc: Global, goal: &SharedGoal, turns: u64) -> Result<Arc<Asked, Global>, AllocError>
+fn question(alloc: Global, goal: &KeptGoal, turns: u64) -> Result<Arc<Asked, Global>, AllocError>
     ensures { IfOk result (λ q. arc_value q ≡ question turns goal.now) }
 {
     let obligation = Arc::try_clone(goal.obligation())?;
@@ -68,7 +68,7 @@ fn question(alloc: Global, goal: &SharedGoal, turns: u64) -> Result<Arc<Asked, G
 fn push_questions(
     alloc: Global,
     found: &mut Vec<Arc<Asked, Global>>,
-    goals: &[SharedGoal],
+    goals: &[KeptGoal],
     turns: u64,
 ) -> Result<(), AllocError>
     ensures { OnOk result (map arc_value found.new.items ≡ map arc_value found.old.items ++ map (question turns) goals.now) }

@@ -1,34 +1,16 @@
 // The verdicts of each procedure's goals.
-ghost use Rattle.std.specs.Prelude.{◌≡◌, ◌≤◌, map, length, take, drop, sum, IfOk, OnOk};
+ghost use Rattle.std.specs.Prelude.{◌≡◌, map, length, sum, IfOk};
 ghost use Rattle.std.specs.Arc.{arc_value};
 ghost use Rattle.tableau.specs.RunView.{verdict_of};
 ghost use Rattle.tableau.specs.Settled.{Settled as settled};
 ghost use Rattle.edit_session.specs.Built.{in_parts};
 
+use bv_base::queue::taken;
 use std::alloc::{AllocError, Global};
 use std::collections::VecDeque;
 use std::sync::Arc;
 use tableau::ended::Verdict;
 use tableau::settled::Settled;
-
-// The first so many answers that are left.
-fn taken(
-    alloc: Global,
-    left: &mut VecDeque<Arc<Settled, Global>>,
-    count: usize,
-) -> Result<Vec<Arc<Settled, Global>>, AllocError>
-    requires { count ≤ length left.old.items }
-    ensures taken { IfOk result (λ v. v.items ≡ take count left.old.items) }
-    ensures left { OnOk result (left.new.items ≡ drop count left.old.items) }
-{
-    let mut own = Vec::new(alloc);
-    for _done in 0..count {
-        if let Some(answer) = left.pop_front() {
-            own.push(answer)?;
-        }
-    }
-    Ok(own)
-}
 
 // The answers' verdicts.
 fn verdicts_of(alloc: Global, answers: &[Arc<Settled, Global>]) -> Result<Vec<Verdict>, AllocError>

@@ -4,6 +4,6 @@ mod Blocks
 mod RisingEdges
 mod LoopEdges
 mod SetVariables
-mod SortedStates
+pub mod SortedStates
 pub mod Samples
 mod EarlyReturn

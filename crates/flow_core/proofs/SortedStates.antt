@@ -10,14 +10,14 @@ use Rattle.flow_core.specs.Graph.{Graph}
 use Rattle.flow_core.specs.Run.{Position, Step, enter, assert_holds, assume_holds, assigned, havocked, follow, Run, stay, go}
 use Rattle.flow_core.specs.RunLaws.{state_in, RunsKeepSorts}
 
-set_sorted : (sorts : List Kind) (σ : State) (x : ℕ) (v : Value) → are_of sorts σ ≡ true → is_of (slice_index_or sorts x int) v ≡ true → are_of sorts (set σ x v) ≡ true
+pub set_sorted : (sorts : List Kind) (σ : State) (x : ℕ) (v : Value) → are_of sorts σ ≡ true → is_of (slice_index_or sorts x int) v ≡ true → are_of sorts (set σ x v) ≡ true
 set_sorted [] [] x v h fits = refl
 set_sorted [] (w ∷ σ) x v h fits = absurd (cc)
 set_sorted (k ∷ ks) [] x v h fits = absurd (cc)
 set_sorted (k ∷ ks) (w ∷ σ) zero v h fits = and_from (is_of k v) (are_of ks σ) fits (and_parts (is_of k w) (are_of ks σ) h).1
 set_sorted (k ∷ ks) (w ∷ σ) (suc x) v h fits = let both = and_parts (is_of k w) (are_of ks σ) h in and_from (is_of k w) (are_of ks (set σ x v)) both.0 (set_sorted ks σ x v both.1 fits)
 
-update_sorted : (sorts : List Kind) (xs : List ℕ) (vs : List Value) (σ : State) → are_of sorts σ ≡ true → FitSorts sorts xs vs → are_of sorts (update σ xs vs) ≡ true
+pub update_sorted : (sorts : List Kind) (xs : List ℕ) (vs : List Value) (σ : State) → are_of sorts σ ≡ true → FitSorts sorts xs vs → are_of sorts (update σ xs vs) ≡ true
 update_sorted sorts [] vs σ h fit = h
 update_sorted sorts (x ∷ xs) [] σ h fit = absurd (cc)
 update_sorted sorts (x ∷ xs) (v ∷ vs) σ h fit =

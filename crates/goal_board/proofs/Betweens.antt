@@ -1,14 +1,15 @@
 -- Own calls, with others' work between them.
 use Rattle.std.proofs.Common.{◌≡◌, ◌∙◌, refl, sym, ap, subst, ℕ, Bool, true, false, not, cond, IsTrue, List, [], ◌∷◌, ◌++◌, fold, Option, Some, None, inl, inr}
 use Rattle.std.specs.List.{list_all}
+use Rattle.std.proofs.lemmas.List.{append-nil}
 use Rattle.tableau.specs.Settled.{Settled}
 use Rattle.board_core.specs.Kept.{Key}
 use Rattle.board_core.specs.Board.{Event, open_keys, claim, deposit, give_back, look, gather, close, no_memory, gathered}
 use Rattle.board_core.specs.Step.{step, wanted, with_claim}
-use Rattle.goal_board.specs.Calls.{Board, BoardCall, made, answer_key, Plays, Settles, Works}
+use Rattle.goal_board.specs.Calls.{Board, BoardCall, made, Plays, Settles, Works}
 use Rattle.goal_board.specs.Calls as calls
 use Rattle.goal_board.specs.Between.{Merged, nothing, from_own, from_theirs, is_work, Between, is_idle, has_effect, effects, keys_by, version_by, closed_by, AreDecided}
-use Rattle.goal_board.specs.Working.{Working, Settling, IsGathered, IsWork}
+use Rattle.goal_board.specs.Working.{Working, Settling}
 use Rattle.goal_board.specs.Working as working
 use Rattle.goal_board.specs.Laws.{OthersDecideNothing, EffectsAreBetween, GatheredIsSettled, WorkIsWorks, BetweensAdd, AnyWorkers}
 use Rattle.logic_core.proofs.Booleans.{both_true, all_true}
@@ -102,13 +103,9 @@ effects_more (x ∷ xs) ys = by_test (has_effect x) (effects_more xs ys)
     by_test true h = ap (λ l. x ∷ l) h
     by_test false h = h
 
-append_none : {A : Type 0} (xs : List A) → xs ++ [] ≡ xs
-append_none [] = refl
-append_none (x ∷ xs) = ap (λ l. x ∷ l) (append_none xs)
-
 -- a gather behind them leaves none
 without_gather : (xs : List BoardCall) (shown : List (Option Settled)) → effects (xs ++ made gather (gathered shown) ∷ []) ≡ effects xs
-without_gather xs shown = effects_more xs (made gather (gathered shown) ∷ []) ∙ append_none (effects xs)
+without_gather xs shown = effects_more xs (made gather (gathered shown) ∷ []) ∙ append-nil (effects xs)
 
 settles : {es : List BoardCall} → Settling es → Settles (effects es)
 settles working.Settling.no_more = calls.Settles.no_more

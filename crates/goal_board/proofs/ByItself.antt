@@ -74,10 +74,6 @@ pub on_any_err : {A E : Type 0} {Y : Type 0} (r : Result A E) → Y → OnErr r 
 on_any_err (Ok x) y = tt
 on_any_err (Err e) y = y
 
-pub on_err : {A E : Type 0} {X Y : Type 0} (r : Result A E) → (X → Y) → OnErr r X → OnErr r Y
-on_err (Ok x) f h = h
-on_err (Err e) f h = f h
-
 pub unopened : (s t : Board) → t ≡ s → AreMade 0 s [] t [] [] ⊎ AreMade 0 s [] t [] (made no_memory memory ∷ [])
 unopened s t same = inl (made_alone s t [] [] [] (sym same))
 

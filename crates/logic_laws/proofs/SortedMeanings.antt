@@ -10,8 +10,9 @@ use Rattle.logic_core.specs.Sorts.{sort_of, bodies_sorted}
 use Rattle.logic_core.specs.Meaning.{With}
 use Rattle.logic_core.specs.Valid.{calls_of}
 use Rattle.logic_core.specs.Renamed.{both_renamed, EachHas, EachInTrees, EachInParts, EachInPatterns}
+use Rattle.logic_core.proofs.ThereIs.{There}
 use Rattle.logic_laws.specs.RenamingLaws.{AreRenamed}
-use Rattle.logic_laws.proofs.SortedNumbers.{There, HasVariable, HasDefinition, mentions_there, there_in_front, body_is_sorted}
+use Rattle.logic_laws.proofs.SortedNumbers.{HasVariable, HasDefinition, mentions_there, there_in_front, body_is_sorted}
 use Rattle.logic_laws.proofs.RenamedVariables.{renames_nothing}
 use Rattle.logic_laws.proofs.RenamedCalls.{renamed_means}
 

@@ -10,22 +10,7 @@ use Rattle.logic_core.specs.Same.{is_some_and}
 use Rattle.logic_core.specs.Wide.{◌>>=◌, when}
 use Rattle.logic_core.specs.Sorts.{is, range, sort_of, are, are_formulas, are_ints, have_sorts, have_sorts_in, bodies_sorted}
 use Rattle.logic_core.specs.Renamed.{EachHas, EachInTrees, EachInParts, EachInPatterns}
-
--- there is something
-abbrev pub There : {A : Type 0} → Option A → Type 0
-There o = is_some o ≡ true
-
-of_is : (k : Kind) (o : Option Kind) → is k o ≡ true → There o
-of_is k None h = h
-of_is k (Some j) h = refl
-
-of_when : {A : Type 0} (c : Bool) (o : Option A) → There (when c o) → c ≡ true
-of_when true o h = refl
-of_when false o h = let c : false ≡ true = h in absurd cc
-
-of_bind : {A B : Type 0} (o : Option A) (f : A → Option B) → There (o >>= f) → There o × ((a : A) × There (f a))
-of_bind None f h = let c : false ≡ true = h in absurd cc
-of_bind (Some a) f h = (refl, (a, h))
+use Rattle.logic_core.proofs.ThereIs.{of_bind, of_when, of_is, There}
 
 of_both : {A : Type 0} (o : Option A) (c : Bool) → is_some_and o (λ a. c) ≡ true → There o × (c ≡ true)
 of_both None c h = let d : false ≡ true = h in absurd cc

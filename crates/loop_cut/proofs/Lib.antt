@@ -2,7 +2,7 @@ mod Loop
 mod CutLoops
 mod States
 mod Mentioned
-mod CutBlocks
+pub mod CutBlocks
 mod StaysPlain
 mod Frame
 mod Alike

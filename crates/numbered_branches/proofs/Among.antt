@@ -13,7 +13,7 @@ use Rattle.term_bank.specs.Numbered.{at}
 use Rattle.logic_rules.specs.Instantiating.{each_once}
 use Rattle.numbered_terms.specs.Stored.{AreStored}
 use Rattle.numbered_facts.specs.Answers.{AreAt}
-use Rattle.numbered_branches.proofs.EachOnce.{once_by, among}
+use Rattle.numbered_facts.proofs.EachOnce.{once_by, among}
 
 pub filter_by : (p : Tree → Bool) (b : Bool) (x : Tree) (xs : List Tree) → p x ≡ b → filter p (x ∷ xs) ≡ cond b (x ∷ filter p xs) (filter p xs)
 filter_by p true x xs e = rw e refl

@@ -4,10 +4,10 @@ use Rattle.std.specs.List.{AllByRecursion}
 use Rattle.std.proofs.lemmas.List.{map-append, append-nil, at_drop_all, length-map}
 use Rattle.logic_core.specs.Tree.{Tree}
 use Rattle.logic_core.specs.Tighten.{tighten}
+use Rattle.logic_core.proofs.EachOf.{every_append}
 use Rattle.proof_core.specs.Proof.{Step}
 use Rattle.term_bank.specs.Numbered.{at, Begins}
 use Rattle.term_bank.proofs.Numbers.{begins_at, begins_length}
-use Rattle.term_bank.proofs.NumberedLists.{all_append}
 use Rattle.tableau_branch.specs.Branch as branch
 use Rattle.tableau_branch.specs.Change.{Made, with_steps, tightened, tightened_each, appended, appended_one, appended_two}
 use Rattle.tableau_branch.proofs.Lists.{drop_item}
@@ -59,7 +59,7 @@ module _ (ts us : List Tree) (t : Tree) (m n : NumberedMade) (number : ℕ) (e :
 -- a node before
 module _ (ts us : List Tree) (s : NumberedStep) (m n : NumberedMade) (put : n ≡ numbered.with_steps (s ∷ []) m.branch.next m) where
   pub by_over : IsStepBelow (length ts) s → IsMadeOver ts m → IsMadeOver ts n
-  by_over l h = subst (IsMadeOver ts) (sym put) (record { branch = record { facts = (h.branch).facts; calls = (h.branch).calls; marks = (h.branch).marks }; steps = all_append (IsStepBelow (length ts)) m.steps (s ∷ []) h.steps (l, tt) })
+  by_over l h = subst (IsMadeOver ts) (sym put) (record { branch = record { facts = (h.branch).facts; calls = (h.branch).calls; marks = (h.branch).marks }; steps = every_append (IsStepBelow (length ts)) m.steps (s ∷ []) h.steps (l, tt) })
 
   put_at : made_at ts n ≡ with_steps (step_at ts s ∷ []) m.branch.next (made_at ts m)
   put_at = ap (made_at ts) put ∙ ap (λ (ss : List Step). let x = made_at ts m in let made : Made = record { branch = x.branch; steps = ss; size = x.size } in made) (map-append (step_at ts) m.steps (s ∷ []))
@@ -134,7 +134,7 @@ module _ (ts us vs : List Tree) (b : Begins ts us) (g : Begins us vs) (is : List
   still = facts_on us vs fs (map (fact_at us) fs) g (below, refl)
 
   pub each_below : AllByRecursion (IsFactBelow (length vs)) gs
-  each_below = subst (AllByRecursion (IsFactBelow (length vs))) (sym pushed) (all_append (IsFactBelow (length vs)) fs (f ∷ []) still.0 (fact.0, tt))
+  each_below = subst (AllByRecursion (IsFactBelow (length vs))) (sym pushed) (every_append (IsFactBelow (length vs)) fs (f ∷ []) still.0 (fact.0, tt))
 
   appended_facts : map (fact_at vs) gs ≡ map (fact_at us) fs ++ (tightened number m.branch.next (at us x)).fact ∷ []
   appended_facts = ap (map (fact_at vs)) pushed ∙ map-append (fact_at vs) fs (f ∷ []) ∙ (λ k. still.1 k ++ fact.1 k ∷ [])

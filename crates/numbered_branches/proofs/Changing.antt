@@ -8,18 +8,18 @@ use Rattle.logic_core.specs.Same.{same_term, same_trees}
 use Rattle.logic_core.specs.View.{trees_of}
 use Rattle.logic_core.specs.Junction.{is_truth}
 use Rattle.logic_core.specs.Tighten.{tighten}
+use Rattle.logic_core.proofs.EachOf.{every_append}
 use Rattle.proof_core.specs.Proof as proof
 use Rattle.term_bank.specs.Numbered.{at, Begins}
 use Rattle.term_bank.proofs.Numbers.{begins_at, begins_length}
-use Rattle.term_bank.proofs.NumberedLists.{all_append}
 use Rattle.tableau_branch.specs.Branch as branch
 use Rattle.tableau_branch.specs.Change as change
 use Rattle.logic_rules.specs.Instantiating.{same_mark}
 use Rattle.numbered_terms.specs.Stored.{AreStored}
+use Rattle.numbered_facts.proofs.EachOnce.{same_number}
 use Rattle.numbered_branches.specs.Branches.{NumberedFact, NumberedMark, NumberedBranch, NumberedStep, splits, instantiates, names, replaces, unfolds, reads_back, differs, combines, tightens, NumberedMade, fact_at, terms_in, mark_at, branch_at, step_at, made_at, is_there, IsFactBelow, IsTuple, IsMarkOver, IsBranchOver, IsStepBelow, IsMadeOver}
 use Rattle.numbered_branches.specs.NumberedChange as numbered
 use Rattle.numbered_branches.specs.NumberedChange.{Read, IsSeen, IsTight}
-use Rattle.numbered_branches.proofs.EachOnce.{same_number}
 use Rattle.numbered_branches.proofs.Growing.{more_within, same_terms}
 
 pub all_take : {A : Type 0} (P : A → Type 0) (n : ℕ) (xs : List A) → AllByRecursion P xs → AllByRecursion P (take n xs)
@@ -131,7 +131,7 @@ module _ (ts : List Tree) (stored : AreStored ts) where
 
     -- more nodes
     pub steps_below : (ss : List NumberedStep) (next : ℕ) (m : NumberedMade) → AllByRecursion (IsStepBelow (length ts)) ss → IsMadeOver ts m → IsMadeOver ts (numbered.with_steps ss next m)
-    steps_below ss next m s h = record { branch = record { facts = (h.branch).facts; calls = (h.branch).calls; marks = (h.branch).marks }; steps = all_append (IsStepBelow (length ts)) m.steps ss h.steps s }
+    steps_below ss next m s h = record { branch = record { facts = (h.branch).facts; calls = (h.branch).calls; marks = (h.branch).marks }; steps = every_append (IsStepBelow (length ts)) m.steps ss h.steps s }
 
     pub steps_are : (ss : List NumberedStep) (next : ℕ) (m : NumberedMade) → made_at ts (numbered.with_steps ss next m) ≡ change.with_steps (map (step_at ts) ss) next (made_at ts m)
     steps_are ss next m = λ k. record {
@@ -167,7 +167,7 @@ module _ (ts : List Tree) (stored : AreStored ts) where
 
         below : (b : Bool) → IsMadeOver ts (cond b m (record { branch = numbered.with_facts m.branch (m.branch.facts ++ f ∷ []); steps = m.steps; size = numbered.with_size r m.size f.term }))
         below true = h
-        below false = record { branch = facts_below m.branch (m.branch.facts ++ f ∷ []) h.branch (all_append Below m.branch.facts (f ∷ []) (h.branch).facts (l, tt)); steps = h.steps }
+        below false = record { branch = facts_below m.branch (m.branch.facts ++ f ∷ []) h.branch (every_append Below m.branch.facts (f ∷ []) (h.branch).facts (l, tt)); steps = h.steps }
 
         by : (b : Bool) → made_at ts (cond b m (record { branch = numbered.with_facts m.branch (m.branch.facts ++ f ∷ []); steps = m.steps; size = numbered.with_size r m.size f.term })) ≡ cond b (made_at ts m)
             (record { branch = branch.with_facts (branch_at ts m.branch) (map (fact_at ts) m.branch.facts ++ fact_at ts f ∷ []); steps = map (step_at ts) m.steps; size = change.with_size m.size (at ts f.term) })
@@ -190,7 +190,7 @@ module _ (ts : List Tree) (stored : AreStored ts) where
       where
         below : (b : Bool) → AllByRecursion Below (cond b earlier (earlier ++ f ∷ []))
         below true = e
-        below false = all_append Below earlier (f ∷ []) e (l, tt)
+        below false = every_append Below earlier (f ∷ []) e (l, tt)
 
         by : (b : Bool) → map (fact_at ts) (cond b earlier (earlier ++ f ∷ [])) ≡ cond b (map (fact_at ts) earlier) (map (fact_at ts) earlier ++ fact_at ts f ∷ [])
         by true = refl
@@ -204,7 +204,7 @@ module _ (ts : List Tree) (stored : AreStored ts) where
         let kb = all_take Below n fs (h.branch).facts in
         let lb = all_drop Below (n + 1) fs (h.branch).facts in
         let k = keeps before later f kb l lb in (
-          record { branch = facts_below m.branch (numbered.kept r before f later ++ later) h.branch (all_append Below (numbered.kept r before f later) later k.0 lb); steps = h.steps },
+          record { branch = facts_below m.branch (numbered.kept r before f later ++ later) h.branch (every_append Below (numbered.kept r before f later) later k.0 lb); steps = h.steps },
           (λ x. record { branch = branch.with_facts (branch_at ts m.branch) (map-append (fact_at ts) (numbered.kept r before f later) later x); steps = map (step_at ts) m.steps; size = same_size m.size f l x })
               ∙ (λ x. record { branch = branch.with_facts (branch_at ts m.branch) (k.1 x ++ map (fact_at ts) later); steps = map (step_at ts) m.steps; size = change.with_size m.size (at ts f.term) })
               ∙ (λ x. let ms = sym (drop-map (fact_at ts) (n + 1) fs) x in record { branch = branch.with_facts (branch_at ts m.branch) (change.kept (sym (take-map (fact_at ts) n fs) x) (fact_at ts f) ms ++ ms); steps = map (step_at ts) m.steps; size = change.with_size m.size (at ts f.term) }),

@@ -1,102 +1,22 @@
--- Lists that are each once.
-use Rattle.std.proofs.Common.{◌≡◌, refl, sym, ap, ◌∙◌, ℕ, ◌<◌, nat_eq, Bool, true, false, true≢false, ◌||◌, cond, Some, List, [], ◌∷◌, ◌++◌, map, length}
-use Rattle.std.specs.List.{list_any, AllByRecursion, flat_map}
-use Rattle.std.proofs.lemmas.Bool.{eq-eqb, ne_eqb}
-use Rattle.std.proofs.lemmas.List.{append_assoc, map-append}
+-- Lists of numbers that are each once.
+use Rattle.std.proofs.Common.{◌≡◌, refl, sym, ap, ◌∙◌, ℕ, ◌<◌, nat_eq, Bool, true, false, cond, Some, List, [], ◌∷◌, ◌++◌, map, length}
+use Rattle.std.specs.List.{list_any, AllByRecursion}
+use Rattle.std.proofs.lemmas.List.{map-append}
 use Rattle.logic_core.specs.Tree.{Tree}
-use Rattle.logic_core.specs.Same.{same_term}
-use Rattle.logic_core.proofs.Anywhere.{any_append}
-use Rattle.logic_core.proofs.Booleans.{or_first, or_second}
-use Rattle.logic_core.proofs.SameTerm.{same_is_equal, same_as_itself}
+use Rattle.logic_core.proofs.EachOf.{every_append}
 use Rattle.term_bank.specs.Numbered.{at, number_of}
-use Rattle.term_bank.proofs.NumberedLists.{all_append}
 use Rattle.logic_rules.specs.Instantiating.{each_once}
+use Rattle.numbered_facts.proofs.EachOnce.{once_by, among}
 use Rattle.numbered_branches.specs.Counts.{once}
-
--- one term at a time
-pub once_by : (b : Bool) (seen ts : List Tree) (t : Tree) → list_any (same_term t) seen ≡ b → each_once seen (t ∷ ts) ≡ each_once (cond b seen (seen ++ t ∷ [])) ts
-once_by true seen ts t e = rw (each_once, e) refl
-once_by false seen ts t e = rw (each_once, e) refl
-
-pub once_append : (seen xs ys : List Tree) → each_once seen (xs ++ ys) ≡ each_once (each_once seen xs) ys
-once_append seen [] ys = refl
-once_append seen (x ∷ xs) ys = once_by (list_any (same_term x) seen) seen (xs ++ ys) x refl ∙ once_append (cond (list_any (same_term x) seen) seen (seen ++ x ∷ [])) xs ys
-    ∙ ap (λ zs. each_once zs ys) (sym (once_by (list_any (same_term x) seen) seen xs x refl))
-
--- what is seen stays
-stays_seen : (p : Tree → Bool) (seen xs : List Tree) → list_any p seen ≡ true → list_any p (each_once seen xs) ≡ true
-stays_seen p seen [] h = h
-stays_seen p seen (x ∷ xs) h = ap (list_any p) (once_by (list_any (same_term x) seen) seen xs x refl) ∙ stays_seen p (cond (list_any (same_term x) seen) seen (seen ++ x ∷ [])) xs (by (list_any (same_term x) seen))
-  where
-    by : (b : Bool) → list_any p (cond b seen (seen ++ x ∷ [])) ≡ true
-    by true = h
-    by false = any_append p seen (x ∷ []) ∙ or_first (list_any p seen) (list_any p (x ∷ [])) h
-
--- a test that passes on a term that is there
-passes_there : (p : Tree → Bool) (x : Tree) (seen : List Tree) → p x ≡ true → list_any (same_term x) seen ≡ true → list_any p seen ≡ true
-passes_there p x [] h g = absurd (cc)
-passes_there p x (s ∷ seen) h g = by (same_term x s) refl g (passes_there p x seen h)
-  where
-    by : (b : Bool) → same_term x s ≡ b → (b || list_any (same_term x) seen) ≡ true → (list_any (same_term x) seen ≡ true → list_any p seen ≡ true) → (p s || list_any p seen) ≡ true
-    by true e k r = or_first (p s) (list_any p seen) (ap p (sym (same_is_equal x s e)) ∙ h)
-    by false e k r = or_second (p s) (list_any p seen) (r k)
-
--- each term of the list is there afterwards
-is_there : (p : Tree → Bool) (seen xs : List Tree) → list_any p xs ≡ true → list_any p (each_once seen xs) ≡ true
-is_there p seen [] h = absurd (cc)
-is_there p seen (x ∷ xs) h = ap (list_any p) (once_by (list_any (same_term x) seen) seen xs x refl) ∙ by (p x) refl h (is_there p (cond (list_any (same_term x) seen) seen (seen ++ x ∷ [])) xs)
-  where
-    after : List Tree
-    after = cond (list_any (same_term x) seen) seen (seen ++ x ∷ [])
-
-    joined : (b : Bool) → list_any (same_term x) seen ≡ b → p x ≡ true → list_any p (cond b seen (seen ++ x ∷ [])) ≡ true
-    joined true e g = passes_there p x seen g e
-    joined false e g = any_append p seen (x ∷ []) ∙ or_second (list_any p seen) (p x || false) (or_first (p x) false g)
-
-    by : (b : Bool) → p x ≡ b → (b || list_any p xs) ≡ true → (list_any p xs ≡ true → list_any p (each_once (cond (list_any (same_term x) seen) seen (seen ++ x ∷ [])) xs) ≡ true)
-        → list_any p (each_once (cond (list_any (same_term x) seen) seen (seen ++ x ∷ [])) xs) ≡ true
-    by true e k r = stays_seen p (cond (list_any (same_term x) seen) seen (seen ++ x ∷ [])) xs (joined (list_any (same_term x) seen) refl e)
-    by false e k r = r k
-
-once_of : (seen before xs : List Tree) → each_once seen (each_once before xs) ≡ each_once (each_once seen before) xs
-once_of seen before [] = refl
-once_of seen before (x ∷ xs) = ap (each_once seen) (once_by (list_any (same_term x) before) before xs x refl) ∙ by (list_any (same_term x) before) refl (λ zs. once_of seen zs xs)
-  where
-    by : (b : Bool) → list_any (same_term x) before ≡ b → ((zs : List Tree) → each_once seen (each_once zs xs) ≡ each_once (each_once seen zs) xs) → each_once seen (each_once (cond b before (before ++ x ∷ [])) xs) ≡ each_once (each_once seen before) (x ∷ xs)
-    by true e r = r before ∙ sym (once_by true (each_once seen before) xs x (is_there (same_term x) seen before e))
-    by false e r = r (before ++ x ∷ []) ∙ ap (λ zs. each_once zs xs) (once_append seen before (x ∷ [])) ∙ sym (once_append (each_once seen before) (x ∷ []) xs)
-
-pub once_twice : (seen xs ys : List Tree) → each_once seen (each_once [] xs ++ ys) ≡ each_once seen (xs ++ ys)
-once_twice seen xs ys = once_append seen (each_once [] xs) ys ∙ ap (λ zs. each_once zs ys) (once_of seen [] xs) ∙ sym (once_append seen xs ys)
-
-pub once_each : {A : Type 0} (f : A → List Tree) (seen : List Tree) (as' : List A) (ys : List Tree) → each_once seen (flat_map (λ a. each_once [] (f a)) as' ++ ys) ≡ each_once seen (flat_map f as' ++ ys)
-once_each f seen [] ys = refl
-once_each f seen (a ∷ as') ys = ap (each_once seen) (append_assoc (each_once [] (f a)) (flat_map (λ b. each_once [] (f b)) as') ys)
-    ∙ once_twice seen (f a) (flat_map (λ b. each_once [] (f b)) as' ++ ys)
-    ∙ once_append seen (f a) (flat_map (λ b. each_once [] (f b)) as' ++ ys)
-    ∙ once_each f (each_once seen (f a)) as' ys
-    ∙ sym (once_append seen (f a) (flat_map f as' ++ ys))
-    ∙ ap (each_once seen) (sym (append_assoc (f a) (flat_map f as') ys))
 
 -- by number
 module _ (ts : List Tree) (apart : (i : ℕ) → i < length ts → number_of ts (at ts i) ≡ Some i) where
-  pub same_number : (i j : ℕ) → i < length ts → j < length ts → nat_eq i j ≡ same_term (at ts i) (at ts j)
-  same_number i j v w = by (same_term (at ts i) (at ts j)) refl
-    where
-      by : (b : Bool) → same_term (at ts i) (at ts j) ≡ b → nat_eq i j ≡ b
-      by true e = let one : Some i ≡ Some j = sym (apart i v) ∙ ap (number_of ts) (same_is_equal (at ts i) (at ts j) e) ∙ apart j w in let two : i ≡ j = cc in eq-eqb i j two
-      by false e = ne_eqb i j (λ q. true≢false (sym (ap (same_term (at ts i)) (sym (ap (at ts) q)) ∙ same_as_itself (at ts i)) ∙ e))
-
-  pub among : (i : ℕ) (is : List ℕ) → i < length ts → AllByRecursion (λ j. j < length ts) is → list_any (nat_eq i) is ≡ list_any (same_term (at ts i)) (map (at ts) is)
-  among i [] v h = refl
-  among i (j ∷ is) v h = λ k. same_number i j v h.0 k || among i is v h.1 k
-
   pub once_numbers : (seen is : List ℕ) → AllByRecursion (λ i. i < length ts) seen → AllByRecursion (λ i. i < length ts) is → map (at ts) (once seen is) ≡ each_once (map (at ts) seen) (map (at ts) is)
   once_numbers seen [] h g = refl
   once_numbers seen (i ∷ is) h g = by (list_any (nat_eq i) seen) refl (λ zs w. once_numbers zs is w g.1)
     where
       by : (b : Bool) → list_any (nat_eq i) seen ≡ b → ((zs : List ℕ) → AllByRecursion (λ j. j < length ts) zs → map (at ts) (once zs is) ≡ each_once (map (at ts) zs) (map (at ts) is)) → map (at ts) (once (cond b seen (seen ++ i ∷ [])) is) ≡ each_once (map (at ts) seen) (at ts i ∷ map (at ts) is)
-      by true e r = r seen h ∙ sym (once_by true (map (at ts) seen) (map (at ts) is) (at ts i) (sym (among i seen g.0 h) ∙ e))
-      by false e r = r (seen ++ i ∷ []) (all_append (λ j. j < length ts) seen (i ∷ []) h (g.0, tt))
+      by true e r = r seen h ∙ sym (once_by true (map (at ts) seen) (map (at ts) is) (at ts i) (sym (among ts apart i seen g.0 h) ∙ e))
+      by false e r = r (seen ++ i ∷ []) (every_append (λ j. j < length ts) seen (i ∷ []) h (g.0, tt))
           ∙ ap (λ us. each_once us (map (at ts) is)) (map-append (at ts) seen (i ∷ []))
-          ∙ sym (once_by false (map (at ts) seen) (map (at ts) is) (at ts i) (sym (among i seen g.0 h) ∙ e))
+          ∙ sym (once_by false (map (at ts) seen) (map (at ts) is) (at ts i) (sym (among ts apart i seen g.0 h) ∙ e))

@@ -4,6 +4,7 @@ use Rattle.std.specs.List.{AllByRecursion}
 use Rattle.std.proofs.lemmas.List.{map-append, take_more}
 use Rattle.logic_core.specs.Tree.{Kind, Tree, all}
 use Rattle.logic_core.specs.View.{trees_of}
+use Rattle.logic_core.proofs.EachOf.{every_append}
 use Rattle.logic_rules.proofs.Listed.{listed_trees}
 use Rattle.proof_core.specs.Proof as proof
 use Rattle.proof_core.specs.View.{step_of, steps_of}
@@ -13,7 +14,6 @@ use Rattle.term_bank.proofs.Numbers.{begins_then, begins_at, begins_length}
 use Rattle.term_bank.proofs.Rows.{trees_listed}
 use Rattle.numbered_terms.specs.At.{IsAt}
 use Rattle.tableau_branch.specs.Change as change
-use Rattle.term_bank.proofs.NumberedLists.{all_append}
 use Rattle.tableau_branch.specs.Branch as branch
 use Rattle.numbered_branches.specs.Branches.{NumberedFact, NumberedMark, NumberedBranch, NumberedStep, NumberedMade, fact_at, mark_at, branch_at, step_at, made_at, terms_in, IsFactBelow, IsStepBelow, IsTuple, IsMarkOver, IsBranchOver, IsMadeOver}
 use Rattle.numbered_branches.specs.Moves.{NumberedPlayed, played_at, IsPlayedBelow}
@@ -41,7 +41,7 @@ module _ {A B : Type 0} (P : List Tree → A → Type 0) (of : List Tree → A �
       → Stand us new (take (i + 1) ys)
   stand_next ts us xs new x ys i y b l g h p e q = let r = stand_on ts us xs (take i ys) b h in
       subst (λ zs. Stand us zs (take (i + 1) ys)) (sym q) (
-        all_append (P us) xs (x ∷ []) r.0 (p, tt),
+        every_append (P us) xs (x ∷ []) r.0 (p, tt),
         map-append (of us) xs (x ∷ []) ∙ (λ k. r.1 k ++ e k ∷ []) ∙ ap (λ z. take i ys ++ z ∷ []) g ∙ sym (take_more ys i y l),
       )
 
@@ -116,7 +116,7 @@ pub steps_next : (ts us : List Tree) (xs new : List Step) (x : Step) (ys : List 
     → AreStepsAt ts (map step_seen xs) (steps_of (take i ys)) → IsStepAt us (step_seen x) (step_of y) → new ≡ xs ++ x ∷ [] → AreStepsAt us (map step_seen new) (steps_of (take (i + 1) ys))
 steps_next ts us xs new x ys i y b l e h p q = let r = stand_on StepBelow step_at step_stays ts us (map step_seen xs) (steps_of (take i ys)) b h in
     subst (λ ss. AreStepsAt us ss (steps_of (take (i + 1) ys))) (sym (ap (map step_seen) q ∙ map-append step_seen xs (x ∷ []))) (
-      all_append (StepBelow us) (map step_seen xs) (step_seen x ∷ []) r.0 (p.0, tt),
+      every_append (StepBelow us) (map step_seen xs) (step_seen x ∷ []) r.0 (p.0, tt),
       map-append (step_at us) (map step_seen xs) (step_seen x ∷ []) ∙ (λ k. r.1 k ++ p.1 k ∷ []) ∙ ap (λ z. steps_of (take i ys) ++ step_of z ∷ []) e
           ∙ sym (map-append step_of (take i ys) (get_or ys i y ∷ [])) ∙ ap steps_of (sym (take_more ys i y l)),
     )

@@ -19,6 +19,7 @@ use crate::played::Made;
 use crate::step::Step;
 use logic_core::NormalFault;
 use numbered_facts::Store;
+use numbered_terms::number_set::is_among;
 use std::alloc::AllocError;
 use tableau_branch::changing::Ground;
 use term_bank::TermId;
@@ -29,18 +30,6 @@ pub struct Replacing {
     pub ground: Ground,
     pub left: TermId,
     pub right: TermId,
-}
-
-// Whether the number is one of these.
-fn is_among(id: TermId, ids: &[TermId]) -> bool
-    ensures { result ≡ list_any (nat_eq id) ids.now }
-{
-    for other in ids {
-        if id == *other {
-            return true;
-        }
-    }
-    false
 }
 
 // Whether the Read or Call stands in the fact outside quantifiers.

@@ -9,13 +9,13 @@ use Rattle.logic_core.specs.Tree.{Tree, num, for_all, exists}
 use Rattle.logic_core.specs.View.{trees_of, parts_of}
 use Rattle.logic_core.specs.Same.{same_term}
 use Rattle.logic_core.specs.Subterm.{outside, outside_each, outside_parts, is_quantifier}
+use Rattle.logic_core.proofs.EachOf.{every_append}
 use Rattle.logic_rules.specs.Instantiating.{each_once}
 use Rattle.tableau_branch.proofs.Lists.{take_item}
 use Rattle.term_bank.specs.declared.node.Node.{Node}
 use Rattle.term_bank.specs.declared.node.Node.TheVariants.{Num, Truth, Free, Bound, Sum, Mul, Read, Write, If, Call, Not, And, Or, Eq, Le, ForAll, Exists}
 use Rattle.term_bank.specs.Numbered.{at}
 use Rattle.term_bank.specs.Node.{tree_over, numbers_in}
-use Rattle.term_bank.proofs.NumberedLists.{all_append}
 use Rattle.numbered_terms.specs.Stored.{AreStored}
 use Rattle.numbered_facts.specs.Inside.{inner, AreOutside}
 use Rattle.numbered_facts.proofs.Occurrences.{either, any_more}
@@ -79,7 +79,7 @@ joined_all P is js i e h p = subst (AllByRecursion P) (sym e) (by (list_any (nat
   where
     by : (b : Bool) → AllByRecursion P (cond b is (is ++ i ∷ []))
     by true = h
-    by false = all_append P is (i ∷ []) h (p, tt)
+    by false = every_append P is (i ∷ []) h (p, tt)
 
 every : {A : Type 0} (P Q : A → Type 0) → ((a : A) → P a → Q a) → (xs : List A) → AllByRecursion P xs → AllByRecursion Q xs
 every P Q f [] h = tt

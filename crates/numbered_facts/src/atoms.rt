@@ -10,8 +10,9 @@ ghost use Rattle.numbered_facts.specs.Memos.{AreAtoms};
 
 use crate::inside::is_atom;
 use crate::numbers::push_where;
-use crate::occurring::{is_among, occurring, occurs};
+use crate::occurring::{occurring, occurs};
 use numbered_terms::Terms;
+use numbered_terms::number_set::is_among;
 use numbered_terms::renumber::copy_numbers;
 use numbered_terms::slots::Slots;
 use std::alloc::AllocError;

@@ -11,6 +11,7 @@ use crate::numbers::{add, is_in, list};
 use crate::standing::is_quantifier;
 use indexmap::IndexSet;
 use numbered_terms::Terms;
+use numbered_terms::number_set::is_among;
 use numbered_terms::renumber::numbers;
 use std::alloc::AllocError;
 use term_bank::TermId;
@@ -63,18 +64,6 @@ pub(crate) fn occurring(terms: &Terms, id: TermId) -> Result<Vec<TermId>, AllocE
     let mut found = IndexSet::new(terms.alloc());
     find_in(terms, &mut found, id)?;
     list(terms.alloc(), found.as_slice())
-}
-
-/// Whether the number is among these.
-pub(crate) fn is_among(id: TermId, ids: &[TermId]) -> bool
-    ensures { result ≡ list_any (nat_eq id) ids.now }
-{
-    for other in ids {
-        if id == *other {
-            return true;
-        }
-    }
-    false
 }
 
 /// Whether the first term occurs in the second.

@@ -9,10 +9,10 @@ use Rattle.logic_core.specs.Before.{before, tree_before}
 use Rattle.logic_core.specs.Wide.{◌>>=◌}
 use Rattle.logic_core.specs.Junction.{negated, negated_each}
 use Rattle.logic_core.proofs.Made.{given_more, given_all, trees_before_none}
+use Rattle.logic_core.proofs.EachOf.{every_append}
 use Rattle.term_bank.specs.Numbered.{at, Begins}
 use Rattle.term_bank.specs.Node.{in_lists}
 use Rattle.term_bank.proofs.Numbers.{begins_at}
-use Rattle.term_bank.proofs.NumberedLists.{all_append}
 use Rattle.numbered_terms.specs.Lists.{terms_at, lists_at}
 use Rattle.numbered_forms.proofs.LongerStores.{terms_stay, lists_stay, numbers_stay}
 
@@ -51,7 +51,7 @@ none_before (Some ts) = refl
 -- one more Not
 module _ (ts us vs : List Tree) (b : Begins ts us) (d : Begins us vs) (made made' : List ℕ) (y : ℕ) (low : AllByRecursion (λ j. j < length us) made) (pushed : made' ≡ made ++ y ∷ []) where
   pub next_below : y < length vs → AllByRecursion (λ j. j < length vs) made'
-  next_below l = subst (AllByRecursion (λ j. j < length vs)) (sym pushed) (all_append (λ j. j < length vs) made (y ∷ []) (numbers_stay us vs d made low) (l, tt))
+  next_below l = subst (AllByRecursion (λ j. j < length vs)) (sym pushed) (every_append (λ j. j < length vs) made (y ∷ []) (numbers_stay us vs d made low) (l, tt))
 
   pub negated_next : (ids : List ℕ) (i x : ℕ) (whole : Option Trees) → i < length ids → x ≡ get_or ids i x → x < length ts → negated (at us x) ≡ Some (at vs y)
       → option_map (before tree_before (terms_at us made)) (negated_each (trees_of (terms_at ts (drop i ids)))) ≡ whole → option_map (before tree_before (terms_at vs made')) (negated_each (trees_of (terms_at ts (drop (i + 1) ids)))) ≡ whole

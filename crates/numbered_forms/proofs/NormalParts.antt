@@ -12,10 +12,10 @@ use Rattle.logic_core.specs.Sum.{Linear, add_term}
 use Rattle.logic_core.specs.Normal.{normal, normal_each, normal_sum, normal_patterns}
 use Rattle.logic_core.proofs.Made.{given_more, given_none, given_all, trees_before_none}
 use Rattle.logic_core.proofs.Mentioned.{all_left, all_right}
+use Rattle.logic_core.proofs.EachOf.{every_append}
 use Rattle.term_bank.specs.Numbered.{at, Begins}
 use Rattle.term_bank.specs.Node.{in_lists}
 use Rattle.term_bank.proofs.Numbers.{begins_at}
-use Rattle.term_bank.proofs.NumberedLists.{all_append}
 use Rattle.numbered_terms.specs.Lists.{terms_at, atoms_at, lists_at, AtomsBelow}
 use Rattle.numbered_terms.proofs.Walking.{still_below}
 use Rattle.numbered_forms.specs.Forms.{AreForms, normal_atom}
@@ -176,5 +176,5 @@ pub rows_below : (us vs : List Tree) (d : Begins us vs) (done done' : List (Vec 
 rows_below us vs d done done' y low pushed h = subst (λ ws. AllByRecursion (λ j. j < length vs) (in_lists ws)) (sym pushed) (more done (numbers_stay us vs d (in_lists done) low))
   where
     more : (ws : List (Vec ℕ Global)) → AllByRecursion (λ j. j < length vs) (in_lists ws) → AllByRecursion (λ j. j < length vs) (in_lists (ws ++ y ∷ []))
-    more [] g = all_append (λ j. j < length vs) y.items [] h tt
-    more (w ∷ ws) g = all_append (λ j. j < length vs) w.items (in_lists (ws ++ y ∷ [])) (all_left (λ j. j < length vs) w.items (in_lists ws) g) (more ws (all_right (λ j. j < length vs) w.items (in_lists ws) g))
+    more [] g = every_append (λ j. j < length vs) y.items [] h tt
+    more (w ∷ ws) g = every_append (λ j. j < length vs) w.items (in_lists (ws ++ y ∷ [])) (all_left (λ j. j < length vs) w.items (in_lists ws) g) (more ws (all_right (λ j. j < length vs) w.items (in_lists ws) g))

@@ -11,12 +11,12 @@ use Rattle.logic_core.specs.declared.junction.Connective.{Connective}
 use Rattle.logic_core.specs.Junction.{is_truth, neutral, joined, as_joined, with_operand, operands}
 use Rattle.logic_core.proofs.Junctions.{taken_in, nested, other_operand}
 use Rattle.logic_core.proofs.Made.{trees_before_none, before_push}
+use Rattle.logic_core.proofs.EachOf.{every_append}
 use Rattle.term_bank.specs.Numbered.{at}
-use Rattle.term_bank.proofs.NumberedLists.{all_append}
 use Rattle.numbered_terms.specs.Lists.{terms_at}
 
 pub both_below : (n : ℕ) (ps is : List ℕ) (r : Result (Vec ℕ Global) AllocError) → AllByRecursion (λ j. j < n) ps → AllByRecursion (λ j. j < n) is → IfOk r (λ v. v.items ≡ ps ++ is) → IfOk r (λ v. AllByRecursion (λ j. j < n) v.items)
-both_below n ps is (Ok v) h g e = subst (AllByRecursion (λ j. j < n)) (sym e) (all_append (λ j. j < n) ps is h g)
+both_below n ps is (Ok v) h g e = subst (AllByRecursion (λ j. j < n)) (sym e) (every_append (λ j. j < n) ps is h g)
 both_below n ps is (Err a) h g e = tt
 
 module _ (ts : List Tree) (c : Connective) where

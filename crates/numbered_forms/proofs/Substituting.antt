@@ -1,15 +1,15 @@
 -- Steps of the walk that puts terms in the place of a binder's variables.
-use Rattle.std.proofs.Common.{◌≡◌, sym, ap, ◌∙◌, ℕ, ◌+◌, ◌<◌, Some, None, Result, Ok, Err, OnOk, List, [], ◌∷◌, reverse, length}
+use Rattle.std.proofs.Common.{◌≡◌, sym, ap, ◌∙◌, ℕ, ◌+◌, ◌<◌, Some, None, List, [], ◌∷◌, reverse, length}
 use Rattle.std.proofs.lemmas.Grind.{reverse_onto}
 use Rattle.std.specs.List.{AllByRecursion}
 use Rattle.indexmap.proofs.ReorderLemmas.{map-reverse}
 use Rattle.logic_core.specs.Tree.{Tree, num, truth, free, bound, linear, mul, read, write, choose, call, negation, all, some, equal, at_most, for_all, exists}
 use Rattle.logic_core.specs.Substitute.{bound_within, put_within, substitute}
+use Rattle.logic_core.proofs.EachOf.{every_append}
 use Rattle.term_bank.specs.Numbered.{at, Begins}
 use Rattle.term_bank.specs.Node.{tree_over, numbers_in}
 use Rattle.term_bank.specs.Table.{IsNodeAt}
 use Rattle.term_bank.specs.declared.node.Node.{Node}
-use Rattle.term_bank.proofs.NumberedLists.{all_append}
 use Rattle.numbered_terms.specs.Lists.{terms_at}
 use Rattle.numbered_terms.specs.Stored.{shape}
 use Rattle.numbered_terms.specs.Renumbered.{new_of, IsFound}
@@ -17,10 +17,6 @@ use Rattle.numbered_terms.proofs.WalkSteps.{walk_step}
 use Rattle.numbered_forms.specs.Binders.{as_bound, binders}
 use Rattle.numbered_forms.proofs.LongerStores.{terms_stay}
 use Rattle.numbered_forms.proofs.Putting.{put_node}
-
-pub always : {A E P : Type 0} (r : Result A E) → P → OnOk r P
-always (Ok a) p = p
-always (Err e) p = tt
 
 -- a bound variable becomes what stands for it
 pub bound_put : (args : List Tree) (d v : ℕ) (t : Tree) → as_bound t ≡ Some v → bound_within args d v ≡ put_within args d t
@@ -58,7 +54,7 @@ module _ (ts : List Tree) (args : List Tree) (d k id : ℕ) (found : List (ℕ �
 -- numbers in reverse
 pub all_reversed : (P : ℕ → Type 0) (xs : List ℕ) → AllByRecursion P xs → AllByRecursion P (reverse xs)
 all_reversed P [] h = tt
-all_reversed P (x ∷ xs) h = rw (reverse_onto xs x []) (all_append P (reverse xs) (x ∷ []) (all_reversed P xs h.1) (h.0, tt))
+all_reversed P (x ∷ xs) h = rw (reverse_onto xs x []) (every_append P (reverse xs) (x ∷ []) (all_reversed P xs h.1) (h.0, tt))
 
 pub put_reversed : (ts : List Tree) (is : List ℕ) (t : Tree) → put_within (terms_at ts (reverse is)) 0 t ≡ substitute t (terms_at ts is)
 put_reversed ts is t = ap (λ args. put_within args 0 t) (map-reverse (at ts) is)

@@ -9,8 +9,8 @@ use Rattle.logic_core.specs.Def.{Def}
 use Rattle.logic_core.specs.Same.{same_term}
 use Rattle.logic_core.specs.Sorts.{is, sort_of}
 use Rattle.logic_core.specs.Wide.{◌>>=◌, when}
+use Rattle.logic_core.proofs.EachOf.{every_append}
 use Rattle.term_bank.specs.Numbered.{at}
-use Rattle.term_bank.proofs.NumberedLists.{all_append}
 use Rattle.quantifier_triggers.specs.Match.{Found, each_found, tuple_of, taken, variable}
 use Rattle.numbered_instances.specs.Finding.{found_at, each_number, IsSomeBelow, IsFoundBelow}
 

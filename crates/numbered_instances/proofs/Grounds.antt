@@ -5,19 +5,20 @@ use Rattle.std.proofs.lemmas.List.{map-append, append-nil, take_all}
 use Rattle.std.proofs.lemmas.List.Concat.{flat_map-append}
 use Rattle.logic_core.specs.Tree.{Tree}
 use Rattle.logic_core.specs.Subterm.{outside}
+use Rattle.logic_core.proofs.EachOf.{every_append}
 use Rattle.tableau_branch.specs.Branch.{Fact}
 use Rattle.tableau_branch.specs.Oriented.{is_application}
 use Rattle.tableau_branch.proofs.Lists.{take_item}
 use Rattle.logic_rules.specs.Instantiating.{each_once, applications_in}
 use Rattle.term_bank.specs.Numbered.{at, Begins}
 use Rattle.term_bank.proofs.Numbers.{begins_at}
-use Rattle.term_bank.proofs.NumberedLists.{all_append}
 use Rattle.numbered_terms.specs.Stored.{AreStored}
 use Rattle.numbered_forms.proofs.LongerStores.{terms_stay, numbers_stay}
 use Rattle.numbered_facts.specs.Answers.{AreAt}
+use Rattle.numbered_facts.proofs.EachOnce.{once_append, once_twice}
 use Rattle.numbered_branches.specs.Branches.{NumberedFact, fact_at}
 use Rattle.numbered_branches.specs.Counts.{once}
-use Rattle.numbered_branches.proofs.EachOnce.{once_append, once_twice, once_numbers}
+use Rattle.numbered_branches.proofs.EachOnce.{once_numbers}
 
 once_below : (n : ℕ) (seen is : List ℕ) → AllByRecursion (λ i. i < n) seen → AllByRecursion (λ i. i < n) is → AllByRecursion (λ i. i < n) (once seen is)
 once_below n seen [] h g = h
@@ -25,7 +26,7 @@ once_below n seen (i ∷ is) h g = once_below n (cond (list_any (nat_eq i) seen)
   where
     by : (b : Bool) → AllByRecursion (λ j. j < n) (cond b seen (seen ++ i ∷ []))
     by true = h
-    by false = all_append (λ j. j < n) seen (i ∷ []) h (g.0, tt)
+    by false = every_append (λ j. j < n) seen (i ∷ []) h (g.0, tt)
 
 twice : (before more : List Tree) → each_once (each_once [] before) (each_once [] more) ≡ each_once [] (before ++ more)
 twice before more = ap (each_once (each_once [] before)) (sym (append-nil (each_once [] more))) ∙ once_twice (each_once [] before) more [] ∙ ap (each_once (each_once [] before)) (append-nil more) ∙ sym (once_append [] before more)

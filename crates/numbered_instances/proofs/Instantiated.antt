@@ -8,10 +8,10 @@ use Rattle.logic_core.specs.declared.fault.NormalFault.TheVariants.{Wide}
 use Rattle.logic_core.specs.Tree.{Tree}
 use Rattle.logic_core.specs.Normal.{normal}
 use Rattle.logic_core.specs.Substitute.{substitute}
+use Rattle.logic_core.proofs.EachOf.{every_append}
 use Rattle.proof_core.specs.Proof.{by_instantiate}
 use Rattle.term_bank.specs.Numbered.{at}
 use Rattle.term_bank.proofs.Numbers.{begins_at}
-use Rattle.term_bank.proofs.NumberedLists.{all_append}
 use Rattle.tableau_branch.specs.Branch as branch
 use Rattle.tableau_branch.specs.Move as move
 use Rattle.tableau_branch.specs.OneBranch.{adding}
@@ -43,7 +43,7 @@ module _ (n m : Numbered) (g : Grows n m) (b : NumberedBranch) (over : IsBranchO
 
   pub marked_over : IsBranchOver m.terms (marked b fact.term tuple)
   marked_over = let r = (branch_more n.terms m.terms g.terms b over).0 in
-      record { facts = r.facts; calls = r.calls; marks = all_append (IsMarkOver m.terms) b.marks (mark ∷ []) r.marks ((mark_stays n.terms m.terms g.terms mark found).0, tt) }
+      record { facts = r.facts; calls = r.calls; marks = every_append (IsMarkOver m.terms) b.marks (mark ∷ []) r.marks ((mark_stays n.terms m.terms g.terms mark found).0, tt) }
 
   marked_is : branch_at m.terms (marked b fact.term tuple) ≡ with_mark (mark_of (candidate_of n.terms fact tuple)) (branch_at n.terms b)
   marked_is =

@@ -5,9 +5,9 @@ use Rattle.std.specs.declared.alloc.Global.{Global}
 use Rattle.std.proofs.lemmas.List.{map-append, append-nil, append_assoc}
 use mathlib.Core.List.{reverse-cons}
 use Rattle.logic_core.specs.Tree.{Tree}
+use Rattle.logic_core.proofs.EachOf.{every_append}
 use Rattle.term_bank.specs.Numbered.{at}
 use Rattle.term_bank.specs.Node.{in_lists}
-use Rattle.term_bank.proofs.NumberedLists.{all_append}
 use Rattle.quantifier_triggers.specs.Match.{each_found, tuple_of}
 use Rattle.numbered_terms.specs.Lists.{lists_at}
 use Rattle.numbered_instances.specs.Finding.{found_at, each_number, IsSomeBelow, IsFoundBelow}
@@ -18,7 +18,7 @@ map_reverse f (x ∷ xs) = ap (map f) (reverse-cons x xs) ∙ map-append f (reve
 
 pub all_reverse : {A : Type 0} (P : A → Type 0) (xs : List A) → AllByRecursion P xs → AllByRecursion P (reverse xs)
 all_reverse P [] h = tt
-all_reverse P (x ∷ xs) h = subst (AllByRecursion P) (sym (reverse-cons x xs)) (all_append P (reverse xs) (x ∷ []) (all_reverse P xs h.1) (h.0, tt))
+all_reverse P (x ∷ xs) h = subst (AllByRecursion P) (sym (reverse-cons x xs)) (every_append P (reverse xs) (x ∷ []) (all_reverse P xs h.1) (h.0, tt))
 
 one_more : (ts : List Tree) (i : ℕ) (o : Option (List ℕ)) → option_map (map (at ts)) (option_map (λ is. i ∷ is) o) ≡ option_map (λ us. at ts i ∷ us) (option_map (map (at ts)) o)
 one_more ts i None = refl
@@ -77,7 +77,7 @@ tuple_passed ts b vs o made is = sym (append-nil (lists_at ts vs))
 
 pub pushed_below : (n : ℕ) (b : List (Option ℕ)) (vs ws : List (Vec ℕ Global)) (v : Vec ℕ Global) (o : Option (Vec ℕ Global)) → IsFoundBelow n b → ws ≡ vs ++ v ∷ [] → option_map (λ (x : Vec ℕ Global). x.items) o ≡ option_map reverse (each_number b) → o ≡ Some v
     → AllByRecursion (λ j. j < n) (in_lists vs) → AllByRecursion (λ j. j < n) (in_lists ws)
-pushed_below n b vs ws v o h e made is below = subst (AllByRecursion (λ j. j < n)) (sym (ap in_lists e ∙ in_append vs (v ∷ []))) (all_append (λ j. j < n) (in_lists vs) (in_lists (v ∷ [])) below
+pushed_below n b vs ws v o h e made is below = subst (AllByRecursion (λ j. j < n)) (sym (ap in_lists e ∙ in_append vs (v ∷ []))) (every_append (λ j. j < n) (in_lists vs) (in_lists (v ∷ [])) below
     (subst (AllByRecursion (λ j. j < n)) (sym (append-nil v.items)) (tuple_below n b v.items h (sym made ∙ ap (option_map (λ (x : Vec ℕ Global). x.items)) is))))
 
 -- what comes of the terms found, where the pattern matches, and where it doesn't

@@ -15,26 +15,11 @@ use Rattle.logic_rules.specs.Instantiating.{same_mark}
 use Rattle.numbered_terms.specs.At.{IsAt}
 use Rattle.numbered_terms.specs.Lists.{terms_at}
 use Rattle.numbered_terms.specs.Stored.{AreStored}
+use Rattle.numbered_terms.proofs.Inserting.{inserted}
 use Rattle.numbered_forms.proofs.LongerStores.{terms_stay}
 use Rattle.numbered_branches.specs.Branches.{NumberedMark, IsMarkOver, IsTuple, mark_at, terms_in}
 use Rattle.numbered_branches.proofs.Changing.{one_mark}
 use Rattle.numbered_instances.specs.Instances.{is_new, is_marked}
-
--- a number that is there, and one more number in a set
-same_there : (i j : ℕ) (is : List ℕ) → nat_eq j i ≡ true → list_any (nat_eq i) is ≡ true → list_any (nat_eq j) is ≡ true
-same_there i j is e h = ap (λ k. list_any (nat_eq k) is) (eqb-true j i e) ∙ h
-
-absorbed : (b c : Bool) → (c ≡ true → b ≡ true) → b ≡ (b || c)
-absorbed true c h = refl
-absorbed false true h = h refl
-absorbed false false h = refl
-
-pub inserted : (i j : ℕ) (is js : List ℕ) → js ≡ cond (list_any (nat_eq i) is) is (is ++ i ∷ []) → list_any (nat_eq j) js ≡ (list_any (nat_eq j) is || nat_eq j i)
-inserted i j is js e = ap (list_any (nat_eq j)) e ∙ by (list_any (nat_eq i) is) refl
-  where
-    by : (b : Bool) → list_any (nat_eq i) is ≡ b → list_any (nat_eq j) (cond b is (is ++ i ∷ [])) ≡ (list_any (nat_eq j) is || nat_eq j i)
-    by true g = absorbed (list_any (nat_eq j) is) (nat_eq j i) (λ k. same_there i j is k g)
-    by false g = any_append (nat_eq j) is (i ∷ []) ∙ ap (λ d. list_any (nat_eq j) is || d) (or_false (nat_eq j i))
 
 other_way : (i j : ℕ) → nat_eq i j ≡ nat_eq j i
 other_way i j = by (nat_eq i j) refl

@@ -1,31 +1,25 @@
 -- Facts of which none closes a branch, as the store goes on and as more facts join them.
-use Rattle.std.proofs.Common.{◌≡◌, refl, sym, ap, subst, ◌∙◌, true≢false, ℕ, ◌<◌, nat_eq, Bool, true, false, cond, ◌||◌, Option, Some, None, List, [], ◌∷◌, ◌++◌, map, find, length, arith, Result, Ok, Err}
-use Rattle.std.specs.Prelude.{OnOk}
+use Rattle.std.proofs.Common.{◌≡◌, refl, sym, ap, subst, ◌∙◌, true≢false, ℕ, ◌<◌, nat_eq, Bool, true, false, cond, ◌||◌, Option, Some, None, List, [], ◌∷◌, ◌++◌, map, find, length, arith}
 use Rattle.std.specs.List.{list_any, AllByRecursion}
 use Rattle.std.proofs.lemmas.Bool.{eq-eqb, eqb-true, ne_eqb}
 use Rattle.std.proofs.lemmas.List.{map-append}
 use Rattle.logic_core.specs.Tree.{Tree}
 use Rattle.logic_core.specs.Same.{same_term, is_some_and}
 use Rattle.logic_core.specs.Junction.{negated, is_truth}
-use Rattle.logic_core.proofs.Anywhere.{any_append}
-use Rattle.logic_core.proofs.Booleans.{or_false}
+use Rattle.logic_core.proofs.EachOf.{every_append}
+use Rattle.logic_core.proofs.Booleans.{none_of}
 use Rattle.proof_core.specs.Close.{is_negation_of}
 use Rattle.term_bank.specs.Numbered.{at, Begins}
 use Rattle.term_bank.proofs.Numbers.{begins_at, begins_length}
-use Rattle.term_bank.proofs.NumberedLists.{all_append}
 use Rattle.logic_rules.specs.Closing.{are_opposed, pair_from}
 use Rattle.logic_rules.proofs.Pairs.{pairs_later}
 use Rattle.numbered_terms.specs.Stored.{AreStored}
+use Rattle.numbered_terms.proofs.Inserting.{inserted}
 use Rattle.numbered_facts.specs.Answers.{StandsFor}
+use Rattle.numbered_facts.proofs.EachOnce.{same_number}
 use Rattle.numbered_branches.specs.Branches.{NumberedFact, fact_at}
-use Rattle.numbered_branches.proofs.EachOnce.{same_number}
 use Rattle.numbered_logic.specs.Apart.{is_among, IsAmong, AreStill, IsListed, IsApart}
 use Rattle.numbered_logic.proofs.Later.{stands_later}
-
--- what is so is so of an Ok
-pub on_ok : {A E P : Type 0} (r : Result A E) → P → OnOk r P
-on_ok (Ok a) h = h
-on_ok (Err e) h = tt
 
 abbrev All : List Tree → List ℕ → List ℕ → Type 0
 All ts facts negations = (i : ℕ) → list_any (nat_eq i) facts ≡ true → IsApart ts negations i
@@ -39,25 +33,9 @@ apart_later ts us b facts negations h i there = let a = h i there in let same = 
   negation = (a.negation.0, (stands_later ts us a.negation.0 (negated (at ts i)) (negated (at us i)) b (ap negated (sym same)) a.negation.1.0, a.negation.1.1));
 }
 
--- one number more in a set
-pub inserted : (i j : ℕ) (is js : List ℕ) → js ≡ cond (list_any (nat_eq i) is) is (is ++ i ∷ []) → list_any (nat_eq j) js ≡ (list_any (nat_eq j) is || nat_eq j i)
-inserted i j is js e = ap (list_any (nat_eq j)) e ∙ by (list_any (nat_eq i) is) refl
-  where
-    has : (x : Bool) → nat_eq j i ≡ x → list_any (nat_eq i) is ≡ true → list_any (nat_eq j) is ≡ (list_any (nat_eq j) is || x)
-    has false q h = sym (or_false (list_any (nat_eq j) is))
-    has true q h = let there : list_any (nat_eq j) is ≡ true = ap (λ n. list_any (nat_eq n) is) (eqb-true j i q) ∙ h in there ∙ sym (ap (λ x. x || true) there)
-
-    by : (b : Bool) → list_any (nat_eq i) is ≡ b → list_any (nat_eq j) (cond b is (is ++ i ∷ [])) ≡ (list_any (nat_eq j) is || nat_eq j i)
-    by true h = has (nat_eq j i) refl h
-    by false h = any_append (nat_eq j) is (i ∷ []) ∙ ap (λ b. list_any (nat_eq j) is || b) (or_false (nat_eq j i))
-
 still : (a b : Bool) → a ≡ true → (a || b) ≡ true
 still true b h = refl
 still false b h = absurd (true≢false (sym h))
-
-neither : (a b : Bool) → a ≡ false → b ≡ false → (a || b) ≡ false
-neither true b h g = absurd (true≢false h)
-neither false b h g = g
 
 pub one_of : {R : Type 0} (a b : Bool) → (a ≡ true → R) → (b ≡ true → R) → (a || b) ≡ true → R
 one_of true b f g h = f refl
@@ -86,7 +64,7 @@ module _ (ts : List Tree) (facts negations : List ℕ) (apart : All ts facts neg
     negation_more h i there = let a = apart i there in record {
       within = a.within;
       truth = a.truth;
-      lacking = more i ∙ neither (list_any (nat_eq i) negations) (is_some_and o (nat_eq i)) a.lacking (other o h i there);
+      lacking = more i ∙ none_of (list_any (nat_eq i) negations) (is_some_and o (nat_eq i)) a.lacking (other o h i there);
       negation = (a.negation.0, (a.negation.1.0, among_still a.negation.0 a.negation.1.1));
     }
 
@@ -138,7 +116,7 @@ module _ (ts : List Tree) (stored : AreStored ts) (facts negations : List ℕ) (
   none_from before [] hb h = refl
   none_from before (f ∷ fs) hb h = pairs_later (map (fact_at ts) before) (fact_at ts f) (map (fact_at ts) fs) (none_found f h.0 before hb) (apart f.term h.0).truth
       ∙ ap (λ bs. pair_from bs (map (fact_at ts) fs)) (sym (map-append (fact_at ts) before (f ∷ [])))
-      ∙ none_from (before ++ f ∷ []) fs (all_append (IsListed facts) before (f ∷ []) hb (h.0, tt)) h.1
+      ∙ none_from (before ++ f ∷ []) fs (every_append (IsListed facts) before (f ∷ []) hb (h.0, tt)) h.1
 
   pub none_close : (fs : List NumberedFact) → AllByRecursion (IsListed facts) fs → pair_from [] (map (fact_at ts) fs) ≡ None
   none_close fs h = none_from [] fs tt h

@@ -5,9 +5,9 @@ use Rattle.std.proofs.lemmas.List.{map-append}
 use Rattle.std.proofs.lemmas.Result.{IfOk-weaker}
 use Rattle.logic_core.specs.Tree.{Tree}
 use Rattle.logic_core.specs.Def.{Def}
+use Rattle.logic_core.proofs.EachOf.{every_append}
 use Rattle.logic_rules.specs.Unfolding.{is_plain, with_seen, with_call}
 use Rattle.term_bank.specs.Numbered.{at}
-use Rattle.term_bank.proofs.NumberedLists.{all_append}
 use Rattle.numbered_branches.specs.Branches.{NumberedBranch, branch_at, IsBranchOver}
 
 module _ (ts : List Tree) (b : NumberedBranch) (call : ℕ) (low : call < length ts) (over : IsBranchOver ts b) where
@@ -18,7 +18,7 @@ module _ (ts : List Tree) (b : NumberedBranch) (call : ℕ) (low : call < length
   seen_at = ap (λ us. record (branch_at ts b) { calls = us }) (map-append (at ts) b.calls (call ∷ []))
 
   over_seen : IsBranchOver ts seen
-  over_seen = record { facts = over.facts; calls = all_append (λ i. i < length ts) b.calls (call ∷ []) over.calls (low, tt); marks = over.marks }
+  over_seen = record { facts = over.facts; calls = every_append (λ i. i < length ts) b.calls (call ∷ []) over.calls (low, tt); marks = over.marks }
 
   pub seen_over : {E : Type 0} (r : Result NumberedBranch E) → IfOk r (λ c. c ≡ record b { calls = b.calls ++ call ∷ [] }) → IfOk r (λ c. IsBranchOver ts c)
   seen_over r h = IfOk-weaker r (λ c. c ≡ seen) (λ c. IsBranchOver ts c) (λ c e. subst (IsBranchOver ts) (sym e) over_seen) h

@@ -8,8 +8,8 @@ use Rattle.logic_core.specs.Tree.{Tree}
 use Rattle.logic_core.specs.Wide.{◌>>=◌}
 use Rattle.logic_core.specs.declared.fault.NormalFault.{NormalFault}
 use Rattle.logic_core.specs.declared.fault.NormalFault.TheVariants.{Wide}
+use Rattle.logic_core.proofs.EachOf.{every_append}
 use Rattle.term_bank.specs.Numbered.{at, Begins}
-use Rattle.term_bank.proofs.NumberedLists.{all_append}
 use Rattle.tableau_branch.specs.Branch.{each}
 use Rattle.tableau_branch.proofs.Lists.{drop_item}
 use Rattle.numbered_logic.specs.Forms.{GiveAt}
@@ -20,7 +20,7 @@ shifted None vs v = refl
 shifted (Some ws) vs v = ap Some (sym (append_assoc vs (v ∷ []) ws))
 
 pub given_low : (us ws : List Tree) (forms forms' : List ℕ) (y : ℕ) → Begins us ws → AllByRecursion (λ j. j < length us) forms → y < length ws → forms' ≡ forms ++ y ∷ [] → AllByRecursion (λ j. j < length ws) forms'
-given_low us ws forms forms' y b low l pushed = rw pushed (all_append (λ j. j < length ws) forms (y ∷ []) (more_within us ws b forms low) (l, tt))
+given_low us ws forms forms' y b low l pushed = rw pushed (every_append (λ j. j < length ws) forms (y ∷ []) (more_within us ws b forms low) (l, tt))
 
 module _ (f : Tree → Option Tree) (ts : List Tree) (ids : List ℕ) where
   abbrev rest : ℕ → Option (List Tree)

@@ -4,8 +4,8 @@ use Rattle.std.specs.List.{AllByRecursion}
 use Rattle.std.specs.declared.alloc.Global.{Global}
 use Rattle.std.proofs.lemmas.List.{take_more, take_all}
 use Rattle.logic_core.proofs.Mentioned.{all_left, all_right}
+use Rattle.logic_core.proofs.EachOf.{every_append}
 use Rattle.term_bank.specs.Node.{in_lists}
-use Rattle.term_bank.proofs.NumberedLists.{all_append}
 use Rattle.numbered_terms.specs.Lists.{AtomsBelow}
 
 pub item_at : (P : ℕ → Type 0) (xs : List ℕ) (i d : ℕ) → AllByRecursion P xs → i < length xs → P (get_or xs i d)
@@ -39,7 +39,7 @@ all_lower m n (x ∷ xs) l h = (omega (arith, l, h.0), all_lower m n xs l h.1)
 
 -- what holds of the items so far, and of one more
 pub one_more : (P : ℕ → Type 0) (xs : List ℕ) (i x : ℕ) → i < length xs → x ≡ get_or xs i x → AllByRecursion P (take i xs) → P x → AllByRecursion P (take (i + 1) xs)
-one_more P xs i x l e h p = subst (AllByRecursion P) (sym (take_more xs i x l)) (all_append P (take i xs) (get_or xs i x ∷ []) h (subst P e p, tt))
+one_more P xs i x l e h p = subst (AllByRecursion P) (sym (take_more xs i x l)) (every_append P (take i xs) (get_or xs i x ∷ []) h (subst P e p, tt))
 
 -- and at the end
 pub all_done : (P : ℕ → Type 0) (xs : List ℕ) (i : ℕ) → length xs ≤ i → AllByRecursion P (take i xs) → AllByRecursion P xs

@@ -11,3 +11,5 @@ pub mod Items
 pub mod Replacing
 pub mod Rows
 pub mod FlagsKept
+pub mod Inserting
+pub mod Results

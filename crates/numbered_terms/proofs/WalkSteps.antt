@@ -5,11 +5,11 @@ use Rattle.std.specs.declared.alloc.Global.{Global}
 use Rattle.logic_core.specs.Tree.{Tree, num, truth, free, bound, linear, mul, read, write, choose, call, negation, all, some, equal, at_most, for_all, exists, Trees, no_trees, tree, Parts, no_parts, part, Patterns, no_patterns, pattern}
 use Rattle.logic_core.specs.View.{trees_of, parts_of, patterns_of}
 use Rattle.logic_core.proofs.Mentioned.{all_left, all_right}
+use Rattle.logic_core.proofs.EachOf.{every_append}
 use Rattle.term_bank.specs.declared.node.Node.{Node}
 use Rattle.term_bank.specs.declared.node.Node.TheVariants.{Num, Truth, Free, Bound, Sum, Mul, Read, Write, If, Call, Not, And, Or, Eq, Le, ForAll, Exists}
 use Rattle.term_bank.specs.Numbered.{at}
 use Rattle.term_bank.specs.Node.{tree_over, in_lists, numbers_in}
-use Rattle.term_bank.proofs.NumberedLists.{all_append}
 use Rattle.numbered_terms.specs.Stored.{shape}
 use Rattle.numbered_terms.specs.Renumbered.{new_of, IsFound}
 use Rattle.numbered_terms.proofs.Renumbering.{renumbered_term}
@@ -117,7 +117,7 @@ module _ (P : ℕ → Type 0) where
 
     lists_back : (ps : List (Vec ℕ Global)) → ListsHave (patterns_of (map (λ (p : Vec ℕ Global). map of p.items) ps)) → AllByRecursion Q (in_lists ps)
     lists_back [] h = tt
-    lists_back (p ∷ ps) h = all_append Q p.items (in_lists ps) (each_back p.items h.0) (lists_back ps h.1)
+    lists_back (p ∷ ps) h = every_append Q p.items (in_lists ps) (each_back p.items h.0) (lists_back ps h.1)
 
     parts_to : (m : Node) → AllByRecursion Q (numbers_in m) → PartsHave (tree_over of m)
     parts_to (Num n) h = tt

@@ -26,6 +26,18 @@ impl Model for NumberSet {
     ghost invariant = { λ a. AreFlags a.members.items a.flags.items };
 }
 
+/// Whether the number is among these.
+pub fn is_among(id: TermId, ids: &[TermId]) -> bool
+    ensures { result ≡ list_any (nat_eq id) ids.now }
+{
+    for other in ids {
+        if id == *other {
+            return true;
+        }
+    }
+    false
+}
+
 // Whether the number's flag is set.
 fn flag(flags: &[bool], id: TermId) -> bool
     ensures { result ≡ get_or flags.now id false }

@@ -4,12 +4,12 @@ use Rattle.std.specs.Ordering.{int_eq}
 use Rattle.logic_core.specs.Tree.{Tree}
 use Rattle.logic_core.specs.View.{parts_of}
 use Rattle.logic_core.specs.Same.{same_parts}
+use Rattle.numbered_facts.proofs.EachOnce.{same_number}
 use Rattle.theory_rules.specs.Combining.{opposite_parts}
 use Rattle.theory_rules.specs.Counting.{counted_parts}
 use Rattle.numbered_terms.specs.Lists.{atoms_at, AtomsBelow}
 use Rattle.numbered_terms.specs.Shaped.{shaped_atoms}
 use Rattle.numbered_terms.specs.Stored.{AreStored}
-use Rattle.numbered_branches.proofs.EachOnce.{same_number}
 
 module _ (ts : List Tree) (stored : AreStored ts) where
   parts_apart : (ps qs : List (ℤ × ℕ)) → AtomsBelow (length ts) ps → AtomsBelow (length ts) qs → same_parts (parts_of (shaped_atoms ps)) (parts_of (shaped_atoms qs)) ≡ same_parts (parts_of (atoms_at ts ps)) (parts_of (atoms_at ts qs))

@@ -2,8 +2,8 @@
 use Rattle.std.proofs.Common.{◌≡◌, sym, subst, ◌∙◌, ℕ, List, ◌++◌, length}
 use Rattle.std.specs.List.{AllByRecursion}
 use Rattle.std.proofs.lemmas.List.{map-append}
+use Rattle.logic_core.proofs.EachOf.{every_append}
 use Rattle.term_bank.specs.Numbered.{at}
-use Rattle.term_bank.proofs.NumberedLists.{all_append}
 use Rattle.numbered_terms.specs.Stored.{Numbered, Grows}
 use Rattle.numbered_branches.specs.Branches.{NumberedFact}
 use Rattle.numbered_theory.specs.Counts.{counted_as, Counts}
@@ -16,7 +16,7 @@ use Rattle.numbered_theory.proofs.Entered.{entries_stay, entries_below}
 module _ (n m : Numbered) (es new : List Entry) (c : Often) (g : Grows n m) (h : AllByRecursion (IsEntryBelow (length n.terms)) es) where
   with_more : (t number : ℕ) → Counts m.terms c (entries_over n.vars n.defs (at n.terms t)) → new ≡ es ++ counted_as c number → AreEntriesAt m.terms new (entries_at n.terms es ++ entries_over n.vars n.defs (at n.terms t) number)
   with_more t number counts e = subst (λ (xs : List Entry). AreEntriesAt m.terms xs (entries_at n.terms es ++ entries_over n.vars n.defs (at n.terms t) number)) (sym e) (
-    all_append (IsEntryBelow (length m.terms)) es (counted_as c number) (entries_below n m g es h) (counts number).0,
+    every_append (IsEntryBelow (length m.terms)) es (counted_as c number) (entries_below n m g es h) (counts number).0,
     map-append (entry_at m.terms) es (counted_as c number) ∙ (λ k. entries_stay n m g es h k ++ (counts number).1 k),
   )
 

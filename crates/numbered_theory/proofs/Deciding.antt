@@ -3,8 +3,8 @@ use Rattle.std.proofs.Common.{◌≡◌, refl, sym, ap, subst, ◌∙◌, ℕ, �
 use Rattle.std.specs.List.{list_any}
 use Rattle.logic_core.specs.Tree.{Tree}
 use Rattle.logic_core.specs.Normal.{normal}
+use Rattle.logic_core.proofs.EachOf.{every_append}
 use Rattle.term_bank.specs.Numbered.{at}
-use Rattle.term_bank.proofs.NumberedLists.{all_append}
 use Rattle.tableau_branch.specs.Branch.{Branch, At, Attempt, none, each, unless_wide, without}
 use Rattle.tableau_branch.specs.Cases.{case}
 use Rattle.tableau_branch.specs.Change.{Made}
@@ -125,7 +125,7 @@ made_later n m x y g h = let more = made_more n.terms m.terms g.terms x h.0 in (
 -- the branch without a fact
 without_stands : (ts : List Tree) (b : NumberedBranch) (i : ℕ) → IsBranchOver ts b → IsBranchAt ts (with_facts b (take i b.facts ++ drop (i + 1) b.facts)) (without i (branch_at ts b))
 without_stands ts b i h = let P = IsFactBelow (length ts) in (
-  record { facts = all_append P (take i b.facts) (drop (i + 1) b.facts) (all_take P i b.facts h.facts) (all_drop P (i + 1) b.facts h.facts); calls = h.calls; marks = h.marks },
+  record { facts = every_append P (take i b.facts) (drop (i + 1) b.facts) (all_take P i b.facts h.facts) (all_drop P (i + 1) b.facts h.facts); calls = h.calls; marks = h.marks },
   without_one ts b i,
 )
 

@@ -1,5 +1,5 @@
 -- Lead atoms that are noted, and facts that none of them meets.
-use Rattle.std.proofs.Common.{◌≡◌, refl, sym, ap, subst, ◌∙◌, ℕ, ◌<◌, ℤ, nat_eq, Bool, true, false, true≢false, ◌&&◌, ◌||◌, Option, Some, None, IfSome, option_map, Result, Ok, Err, OnOk, List, [], ◌∷◌, length}
+use Rattle.std.proofs.Common.{◌≡◌, refl, sym, ap, subst, ◌∙◌, ℕ, ◌<◌, ℤ, nat_eq, Bool, true, false, true≢false, ◌&&◌, ◌||◌, Option, Some, None, IfSome, option_map, List, [], ◌∷◌, length}
 use Rattle.std.specs.List.{list_any, AllByRecursion}
 use Rattle.std.proofs.lemmas.Bool.{eqb-true}
 use Rattle.logic_core.specs.Tree.{Tree}
@@ -7,23 +7,15 @@ use Rattle.logic_core.specs.Same.{same_term}
 use Rattle.logic_core.specs.Combine.{lead, sum_of}
 use Rattle.logic_core.proofs.Booleans.{neither, none_of}
 use Rattle.term_bank.specs.Numbered.{at}
+use Rattle.numbered_facts.proofs.EachOnce.{same_number}
 use Rattle.theory_rules.specs.Combining.{counted, is_positive, is_negative, are_opposite}
 use Rattle.theory_rules.specs.Counting.{counted_number}
 use Rattle.theory_rules.proofs.CountedForms.{lead_counted}
 use Rattle.numbered_terms.specs.Stored.{Numbered, Grows, AreStored}
-use Rattle.numbered_branches.proofs.EachOnce.{same_number}
 use Rattle.numbered_branches.proofs.Growing.{stays, below as in_longer}
 use Rattle.numbered_theory.specs.Entries.{entry_at, IsEntryBelow}
 use Rattle.numbered_theory.specs.Leads.{IsPut, meets, IsNoted}
 use Rattle.numbered_theory.specs.declared.entries.Entry.{Entry}
-
-pub anyway : {A E P : Type 0} (r : Result A E) → P → OnOk r P
-anyway (Ok a) h = h
-anyway (Err e) h = tt
-
-pub all_also : {A : Type 0} (P Q : A → Type 0) → ((x : A) → P x → Q x) → (xs : List A) → AllByRecursion P xs → AllByRecursion Q xs
-all_also P Q f [] h = tt
-all_also P Q f (x ∷ xs) h = (f x h.0, all_also P Q f xs h.1)
 
 -- what two tests say where one narrows the other
 passed_by : (x y z : Bool) → (x ≡ true → z ≡ true) → (y && z) ≡ false → (x && y) ≡ false

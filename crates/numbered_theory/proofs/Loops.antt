@@ -1,16 +1,11 @@
 -- Loops that try one item after another, over lists of numbers, and faults that are returned.
-use Rattle.std.proofs.Common.{◌≡◌, refl, sym, ap, ◌∙◌, ℕ, ◌+◌, ◌<◌, Option, Some, None, Result, Ok, Err, OnOk, List, ◌∷◌, map, length, drop, get_or}
+use Rattle.std.proofs.Common.{◌≡◌, refl, sym, ap, ◌∙◌, ℕ, ◌+◌, ◌<◌, Option, Some, None, Result, Ok, Err, List, ◌∷◌, map, length, drop, get_or}
 use Rattle.std.specs.Result.{IsErrAnd}
 use Rattle.logic_core.specs.declared.fault.NormalFault.{NormalFault}
 use Rattle.tableau_branch.specs.Branch.{Attempt, none}
 use Rattle.tableau_branch.proofs.Lists.{drop_item}
 use Rattle.theory_rules.specs.Condition.{first_some}
 use Rattle.theory_rules.proofs.Attempting.{IsTaken, or_else, or_else_taken}
-
--- what follows where all went well
-pub on_ok : {A E P Q : Type 0} (r : Result A E) → (P → Q) → OnOk r P → OnOk r Q
-on_ok (Ok a) f h = f h
-on_ok (Err e) f h = tt
 
 -- the same fault is returned
 pub from_err : {A : Type 0} (R : Result A NormalFault → Type 0) (r : Result A NormalFault) (e : NormalFault) → IsErrAnd r (λ d. d ≡ e) → ((d : NormalFault) → d ≡ e → R (Err d)) → R r

@@ -10,9 +10,9 @@ use Rattle.tableau_branch.specs.Oriented.{is_application}
 use Rattle.tableau_branch.specs.Shapes.{is_access}
 use Rattle.tableau_branch.proofs.Lists.{filter_append}
 use Rattle.logic_rules.specs.Instantiating.{each_once}
+use Rattle.numbered_facts.proofs.EachOnce.{once_by}
 use Rattle.theory_rules.proofs.Attempting.{or_else, first_of_both}
 use Rattle.numbered_branches.proofs.Among.{filter_by}
-use Rattle.numbered_branches.proofs.EachOnce.{once_by}
 
 -- what is picked by a narrower test
 pub filter_twice : (p q : Tree → Bool) → ((t : Tree) → p t ≡ true → q t ≡ true) → (xs : List Tree) → filter p (filter q xs) ≡ filter p xs

@@ -3,8 +3,8 @@ use Rattle.std.proofs.Common.{◌≡◌, sym, ap, subst, ◌∙◌, ℕ, ◌+◌
 use Rattle.std.specs.List.{AllByRecursion}
 use Rattle.std.proofs.lemmas.List.{append-nil, map-append, append_assoc}
 use Rattle.logic_core.specs.Tree.{Tree}
+use Rattle.logic_core.proofs.EachOf.{every_append}
 use Rattle.term_bank.specs.Numbered.{at}
-use Rattle.term_bank.proofs.NumberedLists.{all_append}
 use Rattle.tableau_branch.specs.Branch.{Fact, At, places_from}
 use Rattle.tableau_branch.proofs.Lists.{drop_item}
 use Rattle.theory_rules.specs.Trichotomy.{at_most_forms, undecided_by}
@@ -46,4 +46,4 @@ undecided_put ts fs i f l e ss sides same are t is ps new o whole found put g =
 
 pub places_more : (n : ℕ) (fs : List NumberedFact) (i : ℕ) (f : NumberedFact) → AllByRecursion (IsFactBelow n) fs → i < length fs → f ≡ get_or fs i f → (ps new : List Place) (o : Option ℕ) → AllByRecursion (IsPlaceBelow n) ps → IfSome o (λ (d : ℕ). d < n) → new ≡ ps ++ placed i f o → AllByRecursion (IsPlaceBelow n) new
 places_more n fs i f low l e ps new None h k put = subst (AllByRecursion (IsPlaceBelow n)) (sym (put ∙ append-nil ps)) h
-places_more n fs i f low l e ps new (Some d) h k put = subst (AllByRecursion (IsPlaceBelow n)) (sym put) (all_append (IsPlaceBelow n) ps (placed i f (Some d)) h (record { fact = all_at (IsFactBelow n) fs i f low l e; what = k }, tt))
+places_more n fs i f low l e ps new (Some d) h k put = subst (AllByRecursion (IsPlaceBelow n)) (sym put) (every_append (IsPlaceBelow n) ps (placed i f (Some d)) h (record { fact = all_at (IsFactBelow n) fs i f low l e; what = k }, tt))

@@ -5,8 +5,8 @@ use Rattle.std.proofs.lemmas.List.{append-nil, map-append, append_assoc}
 use Rattle.logic_core.specs.Tree.{Tree}
 use Rattle.logic_core.specs.Sum.{Linear}
 use Rattle.logic_core.specs.Combine.{sum_of}
+use Rattle.logic_core.proofs.EachOf.{every_append}
 use Rattle.term_bank.specs.Numbered.{at}
-use Rattle.term_bank.proofs.NumberedLists.{all_append}
 use Rattle.tableau_branch.proofs.Lists.{drop_item}
 use Rattle.theory_rules.specs.Trichotomy.{at_most_form, at_most_forms}
 use Rattle.numbered_branches.specs.Branches.{NumberedFact, fact_at}
@@ -30,4 +30,4 @@ module _ (ts : List Tree) (fs : List NumberedFact) (i : ℕ) (f : NumberedFact) 
 
 pub numbers_more : (n : ℕ) (ss new : List ℕ) (o : Option ℕ) → AllByRecursion (λ (j : ℕ). j < n) ss → IfSome o (λ (d : ℕ). d < n) → new ≡ ss ++ cons_option o [] → AllByRecursion (λ (j : ℕ). j < n) new
 numbers_more n ss new None h l e = subst (AllByRecursion (λ (j : ℕ). j < n)) (sym (e ∙ append-nil ss)) h
-numbers_more n ss new (Some d) h l e = subst (AllByRecursion (λ (j : ℕ). j < n)) (sym e) (all_append (λ (j : ℕ). j < n) ss (d ∷ []) h (l, tt))
+numbers_more n ss new (Some d) h l e = subst (AllByRecursion (λ (j : ℕ). j < n)) (sym e) (every_append (λ (j : ℕ). j < n) ss (d ∷ []) h (l, tt))

@@ -12,18 +12,16 @@ use Rattle.logic_core.specs.Renamed.{def_renamed, EachHas}
 use Rattle.logic_core.specs.Variables.{variables, calls, place_in}
 use Rattle.logic_core.proofs.FirstOccurrences.{all_occur}
 use Rattle.logic_core.proofs.Mentioned.{all_left, all_right, as_it_stands}
+use Rattle.logic_core.proofs.ThereIs.{There}
+use Rattle.logic_core.proofs.EachOf.{every_append, every_map, every_both}
 use Rattle.logic_laws.specs.RenamingLaws.{Covers, IsRenamedDef, IsRenamedObligation}
-use Rattle.logic_laws.proofs.SortedNumbers.{There, HasVariable, HasDefinition, mentions_there, formula_is_sorted, there_in_front, body_is_sorted}
+use Rattle.logic_laws.proofs.SortedNumbers.{HasVariable, HasDefinition, mentions_there, formula_is_sorted, there_in_front, body_is_sorted}
 use Rattle.logic_laws.proofs.RenamedValidity
 use Rattle.obligation_text.specs.Numbering.{body, definition_order, variable_order, numbered_terms}
 use Rattle.obligation_text.specs.Canonical.{picked, canonical}
 use Rattle.obligation_text.proofs.Places.{is_among, In, each_in, stands_there, one_place, picked_at}
-use Rattle.obligation_text.proofs.Lists.{every_append, variables_have, calls_have}
-use Rattle.obligation_text.proofs.Walk.{every_map, every_of, flat_to, flat_from, only_these, Walked, walk}
-
-every_both : {A : Type 0} (P Q : A → Type 0) (xs : List A) → AllByRecursion P xs → AllByRecursion Q xs → AllByRecursion (λ x. P x × Q x) xs
-every_both P Q [] h k = tt
-every_both P Q (x ∷ xs) h k = ((h.0, k.0), every_both P Q xs h.1 k.1)
+use Rattle.obligation_text.proofs.Lists.{variables_have, calls_have}
+use Rattle.obligation_text.proofs.Walk.{every_of, flat_to, flat_from, only_these, Walked, walk}
 
 of_mapped : {A B : Type 0} (P : B → Type 0) (f : A → B) (xs : List A) → AllByRecursion P (map f xs) → AllByRecursion (λ x. P (f x)) xs
 of_mapped P f [] h = tt

@@ -8,10 +8,7 @@ use Rattle.std.specs.List.{AllByRecursion}
 use Rattle.logic_core.specs.Tree.{Tree, num, truth, free, bound, linear, mul, read, write, choose, call, negation, all, some, equal, at_most, for_all, exists, Trees, no_trees, tree, Parts, no_parts, part, Patterns, no_patterns, pattern}
 use Rattle.logic_core.specs.Renamed.{EachHas, EachInTrees, EachInParts, EachInPatterns}
 use Rattle.logic_core.specs.Variables.{variables, variables_of_each, variables_of_parts, variables_of_patterns, calls, calls_of_each, calls_of_parts, calls_of_patterns}
-
-pub every_append : {A : Type 0} (P : A → Type 0) (xs ys : List A) → AllByRecursion P xs → AllByRecursion P ys → AllByRecursion P (xs ++ ys)
-every_append P [] ys h k = k
-every_append P (x ∷ xs) ys h k = (h.0, every_append P xs ys h.1 k)
+use Rattle.logic_core.proofs.EachOf.{every_append}
 
 module _ (V C : ℕ → Type 0) where
   abbrev Have : List ℕ → List ℕ → Type 0

@@ -6,8 +6,8 @@ use Rattle.logic_core.specs.Tree.{Tree, num, truth, free, bound, linear, mul, re
 use Rattle.logic_core.specs.Renamed.{both_renamed, each_both_renamed, parts_both_renamed, patterns_both_renamed, EachHas, EachInTrees, EachInParts, EachInPatterns}
 use Rattle.logic_core.proofs.Mentioned.{as_it_stands}
 use Rattle.obligation_text.proofs.Lists.{variables_have, calls_have}
-use Rattle.obligation_text.proofs.Walk.{every_map}
 use Rattle.logic_core.specs.Variables.{mentions, each_mentions, parts_mention, patterns_mention, itself, none_of, variables, calls}
+use Rattle.logic_core.proofs.EachOf.{every_map}
 
 pub two_mapped : (h : ℕ → ℕ) (xs ys ns ms : List ℕ) → xs ≡ map h ns → ys ≡ map h ms → xs ++ ys ≡ map h (ns ++ ms)
 two_mapped h xs ys ns ms p q = (λ j. p j ++ q j) ∙ sym (map-append h ns ms)

@@ -9,11 +9,12 @@ use Rattle.logic_core.specs.Tree.{Tree, truth}
 use Rattle.logic_core.specs.Def.{Def, Obligation}
 use Rattle.logic_core.specs.Renamed.{both_renamed, def_renamed, EachHas}
 use Rattle.logic_core.specs.Variables.{variables, calls, joined, first_occurrences, place_in}
+use Rattle.logic_core.proofs.EachOf.{every_append, every_map}
 use Rattle.obligation_text.specs.Numbering.{body, visited, definition_order, numbered_terms, variable_order}
 use Rattle.obligation_text.specs.Canonical.{picked, renumbered, canonical}
 use Rattle.obligation_text.proofs.RenamedTerms.{renamed_calls, each_renamed_calls, each_renamed_variables, renamed_twice}
-use Rattle.obligation_text.proofs.Lists.{every_append, variables_have, calls_have}
-use Rattle.obligation_text.proofs.Walk.{every_map, flat_from}
+use Rattle.obligation_text.proofs.Lists.{variables_have, calls_have}
+use Rattle.obligation_text.proofs.Walk.{flat_from}
 
 none_there : (xs : List ℕ) → AllByRecursion (λ n. ⊥) xs → xs ≡ []
 none_there [] h = refl

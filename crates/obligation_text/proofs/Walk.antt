@@ -8,13 +8,9 @@ use Rattle.logic_core.specs.Def.{Def}
 use Rattle.logic_core.specs.Variables.{calls, joined, place_in}
 use Rattle.logic_core.proofs.FirstOccurrences.{joined_cases}
 use Rattle.logic_core.proofs.Mentioned.{all_left, all_right}
+use Rattle.logic_core.proofs.EachOf.{every_append, every_map}
 use Rattle.obligation_text.specs.Numbering.{body, visited}
 use Rattle.obligation_text.proofs.Places.{is_among, In, in_left, in_right, in_itself, in_one, in_first, stays_there, stands_below, new_place}
-use Rattle.obligation_text.proofs.Lists.{every_append}
-
-pub every_map : {A : Type 0} (P Q : A → Type 0) → ((x : A) → P x → Q x) → (xs : List A) → AllByRecursion P xs → AllByRecursion Q xs
-every_map P Q f [] h = tt
-every_map P Q f (x ∷ xs) h = (f x h.0, every_map P Q f xs h.1)
 
 pub every_of : (P : ℕ → Type 0) (xs : List ℕ) → ((v : ℕ) → In xs v → P v) → AllByRecursion P xs
 every_of P [] h = tt

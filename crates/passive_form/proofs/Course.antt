@@ -9,6 +9,7 @@ use mathlib.Core.Logic.{inl, inr}
 use Rattle.logic_core.specs.Tree.{Kind, Tree}
 use Rattle.logic_core.specs.Def.{Def}
 use Rattle.logic_core.specs.Value.{Value, are_of, at}
+use Rattle.logic_core.proofs.EachOf.{every_append}
 use Rattle.flow_core.specs.declared.mark.Mark.{Mark}
 use Rattle.flow_core.specs.declared.command.Command.{Command}
 use Rattle.flow_core.specs.declared.command.Command.TheVariants.{Assert, Assume, Assign, Havoc}
@@ -21,7 +22,7 @@ use Rattle.passive_form.specs.declared.made.Made.{Made}
 use Rattle.passive_form.specs.declared.done.Done.{Done}
 use Rattle.passive_form.specs.Incarnations.{Incarnations, incarnation, nothing_done, predecessors, disagree, read, also, perform, perform_all, new_at_join, equations_for, passive_block, passify}
 use Rattle.passive_form.specs.Kept.{MayBePassified}
-use Rattle.passive_form.proofs.Lists.{Prefix, prefix_next, prefix_length, prefix_get, contains_cases, contains_none, contains_first, contains_later, from_map, each_append, get_after, take_before}
+use Rattle.passive_form.proofs.Lists.{Prefix, prefix_next, prefix_length, prefix_get, contains_cases, contains_none, contains_first, contains_later, from_map, get_after, take_before}
 use Rattle.passive_form.proofs.Values.{at_kept, are_length}
 use Rattle.passive_form.proofs.Growing.{Grows, grows_all}
 use Rattle.passive_form.proofs.Commands.{Fits, Going, assert_goes, assert_breaks_there, assume_goes, assign_goes, havoc_goes}
@@ -181,7 +182,7 @@ module _ (defs : List Def) (vars : List Kind) (g : Graph) (may : MayBePassified 
   equations_each frees d (c ∷ cs) f =
       let here : List Command = equations_for d (slice_index_or Ends c nothing_done) in
       subst (AllHold defs frees) (sym (map-append formula_in here (equations_of d cs)))
-      (each_append (HoldsIn defs frees) (formulas here) (formulas (equations_of d cs)) (f c (contains_first c cs c refl)) (equations_each frees d cs (λ e k. f e (contains_later c cs e k))))
+      (every_append (HoldsIn defs frees) (formulas here) (formulas (equations_of d cs)) (f c (contains_first c cs c refl)) (equations_each frees d cs (λ e k. f e (contains_later c cs e k))))
 
   -- at its end a block's equations hold along the edge that the run takes, and no other edge has any
   ending : (b c : ℕ) → b < length g.blocks → Edge g.blocks b c → (sorts : List Kind) (dones : List Done) → (vals : List Value) (σ : State) (frees : State) → Moves (block_at g.blocks b).commands (doing g vars sorts dones b).0 vals σ → Prefix vals frees
@@ -228,7 +229,7 @@ module _ (defs : List Def) (vars : List Kind) (g : Graph) (may : MayBePassified 
       let holding : AllHold defs frees (formulas (passive_block_at (passify g vars).blocks b).commands) =
       subst (λ l. AllHold defs frees (formulas l)) (sym (passive_commands b here sorts dones before))
       (subst (AllHold defs frees) (sym (map-append formula_in r.0.commands eqs))
-      (each_append (HoldsIn defs frees) (formulas r.0.commands) (formulas eqs) (end.so_far frees o.out.begins)
+      (every_append (HoldsIn defs frees) (formulas r.0.commands) (formulas eqs) (end.so_far frees o.out.begins)
       (equations_each frees r.1 (block_at g.blocks b).next (ending b c here edge sorts dones vals σ frees end o.out.begins o.joined)))) in
       let next : Contains (passive_block_at (passify g vars).blocks b).next c = subst (λ (k : PassiveBlock). Contains k.next c) (sym (passive_at b here)) edge in
       record {

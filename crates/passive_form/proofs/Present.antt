@@ -9,13 +9,14 @@ use mathlib.Core.Logic.{inl, inr}
 use Rattle.logic_core.specs.Tree.{Kind, int, Tree, free, equal}
 use Rattle.logic_core.specs.Def.{Def}
 use Rattle.logic_core.specs.Value.{Value, flag, holds, same, is_of, are_of, at}
+use Rattle.logic_core.proofs.EachOf.{every_append}
 use Rattle.flow_core.specs.declared.command.Command.{Command}
 use Rattle.flow_core.specs.declared.command.Command.TheVariants.{Assume}
 use Rattle.flow_core.specs.State.{State, HoldsIn, AllHold, EvaluateTo, FitSorts, sorts_at, update}
 use Rattle.passive_form.specs.Passive.{formula_in, formulas}
 use Rattle.passive_form.specs.declared.made.Made.{Made}
 use Rattle.passive_form.specs.Incarnations.{incarnation, anew, also, assigned, havocked}
-use Rattle.passive_form.proofs.Lists.{Prefix, prefix_next, prefix_get, each_append, contains_cases}
+use Rattle.passive_form.proofs.Lists.{Prefix, prefix_next, prefix_get, contains_cases}
 use Rattle.passive_form.proofs.Monotone.{weaker, same_itself}
 use Rattle.passive_form.proofs.Values.{at_kept, at_next, at_set_same, at_set_other, are_length, are_append, are_set}
 
@@ -90,7 +91,7 @@ module _ (vars : List Kind) where
 
     pub so_far_also : (s : Made) (vals : List Value) (c : Command) → HoldSoFar s vals → ((frees : State) → Prefix vals frees → HoldsIn defs frees (formula_in c)) → HoldSoFar (also s c) vals
     so_far_also s vals c h one frees q =
-        subst (AllHold defs frees) (sym (map-append formula_in s.commands (c ∷ []))) (each_append (HoldsIn defs frees) (formulas s.commands) (formula_in c ∷ []) (h frees q) (one frees q, tt))
+        subst (AllHold defs frees) (sym (map-append formula_in s.commands (c ∷ []))) (every_append (HoldsIn defs frees) (formulas s.commands) (formula_in c ∷ []) (h frees q) (one frees q, tt))
 
     -- an equation of a place and a term whose value stands there
     equation_holds : (frees : State) (n : ℕ) (t : Tree) (w : Value) → at frees n ≡ w → EvaluateTo defs frees (t ∷ []) (w ∷ []) → HoldsIn defs frees (equal (free n) t)

@@ -1,5 +1,5 @@
 // The goals of a program, procedure by procedure, within the limits on all of them.
-ghost use Rattle.std.specs.Prelude.{◌≡◌, ◌+◌, ◌≤◌, ◌++◌, ◌∷◌, [], None, map, filter, flat_map, is_some, length, take, drop, Contains, IfErr, IfOk, OnOk};
+ghost use Rattle.std.specs.Prelude.{◌≡◌, ◌+◌, ◌++◌, ◌∷◌, [], None, map, filter, flat_map, is_some, length, Contains, IfErr, IfOk, OnOk};
 ghost use Rattle.std.specs.List.{AllByRecursion};
 ghost use Rattle.bpl_model.specs.NoGoto.{BodyHasNoGoto};
 ghost use Rattle.bpl_goto.specs.Forward.{AllGoForward};
@@ -10,6 +10,7 @@ ghost use Rattle.program_opening.specs.ProcGoals.{goals_by_proc, goal_counts};
 
 use bpl_goto::remove_gotos;
 use bpl_model::{Links, Mark, Module, Name, Proc};
+use bv_base::queue::taken;
 use obligation_text::Obligation;
 use std::alloc::{AllocError, Global};
 use std::collections::VecDeque;
@@ -109,21 +110,13 @@ fn shared(alloc: Global, goal: Goal) -> Result<SharedGoal, AllocError>
     })
 }
 
-// The first so many of the goals that are left.
-fn taken(
-    alloc: Global,
-    left: &mut VecDeque<Goal>,
-    count: usize,
-) -> Result<Vec<SharedGoal>, AllocError>
-    requires { count ≤ length left.old.items }
-    ensures taken { IfOk result (λ v. v.items ≡ take count left.old.items) }
-    ensures left { OnOk result (left.new.items ≡ drop count left.old.items) }
+// Goals whose obligations can be shared with a search.
+fn share_all(alloc: Global, goals: Vec<Goal>) -> Result<Vec<SharedGoal>, AllocError>
+    ensures { IfOk result (λ v. v.items ≡ goals.items) }
 {
     let mut own = Vec::new(alloc);
-    for _done in 0..count {
-        if let Some(goal) = left.pop_front() {
-            own.push(shared(alloc, goal)?)?;
-        }
+    for goal in goals {
+        own.push(shared(alloc, goal)?)?;
     }
     Ok(own)
 }
@@ -161,7 +154,7 @@ fn by_proc(
     let mut left = VecDeque::from_vec(goals);
     let mut found = Vec::new(alloc);
     for i in 0..procs.len() {
-        let own = taken(alloc, &mut left, counts[i])?;
+        let own = share_all(alloc, taken(alloc, &mut left, counts[i])?)?;
         push_proc(alloc, &mut found, &procs[i], own)?;
     }
     Ok(found)

@@ -10,7 +10,7 @@ use Rattle.proof_core.specs.Context.{Context, named, with_fact, appended, append
 use Rattle.proof_core.specs.Split.{cases, split_cases}
 use Rattle.proof_core.specs.Maps.{below_zero, at_zero, above_zero}
 use Rattle.proof_core.specs.Arithmetic.{three_ways}
-use Rattle.proof_check.specs.Added.{extended, with_facts, normal_forms}
+use Rattle.proof_check.specs.Added.{with_facts, normal_forms}
 
 -- no more facts
 no_facts : (c : Context) → c ≡ with_facts c []

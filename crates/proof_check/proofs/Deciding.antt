@@ -1,5 +1,5 @@
 -- The verdict decides which proofs are accepted.
-use Rattle.std.proofs.Common.{◌≡◌, refl, ap, subst}
+use Rattle.std.proofs.Common.{refl, subst}
 use Rattle.std.specs.Prelude.{◌≢◌, Result, Ok, Err, IsOk, IfErr}
 use Rattle.logic_core.specs.Def.{Obligation}
 use Rattle.proof_core.specs.Proof.{Proof}

@@ -21,6 +21,7 @@ use Rattle.logic_laws.proofs.FormulaSorts.{part_of_negation, parts_of_equal}
 use Rattle.logic_laws.proofs.SameValue.{same_equal}
 use Rattle.logic_laws.proofs.Gives.{GivesSum}
 use Rattle.logic_laws.proofs.SumValues.{linear_gives, affine_gives}
+use Rattle.logic_laws.proofs.FormulaValues.{zero_found}
 use Rattle.logic_core.specs.Combine.{sum_of}
 use Rattle.proof_core.specs.Says.{coefficient, without, rest_of, solved, other_side, by_equation, by_truth, or_else, says}
 use Rattle.proof_core.proofs.Sums.{parted, zero_sum}
@@ -30,10 +31,6 @@ use Rattle.proof_core.proofs.Closed.{Of, HoldsIn, Has, has_one, value_holds, sam
 or_else_has : (P : Tree → Type 0) (o p : Option Tree) (u : Tree) → or_else o p ≡ Some u → (o ≡ Some u → P u) → (p ≡ Some u → P u) → P u
 or_else_has P None p u e f g = g e
 or_else_has P (Some a) p u e f g = f e
-
-zero_side : (z : Tree) → is_zero z ≡ true → z ≡ num (pos 0)
-zero_side (num n) h = ap num ((Decides-int_eq n (pos 0)).0 h)
-zero_side z h = absurd (cc)
 
 module _ (vars : List Kind) (defs : List Def) where
   abbrev Sort : Tree → Kind → Type 0
@@ -82,7 +79,7 @@ module _ (vars : List Kind) (defs : List Def) where
   by_equation_sort : (g t u : Tree) (k : Kind) → Sort g boolean → Sort t k → by_equation g t ≡ Some u → Sort u k
   by_equation_sort (equal d z) t u k sg st e = let p = parts_of_equal vars defs d z [] boolean sg in
       cond_some (λ x. Sort x k) (is_zero z) (solved (sum_of d) t) (other_side d z t) u e
-      (λ zero g. let number : p.0 ≡ int = (let a : Sort (num (pos 0)) p.0 = subst (λ x. Sort x p.0) (zero_side z zero) p.2 in cc) in
+      (λ zero g. let number : p.0 ≡ int = (let a : Sort (num (pos 0)) p.0 = subst (λ x. Sort x p.0) (zero_found z zero) p.2 in cc) in
       solved_sort (sum_of d) t u k (sum_numbers d (subst (Sort d) number p.1)) st g)
       (λ _ g. other_side_sort d z t u p.0 k p.1 p.2 st g)
   by_equation_sort g t u k sg st e = absurd (cc)
@@ -183,7 +180,7 @@ module _ (vars : List Kind) (defs : List Def) (bodies : IsTrue (bodies_sorted va
       let p = parts_of_equal vars defs d z [] boolean sg in
       let one : h.0 ≡ h.1 = same_equal h.0 h.1 (sym (ap holds h.4)) in
       cond_some (λ x. Shared t x) (is_zero z) (solved (sum_of d) t) (other_side d z t) u e
-      (λ zero g. let is_number : z ≡ num (pos 0) = zero_side z zero in
+      (λ zero g. let is_number : z ≡ num (pos 0) = zero_found z zero in
       let number : p.0 ≡ int = (let a : Sort vars defs (num (pos 0)) p.0 = subst (λ x. Sort vars defs x p.0) is_number p.2 in cc) in
       let at_zero : h.1 ≡ whole (pos 0) = subst (λ x. Has defs frees x h.1) is_number h.3 in
       let sum = zero_sum frees (calls_of frees defs) d h.0 h.2 (one ∙ at_zero) in

@@ -17,10 +17,6 @@ every_kept p P Q f (x ∷ xs) h = at_test (p x) (f x h.0) (every_kept p P Q f xs
     at_test true k r = (k refl, r)
     at_test false k r = r
 
-pub every_append : {A : Type 0} (P : A → Type 0) (xs ys : List A) → AllByRecursion P xs → AllByRecursion P ys → AllByRecursion P (xs ++ ys)
-every_append P [] ys h k = k
-every_append P (x ∷ xs) ys h k = (h.0, every_append P xs ys h.1 k)
-
 -- the number is among them
 abbrev pub Has : ℕ → List ℕ → Type 0
 Has v xs = list_any (nat_eq v) xs ≡ true

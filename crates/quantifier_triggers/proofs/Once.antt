@@ -9,9 +9,10 @@ use Rattle.logic_core.specs.Tree.{Tree, nodes}
 use Rattle.logic_core.specs.Size.{capped}
 use Rattle.logic_core.specs.Same.{same_term}
 use Rattle.logic_core.proofs.SameTerm.{same_is_equal}
+use Rattle.logic_core.proofs.EachOf.{every_append}
 use Rattle.quantifier_triggers.specs.Candidates.{bound_numbers, covers, joined, once}
 use Rattle.quantifier_triggers.specs.Choice.{smaller, smaller_of, least, adds, cover, pick}
-use Rattle.quantifier_triggers.proofs.Lists.{every_append, Has, has_left, has_right}
+use Rattle.quantifier_triggers.proofs.Lists.{Has, has_left, has_right}
 
 -- the terms that are not among those seen, each once
 abbrev pub thin : List Tree → List Tree → List Tree

@@ -11,10 +11,11 @@ use Rattle.logic_core.specs.Same.{same_term}
 use Rattle.logic_core.specs.Subterm.{outside, listed}
 use Rattle.logic_core.specs.View.{trees_of}
 use Rattle.logic_core.specs.Def.{Def}
+use Rattle.logic_core.proofs.EachOf.{every_append}
 use Rattle.quantifier_triggers.specs.Candidates.{is_built, is_read_or_call, is_candidate, touches, bound_numbers, covers, joined, candidates, mentioned_by}
 use Rattle.quantifier_triggers.specs.Choice.{smaller, least, adds, cover, pick, as_trigger}
 use Rattle.quantifier_triggers.specs.Kept.{IsPattern, IsTrigger, lists, ChosenTriggersMeetTheRules, LeftOutOnlyUncovered}
-use Rattle.quantifier_triggers.proofs.Lists.{every_kept, every_append, Has, has_left, has_right, has_one, all_there, range_below, not_new}
+use Rattle.quantifier_triggers.proofs.Lists.{every_kept, Has, has_left, has_right, has_one, all_there, range_below, not_new}
 
 pub every_joined : (P : Tree → Type 0) (ts acc : List Tree) → AllByRecursion P acc → AllByRecursion P ts → AllByRecursion P (fold joined acc ts)
 every_joined P [] acc a h = a

@@ -1,5 +1,5 @@
 -- Chosen triggers keep sorts: they are parts of a well-sorted body, and so well sorted.
-use Rattle.std.specs.Prelude.{◌≡◌, refl, ℕ, Bool, true, false, ◌&&◌, is_some, List, [], ◌∷◌, ◌++◌, reverse, length, filter, slice_get, Option, Some, None}
+use Rattle.std.specs.Prelude.{◌≡◌, refl, ℕ, true, false, ◌&&◌, List, [], ◌∷◌, ◌++◌, reverse, length, filter, slice_get, Option, Some, None}
 use Rattle.std.specs.List.{AllByRecursion}
 use Rattle.logic_core.proofs.Booleans.{both_true, and_false}
 use mathlib.Core.Path.{◌∙◌}
@@ -10,26 +10,12 @@ use Rattle.logic_core.specs.Wide.{◌>>=◌, when}
 use Rattle.logic_core.specs.Sorts.{is, range, sort_of, are, are_formulas, are_ints, have_sorts, have_sorts_in}
 use Rattle.logic_core.specs.Subterm.{outside, outside_each, outside_parts}
 use Rattle.logic_core.specs.View.{trees_of}
+use Rattle.logic_core.proofs.ThereIs.{of_bind, of_when, of_is, There}
+use Rattle.logic_core.proofs.EachOf.{every_append}
 use Rattle.quantifier_triggers.specs.Candidates.{is_candidate, candidates}
 use Rattle.quantifier_triggers.specs.Choice.{pick, as_trigger, chosen, triggers, with_triggers, each_with_triggers, parts_with_triggers}
-use Rattle.quantifier_triggers.proofs.Lists.{every_kept, every_append}
+use Rattle.quantifier_triggers.proofs.Lists.{every_kept}
 use Rattle.quantifier_triggers.proofs.Rules.{every_joined, Covers, is_picked}
-
--- there is something
-abbrev There : {A : Type 0} → Option A → Type 0
-There o = is_some o ≡ true
-
-of_is : (k : Kind) (o : Option Kind) → is k o ≡ true → There o
-of_is k None h = h
-of_is k (Some j) h = refl
-
-of_when : {A : Type 0} (c : Bool) (o : Option A) → There (when c o) → c ≡ true
-of_when true o h = refl
-of_when false o h = h
-
-of_bind : {A B : Type 0} (o : Option A) (f : A → Option B) → There (o >>= f) → There o × ((a : A) × There (f a))
-of_bind None f h = let c : false ≡ true = h in absurd cc
-of_bind (Some a) f h = (refl, (a, h))
 
 module _ (vars : List Kind) (defs : List Def) where
   abbrev Sorted : List Kind → Tree → Type 0

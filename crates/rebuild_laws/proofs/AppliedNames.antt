@@ -10,8 +10,8 @@ use Rattle.canonical_text.specs.Same.{bare_name, bare_type, bare, bare_node, bar
 use Rattle.canonical_text.specs.SameStatement.{bare_argument}
 use Rattle.bpl_resolve.proofs.Ways.{Member}
 use Rattle.bpl_resolve.proofs.FunctionOrder.{stays, either_side}
+use Rattle.bpl_resolve.proofs.TypeSorts.{member_right}
 use Rattle.rebuild_laws.proofs.BareUses.{hides_same, argument_texts}
-use Rattle.rebuild_laws.proofs.EntityUses.{behind}
 
 -- each of the one list stands in the other
 abbrev pub Within : List Text → List Text → Type 0
@@ -25,13 +25,13 @@ both_within a b c d f g m h = by (either_side m a b h)
   where
     by : Member m a ⊎ Member m b → Member m (c ++ d)
     by (inl k) = stays m c d (f m k)
-    by (inr k) = behind m c d (g m k)
+    by (inr k) = member_right m c d (g m k)
 
 either_within : (a b c d : List Text) → Within a c → Within b d → Within (b ++ a) (c ++ d)
 either_within a b c d f g m h = by (either_side m b a h)
   where
     by : Member m b ⊎ Member m a → Member m (c ++ d)
-    by (inl k) = behind m c d (g m k)
+    by (inl k) = member_right m c d (g m k)
     by (inr k) = stays m c d (f m k)
 
 in_order_within : (o : Relation) (a b c d : List Text) → Within a c → Within b d → Within (in_order o a b) (c ++ d)
@@ -89,7 +89,7 @@ mutual
 
   groups_used : (h : List Text) (gs : Groups) → Within (groups_apply h gs) (groups_uses h gs)
   groups_used h no_groups = none_within []
-  groups_used h (group ns t c gs) = λ m i. behind m (type_uses h t) (clause_uses h c ++ groups_uses h gs) (both_within (clause_applies h c) (groups_apply h gs) (clause_uses h c) (groups_uses h gs) (clause_used h c) (groups_used h gs) m i)
+  groups_used h (group ns t c gs) = λ m i. member_right m (type_uses h t) (clause_uses h c ++ groups_uses h gs) (both_within (clause_applies h c) (groups_apply h gs) (clause_uses h c) (groups_uses h gs) (clause_used h c) (groups_used h gs) m i)
 
   clause_used : (h : List Text) (c : Clause) → Within (clause_applies h c) (clause_uses h c)
   clause_used h no_clause = none_within []

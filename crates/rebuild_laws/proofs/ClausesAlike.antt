@@ -8,7 +8,7 @@ use Rattle.logic_core.specs.Tree.{Tree}
 use Rattle.bpl_model.specs.Module.{Const, Global, Local, Proc, Module}
 use Rattle.bpl_model.specs.Numbering.{const_sorts, global_sorts, local_sorts, sorts_of, first_global, first_entry, first_in}
 use Rattle.bpl_model.specs.Clauses.{clauses_of_locals, clause_at, clauses_of}
-use Rattle.vc_build.proofs.SortedGraphLists.{of_any}
+use Rattle.bpl_model.proofs.NumberLists.{of_any}
 use Rattle.rebuild_laws.proofs.InOrder.{in_order}
 use Rattle.rebuild_laws.proofs.LocalsAlike.{sorts_alike, locals_both, no_terms_alike, clause_more, clause_at_place, clause_moved}
 use Rattle.rebuild_laws.proofs.Ranges.{slice_behind}

@@ -6,13 +6,14 @@ use Rattle.std.proofs.lemmas.Iterator.Adapters.{position_from-zero}
 use Rattle.std.proofs.lemmas.List.{map-append, length-map, append-nil}
 use Rattle.std.proofs.lemmas.List.Elements.{filter-append}
 use mathlib.Core.Logic.{inl, inr}
+use Rattle.logic_core.proofs.EachOf.{every_append}
 use Rattle.bpl_model.specs.Module.{Spec, Proc, Module}
 use Rattle.bpl_model.specs.Contract.{named_in_modifies, modified}
 use Rattle.bpl_model.specs.Numbering.{first_global, first_entry, first_in, first_out, global_numbers}
 use Rattle.bpl_model.specs.Cut.{owned_global, old_global, over}
-use Rattle.vc_build.proofs.SortedGraphLists.{of_any}
+use Rattle.bpl_model.proofs.NumberLists.{of_any}
 use Rattle.obligation_text.proofs.SameCanonical.{position_same}
-use Rattle.rebuild_laws.proofs.InOrder.{every_two, in_order}
+use Rattle.rebuild_laws.proofs.InOrder.{in_order}
 use Rattle.rebuild_laws.proofs.LocalsAlike.{locals_long}
 use Rattle.rebuild_laws.proofs.Ranges.{lower_so, higher_so, range_plus, filter_none, filter_keeps, range_each}
 use Rattle.rebuild_laws.proofs.NumbersAlike.{below, all_high, reads_low, low_reads, low_all, one_all, passes_all, low_order, any_same}
@@ -59,7 +60,7 @@ module _ (m n : Module) (vars? vars_there? : ℕ → Bool) (new_low old_low : �
   named_alike _ _ (a_spec {ss = ss} {ts = ts} (both_require h) rest) = named_alike ss ts rest
   named_alike _ _ (a_spec {ss = ss} {ts = ts} (both_ensure h) rest) = named_alike ss ts rest
   named_alike _ _ (a_spec {ss = ss} {ts = ts} (both_modify {vs = vs} h) rest) =
-      let r = named_alike ss ts rest in ((λ i. map new vs ++ r.0 i) ∙ sym (map-append new vs (named_in_modifies ss)), every_two Read vs (named_in_modifies ss) h r.1)
+      let r = named_alike ss ts rest in ((λ i. map new vs ++ r.0 i) ∙ sym (map-append new vs (named_in_modifies ss)), every_append Read vs (named_in_modifies ss) h r.1)
 
   module _ (globals : GlobalsAlike m n vars? vars_there? new_low old_low new_def D) (c d : Proc) (a : AlikeSignature m n vars? vars_there? new_low old_low new_def D c d) (named_globals : AllByRecursion (IsGlobal m) (named_in_modifies c.specs)) where
     abbrev named : List ℕ

@@ -3,17 +3,17 @@ use Rattle.std.specs.Prelude.{◌≡◌, refl, ℕ, ◌<◌, ◌≤◌, IsTrue, 
 use Rattle.std.specs.List.{AllByRecursion}
 use Rattle.std.proofs.Common.{ap, sym, subst, arith, ◌∙◌}
 use Rattle.std.proofs.lemmas.List.Elements.{All-from_recursion, All-contains}
+use Rattle.logic_core.proofs.EachOf.{every_append}
 use Rattle.bpl_model.specs.Module.{Spec, requires, ensures, modifies, Stmts, Proc, Module}
 use Rattle.bpl_model.specs.Numbering.{global_numbers, first_global, first_entry}
 use Rattle.bpl_model.specs.NoGoto.{BodyHasNoGoto}
 use Rattle.bpl_model.specs.Typed.{IsSpec, IsTypedProc, IsTypedModule}
 use Rattle.bpl_model.specs.Contract.{named_in_modifies}
+use Rattle.bpl_model.proofs.NumberLists.{proc_at}
 use Rattle.vc_build.specs.declared.goal.Goal.{Goal}
 use Rattle.vc_build.specs.Goals.{goals_by_passes}
 use Rattle.vc_build.specs.Sound.{SequentsAreSorted}
 use Rattle.vc_build.proofs.SortedGraph.{sorted_graph}
-use Rattle.vc_build.proofs.SortedGraphLists.{proc_at}
-use Rattle.rebuild_laws.proofs.InOrder.{every_two}
 use Rattle.rebuild_laws.proofs.Ranges.{range_each}
 use Rattle.rebuild_laws.proofs.NumbersAlike.{low_reads}
 use Rattle.rebuild_laws.proofs.CallsAlike.{AlikeFound, nothing_found, both_found, Callees as Contracts}
@@ -36,7 +36,7 @@ named_global : (m : Module) (c : Proc) (ss : List Spec) → AllByRecursion (IsSp
 named_global m c [] h = tt
 named_global m c (requires f p E ∷ ss) h = named_global m c ss h.1
 named_global m c (ensures f p E ∷ ss) h = named_global m c ss h.1
-named_global m c (modifies vs ∷ ss) h = every_two (IsGlobal m) vs (named_in_modifies ss) (numbers_global m vs h.0) (named_global m c ss h.1)
+named_global m c (modifies vs ∷ ss) h = every_append (IsGlobal m) vs (named_in_modifies ss) (numbers_global m vs h.0) (named_global m c ss h.1)
 
 module _ (sequents : SequentsAreSorted) (m n : Module) (p q : Proc) (tm : IsTypedModule m) (c : Correspond m n p q) where
   abbrev D : ℕ → Type 0

@@ -15,11 +15,11 @@ use Rattle.flow_core.specs.declared.command.Command.{Command}
 use Rattle.flow_core.specs.declared.block.LoopHead.{LoopHead}
 use Rattle.flow_core.specs.declared.block.Block.{Block}
 use Rattle.flow_core.specs.Graph.{Graph, block_at}
+use Rattle.bpl_model.proofs.NumberLists.{of_any}
 use Rattle.loop_cut.specs.Cut.{cut_from, cut}
 use Rattle.passive_form.specs.Sorted.{IsSortedCommand, IsSortedPair, IsSortedBlock}
 use Rattle.passive_form.specs.Incarnations.{has_edge}
 use Rattle.obligation_text.proofs.Lists.{variables_have, calls_have}
-use Rattle.vc_build.proofs.SortedGraphLists.{of_any}
 use Rattle.rebuild_laws.proofs.Commands.{AlikeCommand, asserted, assumed_so, set_all, any_values, AlikeCommands, no_more, one_more}
 use Rattle.rebuild_laws.proofs.CutsAlike.{AlikeHeads, no_head, a_head, AlikeBlocks, no_blocks, one_block}
 use Rattle.rebuild_laws.proofs.Ranges.{filtered_pass}

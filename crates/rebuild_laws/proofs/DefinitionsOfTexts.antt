@@ -31,6 +31,7 @@ use Rattle.bpl_resolve.proofs.EntriesFine.{FunctionFine, entity_fine}
 use Rattle.bpl_resolve.proofs.ScopesFit.{some_heading, def_of}
 use Rattle.bpl_resolve.proofs.ModuleSorts.{fine}
 use Rattle.bpl_resolve.proofs.Reached.{reached}
+use Rattle.bpl_resolve.proofs.TypeSorts.{member_right}
 use Rattle.rebuild_laws.specs.DependencyTexts.{bodies_at, other_positions}
 use Rattle.rebuild_laws.specs.Numbers.{Low}
 use Rattle.rebuild_laws.specs.Procedures.{AlikeDef}
@@ -39,7 +40,7 @@ use Rattle.rebuild_laws.proofs.SameExpressionsAlike.{expressions_alike}
 use Rattle.rebuild_laws.specs.Twins.{Twins}
 use Rattle.rebuild_laws.proofs.NamesInUse.{Used, used}
 use Rattle.rebuild_laws.proofs.UsedNames.{entity_entry}
-use Rattle.rebuild_laws.proofs.EntityUses.{entity_uses, behind, used_in_entity}
+use Rattle.rebuild_laws.proofs.EntityUses.{entity_uses, used_in_entity}
 use Rattle.rebuild_laws.proofs.AppliedNames.{heading_applies, heading_used}
 use Rattle.rebuild_laws.proofs.SameLogical.{both_functions}
 use Rattle.rebuild_laws.proofs.SameNames.{of_name, vars_met, functions_met, new_low, new_function, function_there}
@@ -136,7 +137,7 @@ module _ (ds : List Decl) (p : Proc) (es : List Decl) (q : Proc) (none : fault_o
     used_here n i =
         let r = entity_entry T b.name (a_function b.heading) b.here in
         used_in_entity ds p b.name n r.0 b.met r.1 (subst (λ w. Member n (entity_uses w)) (sym r.2)
-        (behind n (arguments_uses b.heading.ins) (type_uses [] b.heading.result ++ guard_uses parameters b.heading.value) (behind n (type_uses [] b.heading.result) (guard_uses parameters b.heading.value) i)))
+        (member_right n (arguments_uses b.heading.ins) (type_uses [] b.heading.result ++ guard_uses parameters b.heading.value) (member_right n (type_uses [] b.heading.result) (guard_uses parameters b.heading.value) i)))
 
     bodies_same : bare fine_here.body ≡ bare fine_there.body
     bodies_same = same_body (bare fine_here.body) (bare fine_there.body)

@@ -1,4 +1,4 @@
--- What a name stands for uses what its declaration uses.
+-- What a name stands for uses what its declaration uses outside the clauses of procedures.
 use Rattle.std.specs.Prelude.{◌≡◌, ℕ, ◌+◌, Bool, true, false, cond, List, [], ◌∷◌, ◌++◌, map, flat_map, find, bytes_eq, Option, Some, None}
 use Rattle.std.proofs.Common.{refl, ap, sym, ◌∙◌, subst, inl, inr, ◌⊎◌}
 use Rattle.bpl_ast.specs.Place.{Name, Ty}
@@ -10,6 +10,7 @@ use Rattle.bpl_scopes.specs.Functions.{names_in_type, argument_names}
 use Rattle.bpl_texts.specs.Uses.{use_of, type_uses, groups_uses, clause_uses, guard_uses, spec_uses, signature_uses, arguments_uses, contract_uses}
 use Rattle.bpl_resolve.proofs.Ways.{Member}
 use Rattle.bpl_resolve.proofs.FunctionOrder.{stays}
+use Rattle.bpl_resolve.proofs.TypeSorts.{member_right}
 use Rattle.rebuild_laws.proofs.NamesInUse.{Used, Met}
 use Rattle.rebuild_laws.proofs.UsedNames.{used_further}
 
@@ -19,11 +20,7 @@ entity_uses (a_global k s) = names_in_type s
 entity_uses (a_function h) = arguments_uses h.ins ++ (type_uses [] h.result ++ guard_uses (texts_of (argument_names h.ins)) h.value)
 entity_uses (a_synonym None) = []
 entity_uses (a_synonym (Some s)) = names_in_type s
-entity_uses (a_procedure k d) = signature_uses d.signature ++ flat_map (spec_uses (texts_of (signature_names d.signature))) d.specs
-
-pub behind : (n : Text) (ms ns : List Text) → Member n ns → Member n (ms ++ ns)
-behind n [] ns h = h
-behind n (m ∷ ms) ns h = inr (behind n ms ns h)
+entity_uses (a_procedure k d) = signature_uses d.signature
 
 -- where no variable hides a name, each is used
 pub plain_uses : (ns : List Text) → flat_map (use_of []) ns ≡ ns
@@ -60,7 +57,7 @@ module _ (m n : Text) (e : Entry) where
   globals_use d k (group ns s c gs) h i =
       names_use d k ns s (names_of gs) (Member m (groups_uses [] (group ns s c gs)))
       (λ z. stays m (type_uses [] s) (clause_uses [] c ++ groups_uses [] gs) (in_type s m z))
-      (λ j z. behind m (type_uses [] s) (clause_uses [] c ++ groups_uses [] gs) (behind m (clause_uses [] c) (groups_uses [] gs) (globals_use d j gs z i)))
+      (λ j z. member_right m (type_uses [] s) (clause_uses [] c ++ groups_uses [] gs) (member_right m (clause_uses [] c) (groups_uses [] gs) (globals_use d j gs z i)))
       h i
 
   one_is : (f : Entry) (A : Type 0) → (f ≡ e → A) → entry_of (f ∷ []) n ≡ Some e → A
@@ -76,7 +73,8 @@ module _ (m n : Text) (e : Entry) where
   uses_in k d (axiom_of x) h i = absurd (cc)
   uses_in k d (variables gs) h i = globals_use d k.globals gs h i
   uses_in k d (synonym l s) h i = one_is _ (Member m (contract_uses (synonym l s))) (λ z. synonym_uses s l (subst (λ (w : Entry). Member m (entity_uses w.entity)) (sym z) i)) h
-  uses_in k d (procedure l ps g ss b) h i = one_is _ (Member m (contract_uses (procedure l ps g ss b))) (λ z. subst (λ (w : Entry). Member m (entity_uses w.entity)) (sym z) i) h
+  uses_in k d (procedure l ps g ss b) h i = one_is _ (Member m (contract_uses (procedure l ps g ss b)))
+      (λ z. stays m (signature_uses g) (flat_map (spec_uses (texts_of (signature_names g))) ss) (subst (λ (w : Entry). Member m (entity_uses w.entity)) (sym z) i)) h
   uses_in k d (implementation l ps g b) h i = absurd (cc)
 
 -- what is used where a name is declared that is met is used

@@ -18,11 +18,12 @@ use Rattle.bpl_resolve.proofs.FunctionOrder.{stays, order_only}
 use Rattle.bpl_resolve.proofs.EntriesFine.{synonyms_fine}
 use Rattle.bpl_resolve.proofs.ModuleSorts.{fine, acyclic}
 use Rattle.bpl_resolve.proofs.ScopesFit.{some_heading}
+use Rattle.bpl_resolve.proofs.TypeSorts.{member_right}
 use Rattle.rebuild_laws.specs.Twins.{Twins}
 use Rattle.rebuild_laws.proofs.NamesInUse.{Met, used}
 use Rattle.rebuild_laws.proofs.Settled.{same_number}
 use Rattle.rebuild_laws.proofs.UsedNames.{entity_entry}
-use Rattle.rebuild_laws.proofs.EntityUses.{entity_uses, behind, plain_uses, used_in_entity}
+use Rattle.rebuild_laws.proofs.EntityUses.{entity_uses, plain_uses, used_in_entity}
 use Rattle.rebuild_laws.proofs.SameSorts.{same_type_sort}
 use Rattle.rebuild_laws.proofs.SameNames.{of_name, is_met, so_met, function_met, functions_met, new_function, function_there}
 use Rattle.rebuild_laws.proofs.AppliedNames.{bare_heading}
@@ -55,7 +56,7 @@ module _ (ds : List Decl) (p : Proc) (es : List Decl) (q : Proc) (twins : Twins 
       let first : bare_argument x ≡ bare_argument y = cc in
       let rest : map bare_argument xs ≡ map bare_argument ys = cc in
       λ i. same_type_sort ds p es q twins back none none_there x.type y.type (ap (λ (a : Argument). a.type) first) (λ m k. h m (stays m (type_uses [] x.type) (arguments_uses xs) (in_uses x.type m k))) i
-      ∷ same_arguments xs ys rest (λ m k. h m (behind m (type_uses [] x.type) (arguments_uses xs) k)) i
+      ∷ same_arguments xs ys rest (λ m k. h m (member_right m (type_uses [] x.type) (arguments_uses xs) k)) i
 
   -- a function that is met, here and there
   pub record BothFunctions (f : ℕ) : Type 0 where
@@ -105,6 +106,6 @@ module _ (ds : List Decl) (p : Proc) (es : List Decl) (q : Proc) (twins : Twins 
         same = s;
         ins = same_arguments (g.0).ins (k.0).ins (ap (λ (w : Heading). w.ins) s) (λ m i. used_by r.0 g.0 u g.1 m (stays m (arguments_uses (g.0).ins) _ i));
         result = same_type_sort ds p es q twins back none none_there (g.0).result (k.0).result (ap (λ (w : Heading). w.result) s)
-            (λ m i. used_by r.0 g.0 u g.1 m (behind m (arguments_uses (g.0).ins) (type_uses [] (g.0).result ++ guard_uses (texts_of (argument_names (g.0).ins)) (g.0).value) (stays m (type_uses [] (g.0).result) _ (in_uses (g.0).result m i))));
+            (λ m i. used_by r.0 g.0 u g.1 m (member_right m (arguments_uses (g.0).ins) (type_uses [] (g.0).result ++ guard_uses (texts_of (argument_names (g.0).ins)) (g.0).value) (stays m (type_uses [] (g.0).result) _ (in_uses (g.0).result m i))));
         logical = same_logical ds p es q twins back none none_there r.0 u is;
       }

@@ -26,13 +26,13 @@ use Rattle.bpl_resolve.proofs.HasSort.{first_empty, second_empty}
 use Rattle.bpl_resolve.proofs.FunctionOrder.{stays}
 use Rattle.bpl_resolve.proofs.EntriesFine.{none_faulty}
 use Rattle.bpl_resolve.proofs.ModuleSorts.{numbered_entity}
+use Rattle.bpl_resolve.proofs.TypeSorts.{member_right}
 use Rattle.rebuild_laws.specs.DependencyTexts.{bodies_at, other_positions}
 use Rattle.rebuild_laws.specs.Numbers.{Low, AlikeGlobal, GlobalsAlike}
 use Rattle.rebuild_laws.proofs.ScopesAlike.{AlikeName, no_vars}
 use Rattle.rebuild_laws.proofs.SameExpressionsAlike.{clauses_alike}
 use Rattle.rebuild_laws.specs.Twins.{Twins}
 use Rattle.rebuild_laws.proofs.NamesInUse.{Used, in_reached}
-use Rattle.rebuild_laws.proofs.EntityUses.{behind}
 use Rattle.rebuild_laws.proofs.SameNames.{vars_met, functions_met, new_low, new_function}
 use Rattle.rebuild_laws.proofs.MetNumbers.{consts_are, globals_are, BothGlobals, NewVariable, new_const, new_glob, new_ent, new_variable}
 use Rattle.rebuild_laws.proofs.GlobalsAlike.{has_text, group_clause, global_with}
@@ -57,8 +57,8 @@ clause_within (group ns t d gs) n c m h i = by (has_text ns n) h (λ f. clause_w
     by : (b : Bool) → cond b (Some d) (group_clause gs n) ≡ Some c → (group_clause gs n ≡ Some c → Member m (groups_uses [] gs)) → Member m (groups_uses [] (group ns t d gs))
     by true f later =
         let z : d ≡ c = cc in
-        behind m (type_uses [] t) (clause_uses [] d ++ groups_uses [] gs) (stays m (clause_uses [] d) (groups_uses [] gs) (subst (λ k. Member m (clause_uses [] k)) (sym z) i))
-    by false f later = behind m (type_uses [] t) (clause_uses [] d ++ groups_uses [] gs) (behind m (clause_uses [] d) (groups_uses [] gs) (later f))
+        member_right m (type_uses [] t) (clause_uses [] d ++ groups_uses [] gs) (stays m (clause_uses [] d) (groups_uses [] gs) (subst (λ k. Member m (clause_uses [] k)) (sym z) i))
+    by false f later = member_right m (type_uses [] t) (clause_uses [] d ++ groups_uses [] gs) (member_right m (clause_uses [] d) (groups_uses [] gs) (later f))
 
 -- the groups of a declaration without faults have none
 pub groups_fine : (t : Table) (c : Counts) (b : Before) (gs : Groups) → decl_faults t c b (variables gs) ≡ [] → group_clause_faults (scope_of t c in_clause_of_global []) gs ≡ []

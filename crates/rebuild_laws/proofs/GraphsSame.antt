@@ -9,12 +9,12 @@ use Rattle.logic_core.specs.Tree.{Kind, Tree}
 use Rattle.logic_core.specs.Def.{Def, Obligation}
 use Rattle.logic_core.specs.WellSorted.{IsWellSorted}
 use Rattle.logic_core.specs.Renamed.{both_renamed, EachHas}
+use Rattle.logic_core.proofs.EachOf.{every_map}
 use Rattle.logic_laws.proofs.RenamedVariables.{renames_nothing}
 use Rattle.flow_core.specs.Graph.{Graph}
 use Rattle.passive_form.specs.declared.done.Done.{Done}
 use Rattle.passive_form.specs.Passive.{passive_block_at}
 use Rattle.passive_form.specs.Incarnations.{first_incarnations, has_edge, do_blocks, passive_block, passify, numbers}
-use Rattle.obligation_text.proofs.Walk.{every_map}
 use Rattle.vc_build.specs.declared.goal.Goal.{Goal}
 use Rattle.vc_build.specs.Goals.{sequent_at, obligation_at, goals_in, goals_of_graph}
 use Rattle.obligation_text.proofs.RenamedTerms.{renamed_twice, each_more}

@@ -1,11 +1,7 @@
 -- Tests over ranges of numbers, of which some have new ones in their order.
-use Rattle.std.specs.Prelude.{◌≡◌, refl, ℕ, zero, suc, ◌+◌, ◌<◌, Bool, true, false, cond, List, [], ◌∷◌, ◌++◌, map, length, filter}
+use Rattle.std.specs.Prelude.{◌≡◌, refl, ℕ, zero, suc, ◌+◌, ◌<◌, Bool, true, false, cond, List, [], ◌∷◌, map, length, filter}
 use Rattle.std.specs.List.{AllByRecursion, range_with_len}
 use Rattle.std.proofs.Common.{ap, sym, subst, ◌∙◌, true≢false}
-
-pub every_two : {A : Type 0} (P : A → Type 0) (xs ys : List A) → AllByRecursion P xs → AllByRecursion P ys → AllByRecursion P (xs ++ ys)
-every_two P [] ys h k = k
-every_two P (x ∷ xs) ys h k = (h.0, every_two P xs ys h.1 k)
 
 pub range_long : (a n : ℕ) → length (range_with_len a n) ≡ n
 range_long a zero = refl

@@ -64,6 +64,7 @@ pub mod GlobalsOfTexts
 pub mod EntryOfTexts
 pub mod FunctionNumbers
 pub mod ArgumentNames
+pub mod DeclaredProcedures
 pub mod DefinitionsOfTexts
 pub mod EqualTexts
 pub mod ScopesAlike

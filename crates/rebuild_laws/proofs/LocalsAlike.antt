@@ -5,8 +5,8 @@ use Rattle.std.proofs.Common.{ap, sym, subst, ◌∙◌}
 use Rattle.std.proofs.lemmas.List.{map-append}
 use Rattle.logic_core.specs.Tree.{Tree}
 use Rattle.logic_core.specs.Renamed.{both_renamed, EachHas}
+use Rattle.logic_core.proofs.EachOf.{every_append}
 use Rattle.bpl_model.specs.Module.{Local}
-use Rattle.rebuild_laws.proofs.InOrder.{every_two}
 use Rattle.rebuild_laws.specs.Alike.{free_choice, guarded, AlikeClause, AlikeLocals, no_locals, a_local, AlikeTerms}
 
 module _ (new_def new_var : ℕ → ℕ) (D V : ℕ → Type 0) where
@@ -45,7 +45,7 @@ module _ (new_def new_var : ℕ → ℕ) (D V : ℕ → Type 0) where
   clauses_alike _ _ (a_local {k = k} {l = l} {ks = ks} {ls = ls} e o c rest) = clause_more k.clause l.clause (filter_map (λ (x : Local). x.clause) ks) (filter_map (λ (x : Local). x.clause) ls) c (clauses_alike ks ls rest)
 
   pub terms_both : (ts us vs ws : List Tree) → AlikeTerms new_def new_var D V ts us → AlikeTerms new_def new_var D V vs ws → AlikeTerms new_def new_var D V (ts ++ vs) (us ++ ws)
-  terms_both ts us vs ws a b = record { same = (λ i. a.same i ++ b.same i) ∙ sym (map-append (both_renamed new_def new_var) ts vs); covered = every_two (EachHas V D) ts vs a.covered b.covered }
+  terms_both ts us vs ws a b = record { same = (λ i. a.same i ++ b.same i) ∙ sym (map-append (both_renamed new_def new_var) ts vs); covered = every_append (EachHas V D) ts vs a.covered b.covered }
 
   -- the clause of the local at a place
   pub clause_at_place : (ks ls : List Local) → AlikeLocals new_def new_var D V ks ls → (i : ℕ) → AlikeClause new_def new_var D V (slice_index_or (map (λ (l : Local). l.clause) ks) i None) (slice_index_or (map (λ (l : Local). l.clause) ls) i None)

@@ -6,9 +6,10 @@ use Rattle.std.proofs.lemmas.Bool.{eqb-true, eq-eqb}
 use Rattle.std.proofs.lemmas.List.{map-append}
 use Rattle.std.proofs.lemmas.List.Elements.{filter-append}
 use mathlib.Core.Logic.{inl, inr}
+use Rattle.logic_core.proofs.EachOf.{every_append}
 use Rattle.bpl_model.specs.Module.{Module}
 use Rattle.bpl_model.specs.Numbering.{first_global, first_entry, first_in, olds_of}
-use Rattle.rebuild_laws.proofs.InOrder.{every_two, InOrder}
+use Rattle.rebuild_laws.proofs.InOrder.{InOrder}
 use Rattle.rebuild_laws.proofs.Ranges.{lower_so, higher_so, range_plus, filter_all, range_each, range_moved}
 use Rattle.rebuild_laws.proofs.NumbersAlike.{below, all_high, reads_low, low_reads, high_reads, low_all, each_low, low_here, low_there, read_here, read_there}
 use Rattle.rebuild_laws.proofs.CallsAlike.{new_own, Own}
@@ -110,7 +111,7 @@ module _ (m n : Module) (vars? vars_there? : ℕ → Bool) (new_low old_low : �
     high_each (v ∷ vs) h = (from_high v h.0.0 (let under = h.0.1 in omega (under, last_low, arith)), high_each vs h.1)
 
     pub ordered_each : AllByRecursion P (low.reached ++ behind)
-    ordered_each = every_two P low.reached behind (low_each low.reached (each_low m n vars? vars_there? new_low old_low low)) (high_each behind (range_each (first_in m) (last - first_in m)))
+    ordered_each = every_append P low.reached behind (low_each low.reached (each_low m n vars? vars_there? new_low old_low low)) (high_each behind (range_each (first_in m) (last - first_in m)))
 
     split : (a b : ℕ) → a ≤ b → range_with_len 0 b ≡ range_with_len 0 a ++ range_with_len a (b - a)
     split a b h =

@@ -11,7 +11,7 @@ use Rattle.bpl_model.specs.Module.{Proc}
 use Rattle.bpl_model.specs.Reach.{own_positions}
 use Rattle.bpl_scopes.specs.declared.fault.TypeKind.TheVariants.{Twice as twice, Arity as arity}
 use Rattle.bpl_scopes.specs.Fault.{again, is_among, if_so}
-use Rattle.bpl_scopes.specs.Scopes.{Text, Entity, a_procedure, Table, table_of, Counts, no_counts, counts_after, names_of, only_names, texts_of, signature_names, entity_of}
+use Rattle.bpl_scopes.specs.Scopes.{Text, contract_with, Entity, a_procedure, Table, table_of, Counts, no_counts, counts_after, names_of, only_names, texts_of, signature_names, entity_of}
 use Rattle.bpl_scopes.specs.TypeFaults.{group_where_faults}
 use Rattle.bpl_statement_faults.specs.StmtFaults.{modified_by}
 use Rattle.bpl_texts.specs.Uses.{signature_uses, spec_uses, body_uses, decl_uses, contract_uses}
@@ -215,7 +215,7 @@ module _ (ds : List Decl) (p : Proc) (none : fault_of ds ≡ None) where
   ))
 
   -- of a procedure's declaration
-  own_body_fine : (n : Name) (ps : Option Params) (g : Signature) (ss : List Spec) (b : Body) (bf : Before) → decl_faults T C bf (procedure n ps g ss (Some b)) ≡ [] → body_faults T C g (Some (modified_by T (record { signature = g; specs = ss }))) b ≡ []
+  own_body_fine : (n : Name) (ps : Option Params) (g : Signature) (ss : List Spec) (b : Body) (bf : Before) → decl_faults T C bf (procedure n ps g ss (Some b)) ≡ [] → body_faults T C g (Some (modified_by T (contract_with g ss))) b ≡ []
   own_body_fine n ps g ss b bf e =
       let r1 = second_empty (again twice bf.names (n ∷ [])) _ e in
       let r2 = second_empty (if_so (has_body (Some b) && is_among bf.bodies n.text) twice n.at) _ r1 in
@@ -237,20 +237,19 @@ module _ (ds : List Decl) (p : Proc) (none : fault_of ds ≡ None) where
   groups_count : (g h : Signature) (gs hs : Groups) → same_groups T g h gs hs ≡ true → length (names_of gs) ≡ length (names_of hs)
   groups_count g h gs hs e = sym (pair_texts (names_of gs)) ∙ (as_many (texts_of (only_names (names_of gs))) (texts_of (only_names (names_of hs))) (both_true (same_texts (texts_of (only_names (names_of gs))) (texts_of (only_names (names_of hs)))) _ e).0 ∙ pair_texts (names_of hs))
 
-  same_so : (o : Option Entity) (k : ℕ) (g h : Signature) (ss : List Spec) (at : Place) → o ≡ Some (a_procedure k (record { signature = g; specs = ss })) → implemented_faults T o h at ≡ [] → same_parameters T g h ≡ true
+  same_so : (o : Option Entity) (k : ℕ) (g h : Signature) (ss : List Spec) (at : Place) → o ≡ Some (a_procedure k (contract_with g ss)) → implemented_faults T o h at ≡ [] → same_parameters T g h ≡ true
   same_so o k g h ss at q e = unless_empty (same_parameters T g h) arity at (subst (λ z. implemented_faults T z h at ≡ []) q e)
 
   fine_own : (xs : List DeclBody) (g : Signature) (ss : List Spec) (h : Signature) (b : Body) → OwnBodies xs g ss h b → AllByRecursion Fine xs → FineOwn g ss h b
   fine_own _ _ _ _ _ (in_one {n = n} {ps = ps} {g = g} {ss = ss} {b = b}) f =
       let e = f.0.0.1 in
-      let s = f.0.1.0 in
-      let c = contract_fine ds none n.text s.0 (record { signature = g; specs = ss }) s.1 in
+      let c = contract_fine T C f.0.0.0 n ps g ss (Some b) e in
       let u = f.0.1.1 in
       let k = all_first (Used ds p) (contract_uses (procedure n ps g ss (Some b))) (body_uses g b) u in
       record {
         parameters = c.parameters;
         specs = c.specs;
-        modified = Some (modified_by T (record { signature = g; specs = ss }));
+        modified = Some (modified_by T (contract_with g ss));
         body = own_body_fine n ps g ss b f.0.0.0 e;
         ins = refl;
         outs = refl;
@@ -260,7 +259,7 @@ module _ (ds : List Decl) (p : Proc) (none : fault_of ds ≡ None) where
       }
   fine_own _ _ _ _ _ (in_two {n = n} {m = m} {ps = ps} {qs = qs} {g = g} {h = h} {ss = ss} {b = b} q) f =
       let s = f.0.1.0 in
-      let c = contract_fine ds none n.text s.0 (record { signature = g; specs = ss }) s.1 in
+      let c = contract_fine T C f.0.0.0 n ps g ss None f.0.0.1 in
       let d = body_fine m qs h b f.1.0.0.0 f.1.0.0.1 in
       let k = all_first (Used ds p) (contract_uses (procedure n ps g ss None)) [] f.0.1.1 in
       let same = both_true (same_groups T g h g.ins h.ins) (same_groups T g h g.outs h.outs) (same_so (entity_of T m.text) s.0 g h ss m.at (ap (entity_of T) q ∙ s.1) d.0) in

@@ -17,7 +17,8 @@ use Rattle.passive_form.specs.declared.passive.PassiveBlock.{PassiveBlock}
 use Rattle.passive_form.specs.Incarnations.{Incarnations, first_incarnation, first_incarnations, read, anew, also, assigned, havocked, perform, perform_all, nothing_done, has_edge, predecessors, disagree, arriving, new_at_join, lasts, do_block, do_blocks, equations_for, passive_block, numbers}
 use Rattle.flow_core.specs.declared.command.Command.TheVariants.{Assert, Assume, Assign, Havoc}
 use Rattle.logic_core.specs.Tree.{free, equal}
-use Rattle.rebuild_laws.proofs.InOrder.{every_two, range_long, InOrder}
+use Rattle.logic_core.proofs.EachOf.{every_append}
+use Rattle.rebuild_laws.proofs.InOrder.{range_long, InOrder}
 use Rattle.rebuild_laws.proofs.CutsAlike.{AlikeBlocks, block_alike}
 use Rattle.rebuild_laws.proofs.BlocksAlike.{blocks_long}
 use Rattle.rebuild_laws.proofs.Presents.{Later, new_later, later_first, later_made}
@@ -292,7 +293,7 @@ module _ (xs ys : List Kind) (new_def new_var : ℕ → ℕ) (D V : ℕ → Type
       subst (λ ns. AlikePassive (passive_block g done_here.1 b) (record { commands = e.commands ++ flat_map (λ c. equations_for e (slice_index_or done_there.1 c nothing_done)) ns; next = ns })) (sym (same_next b)) (record {
         next = refl;
         made = map-append formula_in e.commands theirs ∙ (λ i. one.same i ++ all.0 i) ∙ sym (ap (map (both_renamed new_def newer)) (map-append formula_in d.commands mine) ∙ map-append (both_renamed new_def newer) (formulas d.commands) (formulas mine));
-        covered = subst (AllByRecursion (EachHas LaterV D)) (sym (map-append formula_in d.commands mine)) (every_two (EachHas LaterV D) (formulas d.commands) (formulas mine) one.covered all.1);
+        covered = subst (AllByRecursion (EachHas LaterV D)) (sym (map-append formula_in d.commands mine)) (every_append (EachHas LaterV D) (formulas d.commands) (formulas mine) one.covered all.1);
         kinds_same = map-append asserts_so e.commands theirs ∙ (λ i. kinds_of_done i ++ equations_kinds_all d e next i) ∙ sym (map-append asserts_so d.commands mine);
       })
 

@@ -14,6 +14,7 @@ use Rattle.logic_core.specs.WellSorted.{IsWellSorted}
 use Rattle.logic_core.specs.Variables.{calls}
 use Rattle.logic_core.specs.Renamed.{both_renamed, def_renamed, EachHas, EachInTrees}
 use Rattle.logic_core.proofs.Mentioned.{as_it_stands}
+use Rattle.logic_core.proofs.EachOf.{every_map}
 use Rattle.logic_laws.proofs.RenamedVariables.{renames_nothing}
 use Rattle.logic_laws.proofs.SortedNumbers.{HasVariable, HasDefinition, mentions_there, there_in_front, body_is_sorted}
 use Rattle.flow_core.specs.declared.command.Command.{Command}
@@ -21,7 +22,6 @@ use Rattle.passive_form.specs.declared.passive.Passive.{Passive}
 use Rattle.passive_form.specs.Passive.{passive_block_at, formula_in, formulas}
 use Rattle.block_wp.specs.Equations.{among, reaching_from, reaching, block_call, conjunction, successors, negations, block_equation, formula_of, assertion_equation, block_definition, body_of}
 use Rattle.obligation_text.proofs.Lists.{variables_have, calls_have}
-use Rattle.obligation_text.proofs.Walk.{every_map}
 use Rattle.vc_build.specs.Goals.{sequent_at, obligation_at}
 use Rattle.obligation_text.specs.Canonical.{canonical}
 use Rattle.quantifier_triggers.specs.Choice.{obligation_with_triggers}

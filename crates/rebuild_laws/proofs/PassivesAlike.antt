@@ -9,13 +9,14 @@ use Rattle.std.proofs.lemmas.List.FromFn.{get_or-map-range_with_len}
 use mathlib.Core.Logic.{inl, inr}
 use Rattle.logic_core.specs.Tree.{Kind, Tree, free, equal}
 use Rattle.logic_core.specs.Renamed.{both_renamed, EachHas}
+use Rattle.logic_core.proofs.EachOf.{every_append}
 use Rattle.flow_core.specs.declared.command.Command.{Command}
 use Rattle.flow_core.specs.declared.command.Command.TheVariants.{Assume}
 use Rattle.passive_form.specs.Passive.{formula_in, formulas}
 use Rattle.passive_form.specs.declared.made.Made.{Made}
 use Rattle.passive_form.specs.declared.done.Done.{Done}
 use Rattle.passive_form.specs.Incarnations.{Incarnations, incarnation, read, anew, also, assigned, havocked, perform, perform_all, nothing_done, disagree, arriving, new_at_join, lasts, equations_for}
-use Rattle.rebuild_laws.proofs.InOrder.{every_two, range_long, InOrder, in_order}
+use Rattle.rebuild_laws.proofs.InOrder.{range_long, InOrder, in_order}
 use Rattle.rebuild_laws.proofs.Commands.{AlikeCommand, asserted, assumed_so, set_all, any_values, AlikeCommands, no_more, one_more}
 use Rattle.rebuild_laws.proofs.Presents.{Later, new_later, later_first, later_made, newer_one, AlikeMade, anew_alike, havocked_alike, all_alike}
 use Rattle.rebuild_laws.specs.Alike.{Sets}
@@ -306,7 +307,7 @@ module _ (xs ys : List Kind) (new_def new_var : ℕ → ℕ) (D V : ℕ → Type
           let rest_mine = flat_map (λ b. equations_for d (slice_index_or ds b nothing_done)) next in
           let rest_theirs = flat_map (λ b. equations_for e (slice_index_or es b nothing_done)) next in (
             map-append formula_in theirs rest_theirs ∙ (λ i. here_same i ++ rest.0 i) ∙ sym (ap (map (both_renamed new_def newer)) (map-append formula_in mine rest_mine) ∙ map-append (both_renamed new_def newer) (formulas mine) (formulas rest_mine)),
-            subst (AllByRecursion (EachHas LaterV D)) (sym (map-append formula_in mine rest_mine)) (every_two (EachHas LaterV D) (formulas mine) (formulas rest_mine) (equations_covered count d e l (slice_index_or ds c nothing_done).joined j.1) rest.1),
+            subst (AllByRecursion (EachHas LaterV D)) (sym (map-append formula_in mine rest_mine)) (every_append (EachHas LaterV D) (formulas mine) (formulas rest_mine) (equations_covered count d e l (slice_index_or ds c nothing_done).joined j.1) rest.1),
           )
 
       -- a block's commands leave what isn't renamed alone

@@ -40,10 +40,9 @@ use Rattle.rebuild_laws.proofs.AxiomsOfTexts.{each_used}
 use Rattle.rebuild_laws.proofs.SameNames.{vars_met, functions_met, new_low, new_function, name_alike}
 use Rattle.rebuild_laws.proofs.MetNumbers.{consts_are, globals_are}
 use Rattle.rebuild_laws.proofs.NamesOfTexts.{twins, twins_back, names}
-use Rattle.rebuild_laws.proofs.EntityUses.{behind}
 use Rattle.bpl_resolve.proofs.FunctionOrder.{stays}
+use Rattle.bpl_resolve.proofs.TypeSorts.{member_right}
 use Rattle.rebuild_laws.proofs.CalleesAlike.{both_procedures}
-use Rattle.rebuild_laws.proofs.ContractsFine.{contract_fine}
 use Rattle.rebuild_laws.proofs.OwnProcedures.{all_first, all_second, OwnProcedure, own_procedure, FineOwn, own_is_fine, SameOwn, same_own}
 use Rattle.rebuild_laws.proofs.SignaturesAlike.{Follow, AlikeContracts, contracts_alike, body_vars_alike, body_hides, locals_alike}
 
@@ -129,16 +128,16 @@ module _ (ds : List Decl) (p : Proc) (es : List Decl) (q : Proc) (none : fault_o
       → Callees M O (vars_met ds p) (vars_met es q) (new_low ds es) (new_low es ds) (new_function ds es) F k (procedure_number (entity_of U n))
   callee_alike n k d u e =
       let r = both_procedures ds p es q (twins ds p es q none none_there body body_there own others) (twins_back ds p es q none none_there body body_there own others) none none_there n k d (used u) e in
-      let f = contract_fine ds none n k d e in
-      let g = d.signature in
-      let us = flat_map (spec_uses (texts_of (signature_names g))) d.specs in
-      let a = contracts_alike (new_function ds es) N F Read (Used ds p) T U C E alike_names g d.specs (length (names_of g.ins) + length (names_of g.outs)) (λ j l. (new_behind j, read_behind j)) (omega arith)
-      n n r.implemented r.new_implemented r.contract.signature r.contract.specs f.parameters f.specs
-      (each_used (Used ds p) (signature_uses g) (λ m i. r.uses m (stays m (signature_uses g) us i))) (each_used (Used ds p) us (λ m i. r.uses m (behind m (signature_uses g) us i)))
-      (ap (λ (z : Contract). z.signature) r.same) (ap (λ (z : Contract). z.specs) r.same) in
-      let at = ap (λ o. slice_get O.procs (procedure_number o)) r.is_there ∙ r.there in
-      subst (λ o. AlikeCallee M O (vars_met ds p) (vars_met es q) (new_low ds es) (new_low es ds) (new_function ds es) F o (slice_get O.procs (procedure_number (entity_of U n)))) (sym r.here)
-      (subst (λ o. AlikeCallee M O (vars_met ds p) (vars_met es q) (new_low ds es) (new_low es ds) (new_function ds es) F (Some (proc_of T C n g d.specs r.implemented)) o) (sym at) (both (record { ins = a.ins; outs = a.outs; specs = a.specs })))
+      let f = r.here.fine in
+      let g = r.here.signature in
+      let us = flat_map (spec_uses (texts_of (signature_names g))) r.here.specs in
+      let a = contracts_alike (new_function ds es) N F Read (Used ds p) T U C E alike_names g r.here.specs (length (names_of g.ins) + length (names_of g.outs)) (λ j l. (new_behind j, read_behind j)) (omega arith)
+      n n r.here.implemented r.there.implemented r.there.signature r.there.specs f.parameters f.specs
+      (each_used (Used ds p) (signature_uses g) (λ m i. r.uses m (stays m (signature_uses g) us i))) (each_used (Used ds p) us (λ m i. r.uses m (member_right m (signature_uses g) us i)))
+      r.signatures r.clauses in
+      let at = ap (λ o. slice_get O.procs (procedure_number o)) r.is_there ∙ r.there.here in
+      subst (λ o. AlikeCallee M O (vars_met ds p) (vars_met es q) (new_low ds es) (new_low es ds) (new_function ds es) F o (slice_get O.procs (procedure_number (entity_of U n)))) (sym r.here.here)
+      (subst (λ o. AlikeCallee M O (vars_met ds p) (vars_met es q) (new_low ds es) (new_low es ds) (new_function ds es) F (Some (proc_of T C n g r.here.specs r.here.implemented)) o) (sym at) (both (record { ins = a.ins; outs = a.outs; specs = a.specs })))
 
   module _ (written : AreWrittenDecls 0 ds) (written_there : AreWrittenDecls 0 es) (stands : Contains (with_body (module_of ds)) p) (stands_there : Contains (with_body (module_of es)) q) where
     here : OwnProcedure ds p none

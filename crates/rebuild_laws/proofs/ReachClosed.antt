@@ -8,7 +8,7 @@ use Rattle.logic_core.proofs.Booleans.{or_true}
 use mathlib.Core.Logic.{inl, inr}
 use Rattle.bpl_model.specs.Module.{Proc, Module}
 use Rattle.bpl_model.specs.Reach.{among, decl_at, positions, reaches_axiom, leads_to, reach_on, own_positions, reached_by}
-use Rattle.vc_build.proofs.SortedGraphLists.{of_any}
+use Rattle.bpl_model.proofs.NumberLists.{of_any}
 
 -- tests, the first of which passes no more than the second
 module _ (p q : ℕ → Bool) (less : (d : ℕ) → p d ≡ true → q d ≡ true) where

@@ -14,10 +14,11 @@ use Rattle.bpl_resolve.proofs.TypesKnown.{SynonymsFine, remaining, all_remain, l
 use Rattle.bpl_resolve.proofs.EntriesFine.{synonyms_fine}
 use Rattle.bpl_resolve.proofs.ModuleSorts.{fine, acyclic}
 use Rattle.bpl_resolve.proofs.ScopesFit.{some_heading}
+use Rattle.bpl_resolve.proofs.TypeSorts.{member_right}
 use Rattle.rebuild_laws.specs.Twins.{Twins}
 use Rattle.rebuild_laws.proofs.NamesInUse.{Used, Met, used}
 use Rattle.rebuild_laws.proofs.UsedNames.{bare_meaning, same_entity, entity_entry}
-use Rattle.rebuild_laws.proofs.EntityUses.{entity_uses, behind, used_in_entity}
+use Rattle.rebuild_laws.proofs.EntityUses.{entity_uses, used_in_entity}
 use Rattle.rebuild_laws.proofs.AppliedNames.{bare_heading, heading_applies, heading_quantified, heading_used}
 
 any_at : (f g : Text → Bool) (ns : List Text) → ((m : Text) → Member m ns → f m ≡ g m) → list_any f ns ≡ list_any g ns
@@ -91,8 +92,8 @@ module _ (ds : List Decl) (p : Proc) (es : List Decl) (q : Proc) (twins : Twins 
   applied_used n m g u e i =
       let r = entity_entry T n (a_function g) e in
       used_in_entity ds p n m r.0 u r.1 (subst (λ w. Member m (entity_uses w)) (sym r.2)
-      (behind m (arguments_uses g.ins) (type_uses [] g.result ++ guard_uses (texts_of (argument_names g.ins)) g.value)
-      (behind m (type_uses [] g.result) (guard_uses (texts_of (argument_names g.ins)) g.value) (heading_used g m i))))
+      (member_right m (arguments_uses g.ins) (type_uses [] g.result ++ guard_uses (texts_of (argument_names g.ins)) g.value)
+      (member_right m (type_uses [] g.result) (guard_uses (texts_of (argument_names g.ins)) g.value) (heading_used g m i))))
 
   same_within : (k : ℕ) (n : Text) → Met ds p n → IsFunction T n → is_logical_within T k n ≡ is_logical_within U k n
   same_within zero n u x = refl

@@ -1,28 +1,28 @@
 -- A type over names that are met stands for the same sort in both programs.
-use Rattle.std.specs.Prelude.{◌≡◌, ℕ, zero, suc, ◌+◌, List, [], ◌∷◌, ◌++◌, map, length, Option, Some, None, option_map}
-use Rattle.std.proofs.Common.{refl, ap, sym, ◌∙◌, subst, arith, inl, inr, ◌⊎◌}
+use Rattle.std.specs.Prelude.{◌≡◌, ℕ, zero, suc, ◌+◌, List, [], ◌∷◌, length, Option, Some, None, option_map}
+use Rattle.std.proofs.Common.{refl, ap, sym, ◌∙◌, subst, arith, inl, inr}
 use Rattle.logic_core.specs.Tree.{Kind}
 use Rattle.logic_core.specs.Wide.{◌>>=◌}
-use Rattle.bpl_ast.specs.Place.{Name, Params, Ty, integer, boolean, named, map_type, Tys, no_tys, ty}
+use Rattle.bpl_ast.specs.Place.{Ty, integer, boolean, named, map_type, Tys, no_tys, ty}
 use Rattle.bpl_ast.specs.Statement.{Decl}
 use Rattle.bpl_model.specs.Module.{Proc}
-use Rattle.bpl_scopes.specs.Scopes.{Text, Entity, a_constant, a_global, a_function, a_synonym, a_procedure, Table, table_of, counts_after, no_counts, entry_of, entity_of}
+use Rattle.bpl_scopes.specs.Scopes.{Text, Entity, a_constant, a_global, a_function, a_synonym, a_procedure, Table, table_of, counts_after, no_counts, entity_of}
 use Rattle.bpl_scopes.specs.Sorts.{map_sort, sort_by, sorts_by, synonym_in, synonym_sort, sort_of_type}
 use Rattle.bpl_scopes.specs.Functions.{names_in_type, names_in_types}
-use Rattle.bpl_scopes.specs.TypeFaults.{type_name_faults, type_faults}
+use Rattle.bpl_scopes.specs.TypeFaults.{type_name_faults}
 use Rattle.bpl_declaration_faults.specs.DeclFaults.{fault_of}
 use Rattle.canonical_text.specs.Same.{start, bare_type, bare_types}
 use Rattle.bpl_resolve.proofs.Below.{Below}
 use Rattle.bpl_resolve.proofs.HasSort.{Known}
 use Rattle.bpl_resolve.proofs.Ways.{Member}
 use Rattle.bpl_resolve.proofs.FunctionOrder.{stays}
-use Rattle.bpl_resolve.proofs.TypeSorts.{below_then, sort_below}
-use Rattle.bpl_resolve.proofs.TypesKnown.{SynonymsFine, type_known}
+use Rattle.bpl_resolve.proofs.TypeSorts.{sort_below, member_right}
+use Rattle.bpl_resolve.proofs.TypesKnown.{SynonymsFine, type_known, up_to}
 use Rattle.bpl_resolve.proofs.EntriesFine.{synonyms_fine, table_fine}
 use Rattle.rebuild_laws.specs.Twins.{Twins}
 use Rattle.rebuild_laws.proofs.NamesInUse.{Used, Met, used}
 use Rattle.rebuild_laws.proofs.UsedNames.{bare_meaning, same_entity, entity_entry}
-use Rattle.rebuild_laws.proofs.EntityUses.{entity_uses, behind, used_in_entity}
+use Rattle.rebuild_laws.proofs.EntityUses.{entity_uses, used_in_entity}
 
 -- a type but for places has the same sort
 module _ (f : Text → Option Kind) where
@@ -45,11 +45,11 @@ module _ (f g : Text → Option Kind) where
     sort_over (integer p) h = refl
     sort_over (boolean p) h = refl
     sort_over (named p n) h = h n.text (inl refl)
-    sort_over (map_type p ps ds r) h = λ i. map_sort ps (sorts_over ds (λ m k. h m (stays m (names_in_types ds) (names_in_type r) k)) i) (sort_over r (λ m k. h m (behind m (names_in_types ds) (names_in_type r) k)) i)
+    sort_over (map_type p ps ds r) h = λ i. map_sort ps (sorts_over ds (λ m k. h m (stays m (names_in_types ds) (names_in_type r) k)) i) (sort_over r (λ m k. h m (member_right m (names_in_types ds) (names_in_type r) k)) i)
 
     sorts_over : (ss : Tys) → ((m : Text) → Member m (names_in_types ss) → f m ≡ g m) → sorts_by f ss ≡ sorts_by g ss
     sorts_over no_tys h = refl
-    sorts_over (ty s ss) h = λ i. sort_over s (λ m k. h m (stays m (names_in_type s) (names_in_types ss) k)) i ∷ sorts_over ss (λ m k. h m (behind m (names_in_type s) (names_in_types ss) k)) i
+    sorts_over (ty s ss) h = λ i. sort_over s (λ m k. h m (stays m (names_in_type s) (names_in_types ss) k)) i ∷ sorts_over ss (λ m k. h m (member_right m (names_in_type s) (names_in_types ss) k)) i
 
 same_sort_of : (f g : Text → Option Kind) (s r : Ty) → bare_type s ≡ bare_type r → ((m : Text) → Member m (names_in_type s) → f m ≡ g m) → sort_by f s ≡ sort_by g r
 same_sort_of f g s r e h = sort_over f g s h ∙ (sym (sort_bare g s) ∙ (ap (sort_by g) e ∙ sort_bare g r))
@@ -79,11 +79,6 @@ bind_below (Some s) f g h = h s
 one_more : (t : Table) (k : ℕ) (n : Text) → Below (synonym_sort t k n) (synonym_sort t (suc k) n)
 one_more t zero n = inl refl
 one_more t (suc k) n = bind_below (synonym_in (entity_of t n)) _ _ (sort_below (synonym_sort t k) (synonym_sort t (suc k)) (one_more t k))
-
-up_to : (t : Table) (j k : ℕ) (n : Text) → Below (synonym_sort t k n) (synonym_sort t (j + k) n)
-up_to t zero k n = let e : 0 + k ≡ k = omega arith in subst (λ w. Below (synonym_sort t k n) (synonym_sort t w n)) (sym e) (inr refl)
-up_to t (suc j) k n = let e : suc j + k ≡ suc (j + k) = omega arith in
-    subst (λ w. Below (synonym_sort t k n) (synonym_sort t w n)) (sym e) (below_then _ _ _ (up_to t j k n) (one_more t (j + k) n))
 
 known_below : (o q : Option Kind) → Known o → Below o q → o ≡ q
 known_below o q (k, e) (inl h) = let z = sym h ∙ e in absurd (cc)

@@ -6,23 +6,23 @@ use Rattle.bpl_ast.specs.Tree.{Groups, no_groups, group}
 use Rattle.bpl_ast.specs.Statement.{DeclBody, constant, function, axiom_of, variables, synonym, procedure, implementation}
 use Rattle.bpl_scopes.specs.Scopes.{Text, Heading, Contract, Entity, a_constant, a_global, a_function, a_synonym, a_procedure, Entry, Table, Counts, no_counts, names_of, typed_names, entries_from, entries_of, entry_of}
 use Rattle.canonical_text.specs.Same.{bare_names, bare_type, bare, bare_groups}
-use Rattle.canonical_text.specs.SameStatement.{bare_spec, bare_signature, bare_argument, bare_decl}
+use Rattle.canonical_text.specs.SameStatement.{bare_signature, bare_argument, bare_decl}
 use Rattle.canonical_text.specs.Heads.{head_of, bare_head}
 
--- but for places and its number
+-- but for places, its number, and what it modifies
 abbrev pub bare_entity : Entity → Entity
 bare_entity (a_constant k s) = a_constant 0 (bare_type s)
 bare_entity (a_global k s) = a_global 0 (bare_type s)
 bare_entity (a_function h) = a_function (record { ins = map bare_argument h.ins; result = bare_type h.result; value = option_map bare h.value })
 bare_entity (a_synonym s) = a_synonym (option_map bare_type s)
-bare_entity (a_procedure k d) = a_procedure 0 (record { signature = bare_signature d.signature; specs = map bare_spec d.specs })
+bare_entity (a_procedure k d) = a_procedure 0 (record { signature = bare_signature d.signature; modified = [] })
 
 abbrev unnumbered : Entity → Entity
 unnumbered (a_constant k s) = a_constant 0 s
 unnumbered (a_global k s) = a_global 0 s
 unnumbered (a_function h) = a_function h
 unnumbered (a_synonym s) = a_synonym s
-unnumbered (a_procedure k d) = a_procedure 0 d
+unnumbered (a_procedure k d) = a_procedure 0 (record { signature = d.signature; modified = [] })
 
 abbrev pub bare_found : Option Entry → Option Entity
 bare_found o = option_map (λ (e : Entry). bare_entity e.entity) o

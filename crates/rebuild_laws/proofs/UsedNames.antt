@@ -143,9 +143,14 @@ module _ (ds : List Decl) (p : Proc) (es : List Decl) (q : Proc) (twins : Twins 
 
   -- there stands the same for it but for places and numbers
   pub record SameThere (n : Text) (e : Entry) : Type 0 where
+    pub decl : Decl
+    pub at : slice_get ds e.decl ≡ Some decl
     pub entry : Entry
     pub is : entry_of (table_of es) n ≡ Some entry
     pub reached : Reached es q entry.decl
+    pub twin : Decl
+    pub twin_at : slice_get es entry.decl ≡ Some twin
+    pub heads : bare_head decl.body ≡ bare_head twin.body
     pub same : bare_entity e.entity ≡ bare_entity entry.entity
 
   pub same_there : fault_of es ≡ None → (n : Text) (e : Entry) → Met ds p n → entry_of (table_of ds) n ≡ Some e → SameThere n e
@@ -156,7 +161,18 @@ module _ (ds : List Decl) (p : Proc) (es : List Decl) (q : Proc) (twins : Twins 
       let there = ap (λ ns. is_among ns n) (sym (same_declared r.decl.body w.decl.body w.same)) ∙ declared in
       let f = found_at (table_of es) (counts_after no_counts es) nothing_before no_counts 0 es w.position w.decl n (none_faulty es fine) w.at there in
       let both = ap bare_found (sym r.here) ∙ (same_found n r.counts f.counts e.decl f.entry.decl r.decl.body w.decl.body w.same ∙ ap bare_found f.here) in
-      record { entry = f.entry; is = f.is; reached = subst (Reached es q) (sym f.decl) (place w.position w.stands); same = same_some (bare_entity e.entity) (bare_entity f.entry.entity) both }
+      let begin : 0 + w.position ≡ w.position = omega arith in
+      record {
+        decl = r.decl;
+        at = r.at;
+        entry = f.entry;
+        is = f.is;
+        reached = subst (Reached es q) (sym f.decl) (place w.position w.stands);
+        twin = w.decl;
+        twin_at = ap (slice_get es) (f.decl ∙ begin) ∙ w.at;
+        heads = w.same;
+        same = same_some (bare_entity e.entity) (bare_entity f.entry.entity) both;
+      }
     where
       same_some : (a b : Entity) → Some a ≡ Some b → a ≡ b
       same_some a b z = cc

@@ -1,6 +1,5 @@
 -- What the opener's calls are for a session.
-use Rattle.std.proofs.Common.{◌≡◌, ◌⊎◌, ◌∙◌, refl, sym, ap, subst, ℕ, ◌==◌, Bool, true, false, cond, IsTrue, List, [], ◌∷◌, ◌++◌, map, Option, append-nil, inl, inr, Result, Ok, Err}
-use Rattle.std.specs.Prelude.{OnErr}
+use Rattle.std.proofs.Common.{◌≡◌, ◌⊎◌, ◌∙◌, refl, sym, ap, subst, ℕ, ◌==◌, Bool, true, false, cond, IsTrue, List, [], ◌∷◌, ◌++◌, map, Option, append-nil, inl, inr}
 use Rattle.std.proofs.lemmas.List.{map-append}
 use Rattle.obligation_text.specs.Asked.{Asked, key_of, KeysTellApart}
 use Rattle.tableau.specs.Settled.{Settled, IsRight, settled_by}
@@ -67,10 +66,6 @@ module _ (b : GoalsShared) (p m q : GoalPass) (h : HasSettled b p m) where
         (passes_are_between p q all_calls (later_more b p m q h.calls (made gather (gathered shown) ∷ []) h.stays k).later) (is_gathered all) keys).0
 
 -- ---- by the result of a call
-
-pub on_err : {A E : Type 0} {X Y : Type 0} (r : Result A E) → (X → Y) → OnErr r X → OnErr r Y
-on_err (Ok x) f h = h
-on_err (Err e) f h = f h
 
 module _ (b : GoalsShared) (p q : GoalPass) where
   pub none_opened : StaysOpener b p q (made no_memory memory ∷ []) → AreMade 1 (board_of p) (own_calls p) (board_of q) (own_calls q) [] ⊎ AreMade 1 (board_of p) (own_calls p) (board_of q) (own_calls q) (made no_memory memory ∷ [])

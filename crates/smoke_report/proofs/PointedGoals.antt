@@ -2,6 +2,7 @@
 use Rattle.std.proofs.Common.{◌≡◌, ◌∙◌, refl, sym, ap, subst, arith, ℕ, suc, ◌+◌, ◌<◌, List, [], ◌∷◌, ◌++◌, map, length, slice_get, Option, Some, None, option_map}
 use Rattle.std.proofs.lemmas.Option.{slice_get-map, slice_get-get_or}
 use Rattle.std.specs.List.{AllByRecursion}
+use Rattle.logic_core.proofs.EachOf.{every_append}
 use Rattle.bpl_model.specs.Module.{Proc, Module}
 use Rattle.bpl_model.specs.NoGoto.{BodyHasNoGoto}
 use Rattle.bpl_model.specs.Typed.{IsTypedProc, IsTypedModule}
@@ -13,7 +14,6 @@ use Rattle.smoke_report.specs.Put.{proc_with_point, procs_with, with_point}
 use Rattle.smoke_report.proofs.Found.{found_in}
 use Rattle.smoke_report.proofs.StaysTyped.{moved_proc, moved_procs, with_point_stays_typed}
 use Rattle.smoke_report.proofs.GoesForward.{with_point_goes_forward}
-use Rattle.vc_build.proofs.Joined.{all_join}
 use Rattle.vc_build.specs.Goals.{goals_by_passes, goals_of_found, goals_at}
 use Rattle.smoke_report.specs.declared.program_point.ProgramPoint.{ProgramPoint}
 use Rattle.smoke_report.specs.Pointed.{AreOf, proc_at, pointed, with_points}
@@ -74,7 +74,7 @@ module _ (m : Module) (typed : IsTypedModule m) (forward : AllGoForward m) (xs :
       functions = typed.functions;
       axioms = typed.axioms;
       clauses = typed.clauses;
-      procs = all_join (IsTypedProc W) m.procs (map (pointed m.procs) xs)
+      procs = every_append (IsTypedProc W) m.procs (map (pointed m.procs) xs)
           (moved_procs m W.procs (are_like m.procs W.procs (with_others m.procs (map (pointed m.procs) xs))) m.procs typed.procs) (typed_each xs h);
       texts = typed.texts;
     }

@@ -2,11 +2,11 @@
 use Rattle.std.proofs.Common.{◌≡◌, ◌∙◌, refl, ap, arith, ℕ, suc, ◌+◌, ◌-◌, Bool, true, false, cond, List, [], ◌∷◌, slice_get, Some}
 use Rattle.std.specs.Prelude.{filter}
 use Rattle.std.specs.List.{AllByRecursion}
+use Rattle.logic_core.proofs.EachOf.{every_append}
 use Rattle.bpl_model.specs.Module.{Proc, Module}
 use Rattle.smoke_report.specs.declared.point.Point.{Point}
 use Rattle.smoke_report.specs.Points.{points, point_at}
 use Rattle.smoke_report.proofs.Numbered.{number_is}
-use Rattle.vc_build.proofs.Joined.{all_join}
 use Rattle.smoke_report.specs.declared.program_point.ProgramPoint.{ProgramPoint}
 use Rattle.smoke_report.specs.ProgramPoints.{points_on, points_from, program_points}
 
@@ -34,7 +34,7 @@ module _ (m : Module) where
   each_from k [] h = tt
   each_from k (p ∷ ps) h =
       let there : slice_get m.procs k ≡ Some p = (let e : k ≡ k + 0 = omega arith in ap (slice_get m.procs) e) ∙ h 0 in
-      all_join (IsAt m) (points_on k p.name 1 (points p)) (points_from (k + 1) ps) (each_on k p there 0 (points p) (λ j. let e : 0 + j ≡ j = omega arith in ap (slice_get (points p)) e))
+      every_append (IsAt m) (points_on k p.name 1 (points p)) (points_from (k + 1) ps) (each_on k p there 0 (points p) (λ j. let e : 0 + j ≡ j = omega arith in ap (slice_get (points p)) e))
       (each_from (k + 1) ps (λ j. (let e : k + 1 + j ≡ k + suc j = omega arith in ap (slice_get m.procs) e) ∙ h (suc j)))
 
   pub each_is : AllByRecursion (IsAt m) (program_points m)

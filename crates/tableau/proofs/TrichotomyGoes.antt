@@ -13,6 +13,7 @@ use Rattle.logic_core.specs.WellSorted.{IsFormula}
 use Rattle.logic_laws.proofs.Options.{bind_some, map_some, when_some, cond_has}
 use Rattle.logic_laws.proofs.SortTests.{sort_is}
 use Rattle.logic_laws.proofs.FormulaSorts.{part_of_negation, parts_of_at_most, parts_of_equal}
+use Rattle.logic_laws.proofs.FormulaValues.{zero_found}
 use Rattle.proof_core.specs.Context.{Context, with_fact, named, appended}
 use Rattle.proof_core.specs.Maps.{below_zero, at_zero, above_zero}
 use Rattle.proof_core.specs.Ends.{after_trichotomy}
@@ -23,7 +24,6 @@ use Rattle.tableau_branch.specs.Branch.{Fact, Branch, Attempt, none, gives, unle
 use Rattle.tableau_branch.specs.Move.{Move}
 use Rattle.theory_rules.specs.Trichotomy.{has_opposite, equation_of_zero, undecided_in, undecided, is_not, decided_by, is_known_way, ways, trichotomy_at, trichotomy}
 use Rattle.tableau.proofs.Tracked.{IsKnown}
-use Rattle.tableau.proofs.OutsideSorts.{zero_side}
 use Rattle.tableau.proofs.Outcomes.{IsPlaced, Outcome}
 use Rattle.tableau.proofs.Tightening.{placed_without}
 use Rattle.tableau.proofs.Appending.{appended_normal, case_reached}
@@ -44,7 +44,7 @@ module _ (defs : List Def) where
   equation_int vars (equal x z) d s h =
       let w = when_some (is_zero z) x d h in
       let p = parts_of_equal vars defs x z [] boolean s in
-      let number : p.0 ≡ int = (let a : sort_of vars defs [] (num (pos 0)) ≡ Some p.0 = subst (λ y. sort_of vars defs [] y ≡ Some p.0) (zero_side z w.0) p.2 in cc) in
+      let number : p.0 ≡ int = (let a : sort_of vars defs [] (num (pos 0)) ≡ Some p.0 = subst (λ y. sort_of vars defs [] y ≡ Some p.0) (zero_found z w.0) p.2 in cc) in
       subst (λ y. sort_of vars defs [] y ≡ Some int) w.1 (subst (λ k. sort_of vars defs [] x ≡ Some k) number p.1)
   equation_int vars t d s h = absurd (cc)
 

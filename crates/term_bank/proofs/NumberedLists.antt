@@ -1,8 +1,9 @@
 -- Numbers of the terms of lists.
-use Rattle.std.proofs.Common.{◌≡◌, refl, sym, ap, ◌∙◌, ℕ, ℤ, Vec, ◌+◌, ◌<◌, ◌≤◌, List, [], ◌∷◌, ◌++◌, map, length, take, drop, get_or, arith}
-use Rattle.std.specs.List.{AllZip, AllByRecursion, flat_map}
+use Rattle.std.proofs.Common.{◌≡◌, refl, ℕ, ℤ, Vec, ◌+◌, ◌<◌, List, [], ◌∷◌, ◌++◌, map, length}
+use Rattle.std.specs.List.{AllZip, AllByRecursion}
 use Rattle.std.specs.declared.alloc.Global.{Global}
 use Rattle.logic_core.specs.Tree.{Tree}
+use Rattle.logic_core.proofs.EachOf.{every_append}
 use Rattle.term_bank.specs.Numbered.{at, Begins, IsNumber, AreNumbers, AreAtoms, AreLists}
 use Rattle.term_bank.specs.Node.{in_lists}
 use Rattle.term_bank.proofs.Numbers.{number_is, number_kept}
@@ -18,10 +19,6 @@ zip_push R [] [] x y h r = (r, tt)
 zip_push R [] (z ∷ ys) x y h r = absurd h
 zip_push R (z ∷ xs) [] x y h r = absurd h
 zip_push R (w ∷ xs) (z ∷ ys) x y h r = (h.0, zip_push R xs ys x y h.1 r)
-
-pub all_append : {A : Type 0} (P : A → Type 0) (xs ys : List A) → AllByRecursion P xs → AllByRecursion P ys → AllByRecursion P (xs ++ ys)
-all_append P [] ys h g = g
-all_append P (x ∷ xs) ys h g = (h.0, all_append P xs ys h.1 g)
 
 -- they stay numbers of these terms
 pub numbers_kept : (ts us : List Tree) (is : List ℕ) (vs : List Tree) → Begins ts us → AreNumbers ts is vs → AreNumbers us is vs
@@ -69,4 +66,4 @@ pub lists_within : (ts : List Tree) (iss : List (Vec ℕ Global)) (vss : List (L
 lists_within ts [] [] h = tt
 lists_within ts [] (v ∷ vs) h = absurd h
 lists_within ts (i ∷ is) [] h = absurd h
-lists_within ts (i ∷ is) (v ∷ vs) h = all_append (λ i. i < length ts) i.items (in_lists is) (numbers_within ts i.items v h.0) (lists_within ts is vs h.1)
+lists_within ts (i ∷ is) (v ∷ vs) h = every_append (λ i. i < length ts) i.items (in_lists is) (numbers_within ts i.items v h.0) (lists_within ts is vs h.1)

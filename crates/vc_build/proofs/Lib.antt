@@ -3,7 +3,6 @@ pub mod Chain
 pub mod WithoutGotos
 pub mod SortedGraphEdges
 pub mod SortedGraphEntry
-pub mod SortedGraphLists
 pub mod SortedGraphOver
 pub mod SortedGraphTerms
 pub mod SortedGraphOwn
@@ -33,6 +32,5 @@ mod GraphMarks
 mod BlockMarks
 mod CallMarks
 pub mod TextMarks
-pub mod Joined
 mod SortedGoals
 mod ProvedGoals

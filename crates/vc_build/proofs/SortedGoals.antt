@@ -4,6 +4,7 @@ use Rattle.std.specs.List.{AllByRecursion, range_with_len}
 use Rattle.logic_core.specs.Tree.{Tree}
 use Rattle.logic_core.specs.Def.{Def}
 use Rattle.logic_core.specs.WellSorted.{IsWellSorted}
+use Rattle.logic_core.proofs.EachOf.{every_append}
 use Rattle.flow_core.specs.declared.command.Command.{Command}
 use Rattle.flow_core.specs.declared.command.Command.TheVariants.{Assert, Assume, Assign, Havoc}
 use Rattle.passive_form.specs.declared.passive.Passive.{Passive}
@@ -21,14 +22,13 @@ use Rattle.vc_build.specs.Goals.{sequent_at, obligation_at, goals_in, goals_of_g
 use Rattle.vc_build.specs.Sound.{SequentsAreSorted}
 use Rattle.vc_build.proofs.Some.{in_mapped}
 use Rattle.vc_build.specs.Proved.{GoalsAreSorted}
-use Rattle.vc_build.proofs.Joined.{all_join}
 
 abbrev AreSorted : List Goal → Type 0
 AreSorted gs = AllByRecursion (λ g. IsWellSorted g.obligation) gs
 
 each_sorted : (f : ℕ → List Goal) (ns : List ℕ) → ((n : ℕ) → AreSorted (f n)) → AreSorted (flat_map f ns)
 each_sorted f [] h = tt
-each_sorted f (n ∷ ns) h = all_join (λ (g : Goal). IsWellSorted g.obligation) (f n) (flat_map f ns) (h n) (each_sorted f ns h)
+each_sorted f (n ∷ ns) h = every_append (λ (g : Goal). IsWellSorted g.obligation) (f n) (flat_map f ns) (h n) (each_sorted f ns h)
 
 -- those of a graph, where the obligation of each place is
 module _ (g : Passive) (defs : List Def) (axioms : List Tree) (h : (k at : ℕ) → IsWellSorted (obligation_at g defs axioms k at)) where

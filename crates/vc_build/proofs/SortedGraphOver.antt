@@ -6,7 +6,8 @@ use Rattle.std.proofs.lemmas.List.{length-map}
 use Rattle.std.proofs.lemmas.List.Quantifiers.{position-Some}
 use Rattle.logic_core.specs.Tree.{Kind, Tree}
 use Rattle.logic_core.specs.Variables.{renamed}
-use Rattle.logic_laws.proofs.SortedNumbers.{There, HasVariable, HasDefinition, mentions_there, formula_is_sorted}
+use Rattle.logic_core.proofs.ThereIs.{There}
+use Rattle.logic_laws.proofs.SortedNumbers.{HasVariable, HasDefinition, mentions_there, formula_is_sorted}
 use Rattle.logic_laws.proofs.RenamedSorts
 use Rattle.bpl_model.specs.Module.{Local, Proc, Module}
 use Rattle.bpl_model.specs.Numbering.{defs_of, const_sorts, global_sorts, local_sorts, contract_sorts, sorts_of, first_global, first_entry, first_in, first_out}

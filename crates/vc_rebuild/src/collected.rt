@@ -6,14 +6,14 @@ ghost use Rattle.vc_rebuild.specs.Kept.{all_goals};
 ghost use Rattle.vc_rebuild.specs.Within.{are_within};
 
 use crate::kept::BuiltProc;
-use crate::shared::SharedGoal;
+use crate::shared::KeptGoal;
 use std::alloc::{AllocError, Global};
 use std::marker::Model;
 use vc_build::fault::{BYTE_LIMIT, COUNT_LIMIT};
 
 // The bytes of the texts of the goals' obligations, or 2^64 - 1 where these are more.
 #[tactic(auto, using(crate::proofs::WithinLimits::size_first))]
-fn bytes_of(goals: &[SharedGoal]) -> u64
+fn bytes_of(goals: &[KeptGoal]) -> u64
     ensures { result ≡ capped (sum (sizes_of goals.now)) }
 {
     let mut bytes: u64 = 0;
@@ -71,7 +71,7 @@ impl Collected {
 
     /// Whether no limit is exceeded with these goals behind.
     #[tactic(auto, using(crate::proofs::WithinLimits::room_for))]
-    pub fn has_room(&self, goals: &[SharedGoal]) -> bool
+    pub fn has_room(&self, goals: &[KeptGoal]) -> bool
         ensures { result ≡ are_within (all_goals self.now ++ goals.now) }
     {
         goals.len() as u64 <= COUNT_LIMIT - self.count && bytes_of(goals) <= BYTE_LIMIT - self.bytes

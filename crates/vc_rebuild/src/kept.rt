@@ -2,7 +2,7 @@
 ghost use Rattle.std.specs.Prelude.{◌≡◌};
 
 use crate::digest::DigestedText;
-use crate::shared::SharedGoal;
+use crate::shared::KeptGoal;
 use bpl_model::Name;
 use logic_core::Sequence;
 use std::marker::Model;
@@ -14,7 +14,7 @@ use std::marker::Model;
 pub struct BuiltProc {
     name: Name,
     depends: DigestedText,
-    goals: Sequence<SharedGoal>,
+    goals: Sequence<KeptGoal>,
 }
 
 impl Model for BuiltProc {
@@ -30,7 +30,7 @@ impl Model for BuiltProc {
 
 impl BuiltProc {
     /// Of these parts.
-    pub(crate) fn of(name: Name, depends: DigestedText, goals: Sequence<SharedGoal>) -> BuiltProc
+    pub(crate) fn of(name: Name, depends: DigestedText, goals: Sequence<KeptGoal>) -> BuiltProc
         ensures { result ≡ record { name = name; depends = depends; goals = goals } }
     {
         BuiltProc {
@@ -55,7 +55,7 @@ impl BuiltProc {
     }
 
     /// Its goals.
-    pub fn goals(&self) -> &[SharedGoal]
+    pub fn goals(&self) -> &[KeptGoal]
         ensures { result.now ≡ self.now.goals }
     {
         self.goals.as_slice()

@@ -25,4 +25,4 @@ pub mod program;
 pub use built::Built;
 pub use kept::BuiltProc;
 pub use program::rebuild;
-pub use shared::SharedGoal;
+pub use shared::KeptGoal;

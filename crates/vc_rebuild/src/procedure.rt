@@ -10,7 +10,7 @@ ghost use Rattle.vc_rebuild.specs.Looked.{IsBefore};
 use crate::candidate::{Before, candidate};
 use crate::digest::DigestedText;
 use crate::kept::BuiltProc;
-use crate::shared::{SharedGoal, remarked, share_all};
+use crate::shared::{KeptGoal, remarked, share_all};
 use crate::text::depends;
 use bpl_model::{Links, Proc};
 use bv_base::Steps;
@@ -53,7 +53,7 @@ fn kept_goals(
     links: &Links<'_>,
     proc: &Proc,
     kept: &BuiltProc,
-) -> Result<Sequence<SharedGoal>, AllocError>
+) -> Result<Sequence<KeptGoal>, AllocError>
     requires { SameObligations kept.now.goals (goals_by_passes links.now proc.now) }
     ensures { IfOk result (λ gs. gs ≡ goals_by_passes links.now proc.now) }
 {
@@ -66,7 +66,7 @@ fn built_goals(
     alloc: Global,
     links: &Links<'_>,
     proc: &Proc,
-) -> Result<Sequence<SharedGoal>, BuildFault>
+) -> Result<Sequence<KeptGoal>, BuildFault>
     requires there { Contains links.now.procs proc.now }
     requires no_goto { BodyHasNoGoto proc.now.body }
     ensures { IfOk result (λ gs. gs ≡ goals_by_passes links.now proc.now) }

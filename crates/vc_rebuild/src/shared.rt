@@ -16,14 +16,14 @@ use vc_build::Goal;
 /// An assertion of a procedure and what is to be proved of it. Before and after an edit the
 /// obligation and its text may be the same ones in memory.
 #[derive(Drop)]
-pub struct SharedGoal {
+pub struct KeptGoal {
     mark: Mark,
     obligation: Arc<Obligation, Global>,
     // the obligation's
     text: Arc<Sequence<u8>, Global>,
 }
 
-impl Model for SharedGoal {
+impl Model for KeptGoal {
     ghost use Rattle.std.specs.Prelude.{◌≡◌};
     ghost use Rattle.std.specs.Arc.{arc_value};
     ghost use Rattle.obligation_text.specs.Text.{obligation_text};
@@ -50,13 +50,13 @@ fn shared_text(
     Ok(Arc::new(alloc, text)?)
 }
 
-impl SharedGoal {
+impl KeptGoal {
     /// The goal, whose obligation and its text may be shared from now on.
-    pub fn new(alloc: Global, goal: Goal) -> Result<SharedGoal, AllocError>
+    pub fn new(alloc: Global, goal: Goal) -> Result<KeptGoal, AllocError>
         ensures { IfOk result (λ g. g ≡ goal) }
     {
         let text = shared_text(alloc, &goal.obligation)?;
-        Ok(SharedGoal {
+        Ok(KeptGoal {
             mark: goal.mark,
             obligation: Arc::new(alloc, goal.obligation)?,
             text,
@@ -85,10 +85,10 @@ impl SharedGoal {
     }
 
     /// The same obligation with another mark.
-    pub fn with_mark(&self, mark: Mark) -> Result<SharedGoal, AllocError>
+    pub fn with_mark(&self, mark: Mark) -> Result<KeptGoal, AllocError>
         ensures { IfOk result (λ g. g ≡ record { mark = mark; obligation = self.now.obligation }) }
     {
-        Ok(SharedGoal {
+        Ok(KeptGoal {
             mark,
             obligation: Arc::try_clone(&self.obligation)?,
             text: Arc::try_clone(&self.text)?,
@@ -97,12 +97,12 @@ impl SharedGoal {
 }
 
 /// The goals, whose obligations may be shared from now on.
-pub fn share_all(alloc: Global, goals: Vec<Goal>) -> Result<Sequence<SharedGoal>, AllocError>
+pub fn share_all(alloc: Global, goals: Vec<Goal>) -> Result<Sequence<KeptGoal>, AllocError>
     ensures { IfOk result (λ gs. gs ≡ goals.items) }
 {
     let mut shared = Vec::new(alloc);
     for goal in goals {
-        shared.push(SharedGoal::new(alloc, goal)?)?;
+        shared.push(KeptGoal::new(alloc, goal)?)?;
     }
     Ok(Sequence::of(shared))
 }
@@ -111,8 +111,8 @@ pub fn share_all(alloc: Global, goals: Vec<Goal>) -> Result<Sequence<SharedGoal>
 pub fn remarked(
     alloc: Global,
     marks: &[Mark],
-    goals: &[SharedGoal],
-) -> Result<Sequence<SharedGoal>, AllocError>
+    goals: &[KeptGoal],
+) -> Result<Sequence<KeptGoal>, AllocError>
     ensures { IfOk result (λ gs. gs ≡ remarked marks.now goals.now) }
 {
     let mut found = Vec::new(alloc);

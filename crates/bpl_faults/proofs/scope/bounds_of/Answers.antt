@@ -1,10 +1,10 @@
 use Rattle.std.proofs.Common.{◌≡◌, ap, sym, ◌∙◌, ◌+◌, ◌++◌, map, drop, reverse, arith}
-use Rattle.std.proofs.lemmas.List.{at_drop_all}
+use Rattle.std.proofs.lemmas.List.{at_drop_all, append-nil}
 use Rattle.bpl_ast.specs.ExprView.{groups_of}
 use Rattle.bpl_scopes.specs.Scopes.{names_of}
 use Rattle.bpl_scopes.specs.Shape.{kind_seen}
 use Rattle.bpl_scopes.specs.KnownSorts.{bound_seen, bounds_seen, hidden_seen}
-use Rattle.bpl_faults.proofs.ListedNames.{bound_for, bounds_next, map_reversed, next_dropped, nothing_behind}
+use Rattle.bpl_faults.proofs.ListedNames.{bound_for, bounds_next, map_reversed, next_dropped}
 use Rattle.bpl_faults.proofs.scope.bounds_of.Goals as goal
 
 pub loop-group-preserved : goal.loop-group-preserved
@@ -21,5 +21,5 @@ pub returns : goal.returns
 returns c =
     let H = hidden_seen c.args.hidden.now in
     let before = bounds_seen c.loop-group.bounds.items in
-    let all = sym (nothing_behind before) ∙ sym (at_drop_all (λ gs. before ++ map (bound_for c.args.types.now H) (names_of (groups_of gs))) c.args.groups.now c.loop-group.group-index c.loop-group-test.false) ∙ c.loop-group.invariant in
+    let all = sym (append-nil before) ∙ sym (at_drop_all (λ gs. before ++ map (bound_for c.args.types.now H) (names_of (groups_of gs))) c.args.groups.now c.loop-group.group-index c.loop-group-test.false) ∙ c.loop-group.invariant in
     ap bounds_seen c.reverse.ensures.items ∙ map_reversed bound_seen c.loop-group.bounds.items ∙ ap reverse all

@@ -3,10 +3,10 @@ use Rattle.logic_core.specs.Tree.{Tree}
 use Rattle.term_bank.specs.Numbered.{Begins}
 use Rattle.tableau.specs.Search.{step}
 use Rattle.numbered_terms.specs.Stored.{Numbered}
+use Rattle.numbered_terms.proofs.Results.{on_ok}
 use Rattle.numbered_branches.specs.Applied.{AttemptsAt}
 use Rattle.numbered_branches.specs.Branches.{NumberedBranch, IsBranchOver, branch_at}
 use Rattle.clause_search.specs.Tables.{AreRight}
-use Rattle.clause_search.proofs.FirstAt.{on_ok}
 use Rattle.clause_search.proofs.rules.step.Goals as goal
 
 pub first_rule-requires : goal.first_rule-requires

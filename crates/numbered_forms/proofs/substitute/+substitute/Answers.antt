@@ -16,8 +16,9 @@ use Rattle.numbered_terms.specs.Renumbered.{IsFound, AreFound}
 use Rattle.numbered_terms.proofs.Items.{item_below, one_more, all_done}
 use Rattle.numbered_terms.proofs.Walking.{still_below, there, unchanged, each_later, right_later, noted_right, noted_covers, noted_found, covers_then, same_numbers, node_before}
 use Rattle.numbered_terms.proofs.Staying.{stays_unreached}
+use Rattle.numbered_terms.proofs.Results.{on_ok}
 use Rattle.numbered_forms.proofs.LongerStores.{numbers_stay}
-use Rattle.numbered_forms.proofs.Substituting.{always, put_as_before}
+use Rattle.numbered_forms.proofs.Substituting.{put_as_before}
 use Rattle.numbered_forms.proofs.substitute.+substitute.Goals as goal
 
 pub put_in-returns-then-is_within-clause-found : goal.put_in-returns-then-is_within-clause-found
@@ -118,7 +119,7 @@ put_node-returns-clause-grows t c = begins_then c.args.terms.now c.put_each.new.
 
 pub put_node-returns-clause-right : goal.put_node-returns-clause-right
 put_node-returns-clause-right t c = let us = c.put_each.new.terms in let R : Tree → Tree = put_within (terms_at c.args.terms.now c.args.args.now) c.args.deeper in
-    always c.put_whole.result (right_later R us c.put_whole.new.terms c.put_each.new.found.entries c.put_whole.ensures.grows c.in_ok-put_each.ensures.right)
+    on_ok c.put_whole.result (right_later R us c.put_whole.new.terms c.put_each.new.found.entries c.put_whole.ensures.grows c.in_ok-put_each.ensures.right)
 
 pub put_node-returns-clause-gives : goal.put_node-returns-clause-gives
 put_node-returns-clause-gives t c = let ts = c.args.terms.now in let us = c.put_each.new.terms in let b = c.put_each.ensures.grows in
@@ -127,8 +128,8 @@ put_node-returns-clause-gives t c = let ts = c.args.terms.now in let us = c.put_
 
 pub put_term-returns-in-Some-clause-right : goal.put_term-returns-in-Some-clause-right
 put_term-returns-in-Some-clause-right t c = let ts = c.args.terms.now in
-    always c.put_bound.result (right_later (put_within (terms_at ts c.args.args.now) c.args.depth) ts c.put_bound.new.terms c.args.found.now.entries c.put_bound.ensures.grows c.requires.right)
+    on_ok c.put_bound.result (right_later (put_within (terms_at ts c.args.args.now) c.args.depth) ts c.put_bound.new.terms c.args.found.now.entries c.put_bound.ensures.grows c.requires.right)
 
 pub put_term-returns-clause-right : goal.put_term-returns-clause-right
 put_term-returns-clause-right t c = let ts = c.args.terms.now in
-    always c.put_under.result (right_later (put_within (terms_at ts c.args.args.now) c.args.depth) ts c.put_under.new.terms c.args.found.now.entries c.put_under.ensures.grows c.requires.right)
+    on_ok c.put_under.result (right_later (put_within (terms_at ts c.args.args.now) c.args.depth) ts c.put_under.new.terms c.args.found.now.entries c.put_under.ensures.grows c.requires.right)

@@ -1,11 +1,12 @@
 use Rattle.std.proofs.Common.{◌≡◌, ◌∙◌, ◌<◌, sym, ap, subst, [], map, length}
 use Rattle.std.specs.List.{AllByRecursion}
 use Rattle.std.proofs.lemmas.Result.{IfOk-weaker}
+use Rattle.numbered_terms.proofs.Results.{on_ok}
 use Rattle.tableau_branch.specs.Branch.{first_from}
 use Rattle.logic_rules.specs.Rewriting.{left_in_another}
 use Rattle.numbered_branches.specs.Branches.{IsFactBelow, fact_at}
 use Rattle.numbered_instances.specs.Shared.{AreShared}
-use Rattle.numbered_instances.proofs.SharedAtoms.{on_ok, counted_on}
+use Rattle.numbered_instances.proofs.SharedAtoms.{counted_on}
 use Rattle.numbered_instances.proofs.LeftFacts.{facts_low, facts_stay}
 use Rattle.numbered_instances.proofs.lefts.oldest_left.Goals as goal
 

@@ -3,8 +3,8 @@ use Rattle.std.specs.List.{AllByRecursion}
 use Rattle.std.specs.declared.alloc.Global.{Global}
 use Rattle.std.proofs.lemmas.List.{map-append}
 use Rattle.logic_core.proofs.Refused.{gives_err}
+use Rattle.logic_core.proofs.EachOf.{every_append}
 use Rattle.term_bank.specs.Numbered.{at}
-use Rattle.term_bank.proofs.NumberedLists.{all_append}
 use Rattle.logic_rules.specs.Rewriting.{rewritten_mark}
 use Rattle.logic_rules.specs.View.{bare}
 use Rattle.numbered_facts.proofs.Growing.{then}
@@ -31,7 +31,7 @@ loop-mark-preserved c =
     record {
       grows = then n m o g d;
       made = each_next F xs (mark_at n.terms) i x (mark_at o.terms y) (map (mark_at m.terms) old) (map (mark_at o.terms) new) _ c.loop-mark-test.true c.mark-item.is made more c.loop-mark.invariant.made;
-      over = subst (AllByRecursion (IsMarkOver o.terms)) (sym c.in_ok-push.ensures.items) (all_append (IsMarkOver o.terms) old (y ∷ []) longer.0 (c.in_ok-made.ensures.over, tt));
+      over = subst (AllByRecursion (IsMarkOver o.terms)) (sym c.in_ok-push.ensures.items) (every_append (IsMarkOver o.terms) old (y ∷ []) longer.0 (c.in_ok-made.ensures.over, tt));
     }
 
 pub returns-in_err-made-clause-gives : goal.returns-in_err-made-clause-gives

@@ -3,9 +3,9 @@ use Rattle.std.specs.List.{AllByRecursion}
 use Rattle.std.specs.declared.alloc.Global.{Global}
 use Rattle.std.proofs.lemmas.List.{map-append}
 use Rattle.logic_core.proofs.Refused.{gives_err}
+use Rattle.logic_core.proofs.EachOf.{every_append}
 use Rattle.term_bank.specs.Numbered.{at}
 use Rattle.term_bank.proofs.Numbers.{begins_at}
-use Rattle.term_bank.proofs.NumberedLists.{all_append}
 use Rattle.logic_rules.specs.Rewriting.{rewritten_within}
 use Rattle.logic_rules.specs.View.{bare}
 use Rattle.numbered_terms.specs.Lists.{terms_at}
@@ -31,7 +31,7 @@ loop-term-preserved c =
     record {
       grows = then n m o g d;
       made = each_next F xs (at n.terms) i x (at o.terms y) (terms_at m.terms old) (terms_at o.terms new) _ c.loop-term-test.true c.term-item.is made more c.loop-term.invariant.made;
-      within = subst (AllByRecursion (λ j. j < length o.terms)) (sym c.in_ok-push.ensures.items) (all_append (λ j. j < length o.terms) old (y ∷ []) (numbers_stay m.terms o.terms d.terms old c.loop-term.invariant.within) (gives.0, tt));
+      within = subst (AllByRecursion (λ j. j < length o.terms)) (sym c.in_ok-push.ensures.items) (every_append (λ j. j < length o.terms) old (y ∷ []) (numbers_stay m.terms o.terms d.terms old c.loop-term.invariant.within) (gives.0, tt));
     }
 
 pub returns-in_err-made-clause-gives : goal.returns-in_err-made-clause-gives

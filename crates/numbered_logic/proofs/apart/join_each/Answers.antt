@@ -1,7 +1,7 @@
 use Rattle.std.proofs.Common.{◌≡◌, sym, subst, ◌<◌, nat_eq, true, ◌∷◌, [], length, take, arith}
 use Rattle.std.specs.List.{list_any, AllByRecursion}
 use Rattle.std.proofs.lemmas.List.{take_all}
-use Rattle.term_bank.proofs.NumberedLists.{all_append}
+use Rattle.logic_core.proofs.EachOf.{every_append}
 use Rattle.tableau_branch.proofs.Lists.{take_item}
 use Rattle.numbered_branches.specs.Branches.{IsFactBelow}
 use Rattle.numbered_branches.proofs.Listing.{all_at}
@@ -22,7 +22,7 @@ loop-fact-preserved c =
       grows = grows_then c.args.store.now c.loop-fact.store c.join.new.store c.loop-fact.invariant.grows c.in_ok-joined.ensures.grows;
       apart = c.in_ok-joined.ensures.apart;
       joined = subst (AllByRecursion (IsListed new)) (sym (take_item fs i f c.loop-fact-test.true c.fact-item.is))
-          (all_append (IsListed new) (take i fs) (f ∷ []) (listed_still old new c.in_ok-joined.ensures.kept (take i fs) c.loop-fact.invariant.joined)
+          (every_append (IsListed new) (take i fs) (f ∷ []) (listed_still old new c.in_ok-joined.ensures.kept (take i fs) c.loop-fact.invariant.joined)
           (subst (λ n. list_any (nat_eq n) new ≡ true) c.term_of-id.ensures (c.in_ok-joined.ensures.joined c.if-not-joined.false), tt));
     }
 

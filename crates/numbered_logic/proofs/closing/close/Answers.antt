@@ -1,5 +1,6 @@
 use Rattle.std.proofs.Common.{◌∙◌, sym, ap, subst, ◌≡◌, None, List, [], map, length}
 use Rattle.std.specs.List.{AllByRecursion}
+use Rattle.numbered_terms.proofs.Results.{on_ok}
 use Rattle.tableau_branch.specs.Branch.{Branch}
 use Rattle.logic_rules.specs.Closing.{pair_from, close}
 use Rattle.numbered_branches.specs.Applied.{TriesAt}
@@ -7,7 +8,7 @@ use Rattle.numbered_branches.specs.Branches.{NumberedBranch, NumberedFact, IsFac
 use Rattle.numbered_branches.proofs.Changing.{branch_more}
 use Rattle.numbered_logic.proofs.Closed.{apart_passes}
 use Rattle.numbered_logic.proofs.Later.{grows_then}
-use Rattle.numbered_logic.proofs.NoPair.{on_ok, apart_later}
+use Rattle.numbered_logic.proofs.NoPair.{apart_later}
 use Rattle.numbered_logic.proofs.closing.close.Goals as goal
 
 pub are_apart-requires-clause-facts : goal.are_apart-requires-clause-facts

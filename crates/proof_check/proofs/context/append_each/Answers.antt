@@ -1,4 +1,4 @@
-use Rattle.std.proofs.Common.{◌≡◌, ◌∙◌, sym, ap, Some, option_map, rules}
+use Rattle.std.proofs.Common.{◌∙◌, sym, ap, Some, option_map, rules}
 use Rattle.proof_check.specs.Added.{with_facts}
 use Rattle.proof_check.proofs.Appending.{appended_at_once}
 use Rattle.proof_check.proofs.context.append_each.Goals as goal

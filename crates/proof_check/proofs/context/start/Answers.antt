@@ -1,4 +1,4 @@
-use Rattle.std.proofs.Common.{◌≡◌, ◌∙◌, refl, ap, option_map, rules}
+use Rattle.std.proofs.Common.{◌∙◌, ap, option_map, rules}
 use Rattle.proof_check.proofs.Appending.{start_at_once}
 use Rattle.proof_check.proofs.context.start.Goals as goal
 

@@ -1,6 +1,5 @@
 use Rattle.std.proofs.Common.{rules}
 use Rattle.std.specs.Prelude.{IsOk}
-use Rattle.proof_core.specs.Accepted.{IsAccepted}
 use Rattle.proof_core.specs.Verdict.{verdict}
 use Rattle.proof_core.proofs.Judged.{refuses_the_others}
 use Rattle.proof_core.proofs.Sound.{acceptance_is_sound}

@@ -1,5 +1,6 @@
 use Rattle.request_text.specs.ReplyView.{reply_view}
-use Rattle.edit_server.proofs.Replies.{on_err, replies_as, fails_as, has_room, answered_more}
+use Rattle.goal_board.proofs.ByItself.{on_any_err}
+use Rattle.edit_server.proofs.Replies.{replies_as, fails_as, has_room, answered_more}
 use Rattle.edit_server.proofs.answerer.LineSession.reply.Goals as goal
 
 pub answer-reply-requires : goal.answer-reply-requires
@@ -14,5 +15,5 @@ pub returns-clause-few : goal.returns-clause-few
 returns-clause-few g c n answered = answered_more c.args.self.now c.self.inside.session c.answer-reply.new.self n c.self.view_is c.answer-reply.ensures.later answered
 
 pub returns-in_err-text-clause-failed : goal.returns-in_err-text-clause-failed
-returns-in_err-text-clause-failed g c = on_err c.from_residual.result (λ wanted is.
+returns-in_err-text-clause-failed g c = on_any_err c.from_residual.result (λ wanted is.
     fails_as c.args.self.now c.self.inside.session c.answer-reply.new.self wanted (reply_view c.answer-reply.result) c.self.view_is (c.answer-reply.ensures.answered wanted is) c.answer-reply.ensures.later)
