@@ -2,6 +2,5 @@ mod NoBranch
 mod SameLines
 mod Led
 mod ChainEnds
-mod GoalMarks
 mod GoalSums
 mod SumEnds

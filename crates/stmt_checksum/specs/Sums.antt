@@ -9,6 +9,6 @@ abbrev pub sums_of_found : Module → List Decl → Option Proc → List (List �
 sums_of_found m ds None = []
 sums_of_found m ds (Some p) = map (λ g. sum_of m ds p.name g.mark) (goals_by_passes m p)
 
--- of the procedure of this number, if there is one, without gotos: one for each goal, in order
+-- of the procedure of this number, if there is one: one for each goal, in order
 abbrev pub sums : Module → List Decl → ℕ → List (List ℕ)
 sums m ds n = sums_of_found m ds (slice_get m.procs n)

@@ -1,8 +1,6 @@
 // The checksums of goals.
-ghost use Rattle.std.specs.Prelude.{◌≡◌, ◌++◌, map, codes, string_bytes, Contains, Some, slice_get, option_map, IfOk, OnOk};
+ghost use Rattle.std.specs.Prelude.{◌≡◌, ◌++◌, map, codes, string_bytes, Some, slice_get, option_map, IfOk, OnOk};
 ghost use Rattle.hex.specs.Hex.{encode_lower};
-ghost use Rattle.bpl_model.specs.Module.{Proc as procedure};
-ghost use Rattle.bpl_model.specs.NoGoto.{BodyHasNoGoto};
 ghost use Rattle.bpl_scopes.specs.Scopes.{table_of};
 ghost use Rattle.report_text.specs.Report.{head};
 ghost use Rattle.stmt_checksum.specs.Chain.{goal_sum};
@@ -11,11 +9,11 @@ ghost use Rattle.stmt_checksum.specs.SumLines.{sum_lines_of, sum_lines};
 
 use crate::chain::{Link, goal_sum, procedure_chain};
 use crate::lines::Leads;
-use crate::marks::goal_marks;
 use bpl_ast::Decl;
 use bpl_model::{Mark, Module, Parts, Proc};
 use report_text::head;
 use std::alloc::{AllocError, Global};
+use vc_build::marks::marks_of;
 
 // The line of a goal's checksum.
 fn sum_line(alloc: Global, name: &str, mark: &Mark, sum: [u8; 32]) -> Result<Vec<u8>, AllocError>
@@ -105,13 +103,11 @@ fn procedure_sums(
     decls: &[Decl],
     proc: &Proc,
 ) -> Result<Vec<[u8; 32]>, AllocError>
-    requires there { Contains «module».now.procs proc.now }
-    requires no_goto { BodyHasNoGoto proc.now.body }
     ensures { IfOk result (λ v. v.items ≡ sums_of_found «module».now decls.now (Some proc.now)) }
 {
     let leads = Leads::of(alloc, module, decls)?;
     let chain = procedure_chain(alloc, &leads, decls, proc.name.as_bytes())?;
-    let marks = goal_marks(alloc, leads.links(), proc)?;
+    let marks = marks_of(alloc, module.parts(), proc)?;
     marked_sums(alloc, &chain, &marks)
 }
 
@@ -123,8 +119,8 @@ fn procedure_at(parts: &Parts, p: usize) -> Option<&Proc>
 }
 
 /// The checksums of the goals of the procedure of this number, in order: of each the chain of SHA-256
-/// after its statement's line. The module is that of these declarations, and no `goto` stands in the
-/// procedure. One without a body has no goals.
+/// after its statement's line. The module is that of these declarations. A procedure without a body has
+/// no goals.
 ///
 /// An error is want of memory.
 pub fn sums(
@@ -133,7 +129,6 @@ pub fn sums(
     decls: &[Decl],
     p: usize,
 ) -> Result<Vec<[u8; 32]>, AllocError>
-    requires { (q : procedure) → slice_get «module».now.procs p ≡ Some q → BodyHasNoGoto q.body }
     ensures { IfOk result (λ v. v.items ≡ sums «module».now decls.now p) }
 {
     match procedure_at(module.parts(), p) {

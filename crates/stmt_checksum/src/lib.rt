@@ -14,9 +14,6 @@ mod chain;
 mod digests;
 mod lines;
 
-// The marks of a procedure's goals.
-mod marks;
-
 // The checksums of goals.
 pub mod checksums;
 

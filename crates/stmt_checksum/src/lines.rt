@@ -41,13 +41,6 @@ impl<'m, 'a> Leads<'m, 'a> {
         })
     }
 
-    /// The module with what is kept of its declarations.
-    pub fn links(&self) -> &Links<'m>
-        ensures { result.now ≡ self.now.links }
-    {
-        &self.links
-    }
-
     /// The chain after one line more.
     pub fn next(
         &self,

@@ -16,6 +16,6 @@ returns c =
     let same : c.in_ok-leads.leads.links ≡ m = c.in_ok-leads.ensures.links in
     let name : c.as_bytes.result.now ≡ p.name = grind (arith, common_steps) in
     let chain : c.in_ok-chain.chain.items ≡ links m first_sum (chain_lines m ds p.name) = c.in_ok-chain.ensures ∙ (λ i. links (same i) first_sum (chain_lines (same i) ds (name i))) in
-    let marks : c.in_ok-marks.marks.items ≡ map (λ (g : Goal). g.mark) (goals_by_passes m p) = c.in_ok-marks.ensures ∙ ap (λ (n : Module). map (λ (g : Goal). g.mark) (goals_by_passes n p)) (c.links.ensures ∙ same) in
+    let marks : c.in_ok-marks.marks.items ≡ map (λ (g : Goal). g.mark) (goals_by_passes m p) = c.in_ok-marks.ensures ∙ ap (λ (n : Module). map (λ (g : Goal). g.mark) (goals_by_passes n p)) c.parts.ensures.same in
     subst (λ xs. IfOk c.marked_sums.result (λ v. v.items ≡ xs))
     ((λ i. map (goal_sum (c.deref.ensures.value i)) (c.deref-2.ensures.value i)) ∙ goal_sums m ds p c.in_ok-chain.chain.items c.in_ok-marks.marks.items chain marks) c.marked_sums.ensures
