@@ -6,8 +6,8 @@ ghost use Rattle.bpl_resolve.specs.Elaborate.{decl_text};
 use bpl_ast::Decl;
 use bpl_model::{DeclText, Name};
 use bpl_scopes::Table;
-use bpl_texts::{contract_uses, decl_uses, leads_of, print_text};
-use canonical_text::print_contract;
+use bpl_texts::{contract_uses, decl_uses, leads_of};
+use canonical_text::{print_contract, print_text};
 use std::alloc::{AllocError, Global};
 
 // The declarations to which the names in a text lead, among so many.

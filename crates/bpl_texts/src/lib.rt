@@ -1,5 +1,5 @@
-//! The texts of declarations: the canonical text, the same without a body, and the declarations for
-//! which the names in each of the two stand.
+//! The names in the canonical texts of declarations, with a body and without, and the declarations for
+//! which they stand.
 #![tactic(auto)]
 
 // The names in a declaration that no variable hides.
@@ -13,9 +13,5 @@ pub mod line_uses;
 // The declarations for which names stand.
 pub mod leads;
 
-// The text itself.
-pub mod text;
-
 pub use leads::leads_of;
-pub use text::print_text;
 pub use uses::{contract_uses, decl_uses};

@@ -29,4 +29,4 @@ pub use laws::{
     programs_are_read_back, same_programs_have_one_text, some_canonical_text_is_deep,
     texts_tell_declarations, types_are_read_back,
 };
-pub use print_decls::{print, print_contract, print_expression, print_lines};
+pub use print_decls::{print, print_contract, print_expression, print_lines, print_text};

@@ -4,7 +4,7 @@ ghost use Rattle.bpl_ast.specs.ExprView.{each_groups_of, groups_of};
 ghost use Rattle.bpl_ast.specs.DeclView.{body_of};
 ghost use Rattle.canonical_text.specs.Expression.{expression};
 ghost use Rattle.canonical_text.specs.Glyph.{word, plain, line};
-ghost use Rattle.canonical_text.specs.Lines.{spec_line, signature, ended, local_line, body_lines, optional_body, head_lines, last_lines, lines, contract, program_text};
+ghost use Rattle.canonical_text.specs.Lines.{spec_line, signature, ended, local_line, body_lines, optional_body, head_lines, last_lines, lines, text, contract, program_text};
 
 use crate::line::Line;
 use crate::page::{Page, append_lines};
@@ -212,6 +212,15 @@ pub fn print_lines(alloc: Global, decl: &Decl) -> Result<Vec<Vec<u8>>, AllocErro
     print_head(&mut page, &decl.body)?;
     print_tail(&mut page, &decl.body)?;
     Ok(page.into_lines())
+}
+
+/// The canonical text of a declaration, with its body.
+pub fn print_text(alloc: Global, decl: &Decl) -> Result<Vec<u8>, AllocError>
+    ensures { IfOk result (λ v. v.items ≡ text decl.now.body) }
+{
+    let mut out = Vec::new(alloc);
+    append_lines(&mut out, &print_lines(alloc, decl)?)?;
+    Ok(out)
 }
 
 /// The canonical text of a declaration without a body: of a procedure its lines but those of the
