@@ -1,8 +1,11 @@
--- The first fault of a program without faults in which one procedure gets another body: that of this procedure.
+-- The first fault of a program without faults with one revision: that of this declaration.
 use Rattle.std.proofs.Common.{◌≡◌, refl, sym, ap, ◌∙◌, ℕ, zero, suc, ◌+◌, arith, List, [], ◌∷◌, ◌++◌, take, slice_get, slice_set, Option, Some, None}
 use Rattle.std.proofs.lemmas.Option.{none-some}
 use Rattle.std.proofs.lemmas.List.{append_assoc, append-nil}
-use Rattle.bpl_ast.specs.Statement.{DeclBody, Decl}
+use Rattle.std.proofs.lemmas.Bool.{false≢true}
+use Rattle.std.specs.Prelude.{is_some}
+use Rattle.bpl_ast.specs.Place.{Name, Params}
+use Rattle.bpl_ast.specs.Statement.{Body, Signature, Spec, DeclBody, procedure, Decl}
 use Rattle.bpl_scopes.specs.declared.fault.Fault.{Fault}
 use Rattle.bpl_scopes.specs.Fault.{first_fault}
 use Rattle.bpl_scopes.specs.Scopes.{Text, Table, table_of, Counts, counts_after, no_counts, texts_of, declared_names}
@@ -10,16 +13,23 @@ use Rattle.bpl_declaration_faults.specs.DeclFaults.{Before, before_with, body_na
 use Rattle.bpl_resolve.proofs.SameBefore.{none_here}
 use Rattle.body_revision.specs.Revised.{IsRevised}
 use Rattle.body_revision.specs.EarlierDecls.{names_of_decls, bodies_of_decls, turned, earlier_decls}
+use Rattle.body_revision.proofs.KeptBodies.{of_revised}
 use Rattle.body_revision.proofs.SameTable.{revised_first, same_table, same_counts}
 
+bodies_stay : (n : Name) (ps : Option Params) (g : Signature) (ss zs : List Spec) (a b : Option Body) → is_some b ≡ is_some a → body_names (procedure n ps g zs b) ≡ body_names (procedure n ps g ss a)
+bodies_stay n ps g ss zs None None h = refl
+bodies_stay n ps g ss zs None (Some b) h = absurd (false≢true (sym h))
+bodies_stay n ps g ss zs (Some a) None h = absurd (false≢true h)
+bodies_stay n ps g ss zs (Some a) (Some b) h = refl
+
 revised_before : (b : Before) (d e : DeclBody) → IsRevised d e → before_with b e ≡ before_with b d
-revised_before b d e r = ap (before_with b) r.new ∙ sym (ap (before_with b) r.old)
+revised_before b = of_revised (before_with b) (λ n ps g ss zs x y same h. λ i. record { names = n.text ∷ b.names; bodies = bodies_stay n ps g ss zs x y h i ++ b.bodies }) (λ n ps g x y. refl)
 
 none_in : (k : ℕ) (f : Option Fault) (later : Option (ℕ × Fault)) → in_decl k f later ≡ None → (f ≡ None) × (later ≡ None)
 none_in k None later h = (refl, h)
 none_in k (Some f) later h = absurd (none-some (k, f) (sym h))
 
--- the revised declaration stands first
+-- the declaration stands first
 revised_here : (t : Table) (c : Counts) (k : ℕ) (b : Before) (xs : List Decl) (x e : Decl) → IsRevised x.body e.body → first_from k (faults_after t c b (x ∷ xs)) ≡ None
     → first_from k (faults_after t c b (e ∷ xs)) ≡ in_decl k (first_fault (decl_faults t c b e.body)) None
 revised_here t c k b xs x e r none =

@@ -1,15 +1,72 @@
--- A procedure with another body leaves what the others are.
-use Rattle.std.proofs.Common.{◌≡◌, refl, sym, ap, ◌∙◌, ℕ, zero, suc, List, [], ◌∷◌, set, slice_get, Some, IsTrue}
-use Rattle.bpl_ast.specs.Statement.{DeclBody, constant, function, axiom_of, variables, synonym, procedure, implementation, Decl}
+-- A revision leaves what depends on no clause and no body, and what other procedures are.
+use Rattle.std.proofs.Common.{◌≡◌, refl, sym, ap, ◌∙◌, inl, inr, ℕ, zero, suc, true, false, List, [], ◌∷◌, set, slice_get, Option, Some, None}
+use Rattle.std.specs.Prelude.{is_some}
+use Rattle.logic_terms.proofs.Booleans.{neither}
+use Rattle.bpl_ast.specs.Place.{Name, Params}
+use Rattle.bpl_ast.specs.Statement.{Body, Signature, Spec, DeclBody, constant, function, axiom_of, variables, synonym, procedure, implementation, Decl}
 use Rattle.bpl_scopes.specs.Scopes.{Text, Table, Counts}
-use Rattle.bpl_resolve.specs.Elaborate.{or_else, own_body, implements, implementation_of, proc_of, procs_in}
-use Rattle.body_revision.specs.Revised.{IsRevised}
-use Rattle.body_revision.specs.Procedures.{has_own_body}
+use Rattle.bpl_resolve.specs.Elaborate.{Implemented, or_else, own_body, implements, implementation_of, proc_of, procs_in}
+use Rattle.body_revision.specs.Revised.{names_modified, IsRevised}
+use Rattle.body_revision.specs.Procedures.{gives_body, any_decl}
+
+-- ---- what depends on no clause and no body
+
+pub of_revised : {A : Type 0} (f : DeclBody → A)
+    → ((n : Name) (ps : Option Params) (g : Signature) (ss zs : List Spec) (a b : Option Body) → names_modified zs ≡ names_modified ss → is_some b ≡ is_some a → f (procedure n ps g zs b) ≡ f (procedure n ps g ss a))
+    → ((n : Name) (ps : Option Params) (g : Signature) (a b : Body) → f (implementation n ps g b) ≡ f (implementation n ps g a)) → (d e : DeclBody) → IsRevised d e → f e ≡ f d
+of_revised f p q d e (inl r) = ap f r.new ∙ (p r.name r.params r.signature r.specs r.new_specs r.before r.after r.modified r.bodies ∙ sym (ap f r.old))
+of_revised f p q d e (inr r) = ap f r.new ∙ (q r.name r.params r.signature r.before r.after ∙ sym (ap f r.old))
+
+-- two of one and the same
+pub of_itself : (d e : DeclBody) → IsRevised d e → IsRevised d d
+of_itself d e (inl r) = inl (record { name = r.name; params = r.params; signature = r.signature; specs = r.specs; new_specs = r.specs; before = r.before; after = r.before; modified = refl; bodies = refl; old = r.old; new = r.old })
+of_itself d e (inr r) = inr (record { name = r.name; params = r.params; signature = r.signature; before = r.before; after = r.before; old = r.old; new = r.old })
+
+pub parted : (d e f : DeclBody) → IsRevised d e → IsRevised d f → IsRevised e f
+parted d e f (inl r) (inl s) =
+    let same : procedure r.name r.params r.signature r.specs r.before ≡ procedure s.name s.params s.signature s.specs s.before = sym r.old ∙ s.old in
+    let specs : r.specs ≡ s.specs = cc same in
+    let before : r.before ≡ s.before = cc same in
+    inl (record {
+      name = s.name;
+      params = s.params;
+      signature = s.signature;
+      specs = r.new_specs;
+      new_specs = s.new_specs;
+      before = r.after;
+      after = s.after;
+      modified = s.modified ∙ sym (r.modified ∙ ap names_modified specs);
+      bodies = s.bodies ∙ sym (r.bodies ∙ ap is_some before);
+      old = r.new ∙ cc same;
+      new = s.new;
+    })
+parted d e f (inl r) (inr s) = let same : procedure r.name r.params r.signature r.specs r.before ≡ implementation s.name s.params s.signature s.before = sym r.old ∙ s.old in absurd (cc)
+parted d e f (inr r) (inl s) = let same : implementation r.name r.params r.signature r.before ≡ procedure s.name s.params s.signature s.specs s.before = sym r.old ∙ s.old in absurd (cc)
+parted d e f (inr r) (inr s) =
+    let same : implementation r.name r.params r.signature r.before ≡ implementation s.name s.params s.signature s.before = sym r.old ∙ s.old in
+    inr (record { name = s.name; params = s.params; signature = s.signature; before = r.after; after = s.after; old = r.new ∙ cc same; new = s.new })
+
+-- ---- implementations
 
 pub same_implementation : (n : Text) (xs : List Decl) (i : ℕ) (x y : Decl) → slice_get xs i ≡ Some x → implements n y.body ≡ implements n x.body → implementation_of (set xs i y) n ≡ implementation_of xs n
 same_implementation n [] i x y g e = refl
 same_implementation n (z ∷ xs) zero x y g e = let s : z ≡ x = cc in λ k. or_else ((e ∙ ap (λ (w : Decl). implements n w.body) (sym s)) k) (implementation_of xs n)
 same_implementation n (z ∷ xs) (suc i) x y g e = ap (or_else (implements n z.body)) (same_implementation n xs i x y g e)
+
+pub gives_none : (n : Text) (d : DeclBody) → gives_body n d ≡ false → implements n d ≡ None
+gives_none n (implementation m ps g b) h = ap (λ r. elim r [ true ↦ Some (g, b) | false ↦ None ]) h
+gives_none n (procedure m ps g ss b) h = refl
+gives_none n (constant u ns s) h = refl
+gives_none n (function m ps ins r x) h = refl
+gives_none n (axiom_of x) h = refl
+gives_none n (variables gs) h = refl
+gives_none n (synonym m s) h = refl
+
+pub none_implements : (n : Text) (ds : List Decl) → any_decl (gives_body n) ds ≡ false → implementation_of ds n ≡ None
+none_implements n [] h = refl
+none_implements n (d ∷ ds) h =
+    let p = neither (gives_body n d.body) (any_decl (gives_body n) ds) h in
+    (λ i. or_else (gives_none n d.body p.0 i) (implementation_of ds n)) ∙ none_implements n ds p.1
 
 pub same_procs : (ds es : List Decl) → ((n : Text) → implementation_of ds n ≡ implementation_of es n) → (t : Table) (c : Counts) (b : DeclBody) → procs_in ds t c b ≡ procs_in es t c b
 same_procs ds es h t c (procedure n ps g ss b) = ap (λ w. proc_of t c n.text g ss (or_else (own_body g b) w) ∷ []) (h n.text)
@@ -20,9 +77,7 @@ same_procs ds es h t c (variables gs) = refl
 same_procs ds es h t c (synonym m s) = refl
 same_procs ds es h t c (implementation m ps g b) = refl
 
--- what depends on no body is the same
-pub same_of_bodies : {A : Type 0} (f : DeclBody → A) → ((n : _) (ps : _) (g : _) (ss : _) (a b : _) → f (procedure n ps g ss (Some a)) ≡ f (procedure n ps g ss (Some b))) → (d e : DeclBody) → IsRevised d e → f e ≡ f d
-same_of_bodies f h d e r = ap f r.new ∙ (h r.name r.params r.signature r.specs r.after r.before ∙ sym (ap f r.old))
-
-pub own_stands : (d e : DeclBody) → IsRevised d e → IsTrue (has_own_body e)
-own_stands d e r = ap has_own_body r.new
+-- a body that is given alone
+pub given_alone : (o b : Option Implemented) → o ≡ b → o ≡ or_else b None
+given_alone o None h = h
+given_alone o (Some b) h = h

@@ -1,11 +1,15 @@
 pub mod Injective
+pub mod KeptBodies
+pub mod FoundPlaces
+pub mod ComparedHeads
 pub mod SameTable
+pub mod SameTexts
 pub mod FirstOfRevised
 pub mod OwnFaults
 pub mod SetParts
-pub mod KeptBodies
 pub mod RevisedModule
 pub mod StillNew
 pub mod StayFaultless
 pub mod HeadNames
 pub mod ReadBodies
+pub mod NewInReadings

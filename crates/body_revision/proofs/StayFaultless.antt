@@ -1,4 +1,4 @@
--- A program in which procedures have other bodies declares what it declared, and has no fault where none of them has one of its own.
+-- A program with revisions declares the same, and has no fault where none of these has one of its own.
 use Rattle.std.proofs.Common.{◌≡◌, refl, sym, ◌∙◌, subst, ℕ, ◌<◌, List, [], ◌∷◌, length, get_or, slice_get, Some, None}
 use Rattle.std.proofs.lemmas.List.{length-set}
 use Rattle.std.proofs.lemmas.Option.{slice_get-get_or}
@@ -10,7 +10,7 @@ use Rattle.body_revision.specs.Names.{own_fault}
 use Rattle.body_revision.specs.Revision.{all_put, AreRevised, HaveNoFaults}
 use Rattle.body_revision.proofs.SameTable.{same_table, same_counts}
 use Rattle.body_revision.proofs.OwnFaults.{none_by_itself}
-use Rattle.body_revision.proofs.StillNew.{still_revised}
+use Rattle.body_revision.proofs.FoundPlaces.{still_revised}
 
 pub as_many_put : (ds : List Decl) (cs : List (ℕ × Decl)) → length (all_put ds cs) ≡ length ds
 as_many_put ds [] = refl
@@ -30,9 +30,9 @@ module _ (ds : List Decl) (c : ℕ × Decl) (cs : List (ℕ × Decl)) (h : AreRe
   revised_there : IsRevised (get_or (all_put ds cs) c.0 c.1).body (c.1).body
   revised_there = all_still ds cs h.1 c.0 c.1 h.0.1 (get_or (all_put ds cs) c.0 c.1) stood
 
-all_table : (ds : List Decl) (cs : List (ℕ × Decl)) → AreRevised ds cs → table_of (all_put ds cs) ≡ table_of ds
-all_table ds [] h = refl
-all_table ds (c ∷ cs) h = same_table (all_put ds cs) c.0 (get_or (all_put ds cs) c.0 c.1) c.1 (stood ds c cs h) (revised_there ds c cs h) ∙ all_table ds cs h.1
+all_tables : (ds : List Decl) (cs : List (ℕ × Decl)) → AreRevised ds cs → table_of (all_put ds cs) ≡ table_of ds
+all_tables ds [] h = refl
+all_tables ds (c ∷ cs) h = same_table (all_put ds cs) c.0 (get_or (all_put ds cs) c.0 c.1) c.1 (stood ds c cs h) (revised_there ds c cs h) ∙ all_tables ds cs h.1
 
 all_counts : (ds : List Decl) (cs : List (ℕ × Decl)) → AreRevised ds cs → counts_after no_counts (all_put ds cs) ≡ counts_after no_counts ds
 all_counts ds [] h = refl
@@ -42,4 +42,4 @@ pub stay_faultless : (ds : List Decl) (cs : List (ℕ × Decl)) → fault_of ds 
 stay_faultless ds [] none h own = none
 stay_faultless ds (c ∷ cs) none h own =
     none_by_itself (all_put ds cs) c.0 (get_or (all_put ds cs) c.0 c.1) c.1 (stood ds c cs h) (revised_there ds c cs h) (stay_faultless ds cs none h.1 own.1)
-    ((λ i. own_fault (all_table ds cs h.1 i) (all_counts ds cs h.1 i) (c.1).body) ∙ own.0)
+    ((λ i. own_fault (all_tables ds cs h.1 i) (all_counts ds cs h.1 i) (c.1).body) ∙ own.0)

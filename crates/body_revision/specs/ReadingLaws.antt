@@ -10,6 +10,6 @@ use Rattle.body_revision.specs.ReadHeads.{heads_from}
 abbrev pub HeadsDeclareAll : Type 0
 HeadsDeclareAll = (ds : List Decl) → DeclareAlike (heads_from as_integers 0 ds) (erased ds) × DeclareAlike (heads_from maps_over 0 ds) (told_apart ds)
 
--- A reading of a program in which procedures have other bodies is the reading, in which they have them.
+-- A reading of a program with revisions is the reading, with these.
 abbrev pub ReadingsKeepBodies : Type 0
 ReadingsKeepBodies = (ds : List Decl) (cs : List (ℕ × Decl)) → AreRevised ds cs → (erased (all_put ds cs) ≡ all_put (erased ds) cs) × (told_apart (all_put ds cs) ≡ all_put (told_apart ds) cs)

@@ -1,25 +1,47 @@
--- One procedure with another body.
-use Rattle.std.specs.Prelude.{◌≡◌, Bool, true, false, List, Option, Some}
+-- A procedure with other clauses or another body, or an implementation with another body.
+use Rattle.std.specs.Prelude.{◌≡◌, ◌⊎◌, Bool, List, flat_map, Option, is_some}
 use Rattle.bpl_ast.specs.Place.{Name, Params}
-use Rattle.bpl_ast.specs.Statement.{Body, DeclBody, Signature, Spec, procedure}
+use Rattle.bpl_ast.specs.Statement.{Body, DeclBody, Signature, Spec, procedure, implementation}
+use Rattle.bpl_scopes.specs.Scopes.{Text, texts_of, spec_names}
 
--- whether it is a procedure with a body
-abbrev pub has_body : DeclBody → Bool
-has_body (procedure n ps s ss (Some b)) = true
-has_body d = false
+-- the names in the clauses `modifies`, in order
+abbrev pub names_modified : List Spec → List Text
+names_modified ss = texts_of (flat_map spec_names ss)
 
--- a procedure with a body, and what stands before the body
-pub record HasHead (d : DeclBody) (name : Name) (params : Option Params) (signature : Signature) (specs : List Spec) : Type 0 where
+-- a procedure, what stands before its clauses, and its clauses and body
+pub record HasParts (d : DeclBody) (name : Name) (params : Option Params) (signature : Signature) (specs : List Spec) (has_body : Bool) : Type 0 where
+  pub body : Option Body
+  pub is : d ≡ procedure name params signature specs body
+  pub told : has_body ≡ is_some body
+
+-- an implementation, and what stands before its body
+pub record IsImplementation (d : DeclBody) (name : Name) (params : Option Params) (signature : Signature) : Type 0 where
   pub body : Body
-  pub is : d ≡ procedure name params signature specs (Some body)
+  pub is : d ≡ implementation name params signature body
 
--- two procedures with bodies that differ in their bodies alone
-pub record IsRevised (d e : DeclBody) : Type 0 where
+-- two procedures of one head that name the same in `modifies`; both have a body, or none has
+pub record IsOtherProcedure (d e : DeclBody) : Type 0 where
   pub name : Name
   pub params : Option Params
   pub signature : Signature
   pub specs : List Spec
+  pub new_specs : List Spec
+  pub before : Option Body
+  pub after : Option Body
+  pub modified : names_modified new_specs ≡ names_modified specs
+  pub bodies : is_some after ≡ is_some before
+  pub old : d ≡ procedure name params signature specs before
+  pub new : e ≡ procedure name params signature new_specs after
+
+-- two implementations of one head
+pub record IsOtherImplementation (d e : DeclBody) : Type 0 where
+  pub name : Name
+  pub params : Option Params
+  pub signature : Signature
   pub before : Body
   pub after : Body
-  pub old : d ≡ procedure name params signature specs (Some before)
-  pub new : e ≡ procedure name params signature specs (Some after)
+  pub old : d ≡ implementation name params signature before
+  pub new : e ≡ implementation name params signature after
+
+abbrev pub IsRevised : DeclBody → DeclBody → Type 0
+IsRevised d e = IsOtherProcedure d e ⊎ IsOtherImplementation d e

@@ -1,4 +1,4 @@
--- What of a program's module is new where procedures have other bodies.
+-- What of a program's module is new where procedures have other clauses or bodies.
 use Rattle.std.specs.Prelude.{◌≡◌, ⊤, ℕ, ◌<◌, List, [], ◌∷◌, length, take, count_by, slice_get, slice_set, Some, None}
 use Rattle.std.specs.List.{AllByRecursion}
 use Rattle.bpl_ast.specs.Statement.{Decl}
@@ -6,34 +6,38 @@ use Rattle.bpl_model.specs.Module.{Module, with_procedure}
 use Rattle.bpl_scopes.specs.Scopes.{table_of, no_counts, counts_after}
 use Rattle.bpl_resolve.specs.Elaborate.{decl_text, procs_in}
 use Rattle.body_revision.specs.Names.{own_fault}
-use Rattle.body_revision.specs.Procedures.{is_procedure}
+use Rattle.body_revision.specs.Procedures.{is_procedure, procedure_place, procedure_by}
 use Rattle.body_revision.specs.Revised.{IsRevised}
 use Rattle.body_revision.specs.declared.declared_names.DeclaredNames.{DeclaredNames}
 use Rattle.body_revision.specs.declared.revised.Revision.{Revision}
 
--- e takes the place `at` in ds, of a procedure from which it differs in the body alone: it has no fault of its own, and its procedure and its texts are these
+-- e takes the place `at` in ds, of a declaration of which it is a revision: it has no fault of its own, and its procedure and its texts are these
 pub record IsNew (ds : List Decl) (at : ℕ) (e : Decl) (r : Revision) : Type 0 where
   pub there : at < length ds
   pub revised : (d : Decl) → slice_get ds at ≡ Some d → IsRevised d.body e.body
   pub faultless : own_fault (table_of ds) (counts_after no_counts ds) e.body ≡ None
   pub placed : r.decl_at ≡ at
-  pub counted : r.proc_at ≡ count_by (λ (d : Decl). is_procedure d.body) (take at ds)
-  pub made : procs_in [] (table_of ds) (counts_after no_counts ds) e.body ≡ r.declared.proc ∷ []
+  pub place : ℕ
+  pub found : procedure_place ds at e.body ≡ Some place
+  pub counted : r.proc_at ≡ count_by (λ (d : Decl). is_procedure d.body) (take place ds)
+  pub made : procs_in (e ∷ []) (table_of ds) (counts_after no_counts ds) (procedure_by ds place e) ≡ r.declared.proc ∷ []
   pub text : r.declared.text ≡ decl_text (table_of ds) (length ds) e
 
--- the same, over the names of a program of so many declarations, behind these
-pub record IsMade (n : DeclaredNames) (earlier : List Decl) (count : ℕ) (e : Decl) (r : Revision) : Type 0 where
+-- the same, over the names of a program of so many declarations, by its own declarations
+pub record IsMade (n : DeclaredNames) (ds : List Decl) (at count : ℕ) (e : Decl) (r : Revision) : Type 0 where
   pub faultless : own_fault (table_of n.declarations) (counts_after no_counts n.declarations) e.body ≡ None
-  pub placed : r.decl_at ≡ length earlier
-  pub counted : r.proc_at ≡ count_by (λ (d : Decl). is_procedure d.body) earlier
-  pub made : procs_in [] (table_of n.declarations) (counts_after no_counts n.declarations) e.body ≡ r.declared.proc ∷ []
+  pub placed : r.decl_at ≡ at
+  pub place : ℕ
+  pub found : procedure_place ds at e.body ≡ Some place
+  pub counted : r.proc_at ≡ count_by (λ (d : Decl). is_procedure d.body) (take place ds)
+  pub made : procs_in (e ∷ []) (table_of n.declarations) (counts_after no_counts n.declarations) (procedure_by ds place e) ≡ r.declared.proc ∷ []
   pub text : r.declared.text ≡ decl_text (table_of n.declarations) count e
 
 -- the module with what is new
 abbrev pub revised : Revision → Module → Module
 revised r m = with_procedure r.proc_at r.declared.proc r.decl_at r.declared.text m
 
--- each stands in the place of a declaration from which it differs in the body alone
+-- each stands in the place of a declaration of which it is a revision
 abbrev pub AreRevised : List Decl → List (ℕ × Decl) → Type 0
 AreRevised ds cs = AllByRecursion (λ (c : ℕ × Decl). (c.0 < length ds) × ((d : Decl) → slice_get ds c.0 ≡ Some d → IsRevised d.body (c.1).body)) cs
 

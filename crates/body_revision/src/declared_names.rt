@@ -7,8 +7,8 @@ use bpl_dependencies::Declarations;
 use bpl_scopes::Positions;
 use std::alloc::{AllocError, Global};
 
-/// What is declared in a program, and its functions in the order of their numbers. A procedure's body
-/// changes nothing of it.
+/// What is declared in a program, and its functions in the order of their numbers. No procedure's
+/// body changes it.
 #[derive(Drop)]
 pub struct DeclaredNames<'a> {
     pub declarations: Declarations<'a>,

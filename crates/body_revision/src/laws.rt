@@ -2,8 +2,8 @@
 ghost use Rattle.body_revision.specs.Laws.{RevisionsGoTogether};
 ghost use Rattle.body_revision.specs.ReadingLaws.{HeadsDeclareAll, ReadingsKeepBodies};
 
-/// Where a program has no fault, and each of some procedures has no fault of its own with its other body,
-/// the program with all of these bodies has none, and its module has what is new of each.
+/// Where a program has no fault, and each of some revisions has no fault of its own, the program with all
+/// of them has none, and its module has what is new of each.
 pub fn revisions_go_together()
     ensures { RevisionsGoTogether }
 {}
@@ -13,7 +13,7 @@ pub fn heads_declare_all()
     ensures { HeadsDeclareAll }
 {}
 
-/// A reading of a program in which procedures have other bodies is the reading, in which they have them.
+/// A reading of a program with revisions is the reading, with these.
 pub fn readings_keep_bodies()
     ensures { ReadingsKeepBodies }
 {}

@@ -1,10 +1,12 @@
-//! Procedures that differ from others in their bodies alone, and the program with the ones in the
-//! others' places. `is_revised` tells such a pair: all that stands before the body is equal, places
-//! included. What a program declares is the same then, so each such procedure is looked at by itself: the
-//! program stays without faults exactly where none of them has a fault of its own. Of the module the
-//! procedures and the texts of their declarations are new; all else is that of the module before, and
-//! nothing of it is made again. Where there are user types, what is declared in their two readings, as
-//! integers and told apart, is made of the declarations' heads alone.
+//! Declarations that are revisions of others, and the program with the ones in the others' places: a
+//! procedure with other clauses or another body, or an implementation with another body. `is_revised`
+//! tells such a pair: all that stands before the clauses, or before an implementation's body, is equal,
+//! places included, and a procedure names in `modifies` what the other names. A caller's faults and terms
+//! depend on no other clause, and what the program declares is the same but for these: so each revision
+//! is looked at by itself, and the program stays without faults exactly where none of them has a fault
+//! of its own. Of the module the procedures and the texts of their declarations are new; all else is
+//! that of the module before, and nothing of it is made again. Where there are user types, what is
+//! declared in their two readings, as integers and told apart, is made of the declarations' heads alone.
 #![tactic(auto)]
 
 // Equal names, types and expressions.
@@ -24,10 +26,11 @@ pub mod readings;
 
 // The module: what is new and where it stands, the procedure, and the whole.
 pub mod module;
+pub(crate) mod places;
 mod procedures;
 pub mod revised;
 
-// Other bodies of several procedures, and what readings have to do with bodies.
+// Several revisions, and what readings have to do with them.
 pub mod laws;
 
 pub use declared_names::DeclaredNames;

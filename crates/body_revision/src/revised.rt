@@ -1,4 +1,4 @@
-// What of a module is new where one procedure has another body.
+// What of a module is new with one revision.
 use bpl_model::DeclaredProc;
 
 /// A procedure and the texts of its declaration, and which of the module's procedures and texts they are.

@@ -1,5 +1,5 @@
--- What procedures with other bodies bring, by what the code finds of each.
-use Rattle.std.proofs.Common.{◌≡◌, refl, sym, ap, ◌∙◌, subst, arith, ℕ, zero, suc, ◌+◌, ◌<◌, ◌≤◌, Bool, false, IsTrue, is_none, List, [], ◌∷◌, ◌++◌, length, get_or, take, count_by, slice_get, Option, Some, None}
+-- What revisions bring, by what the code finds of each.
+use Rattle.std.proofs.Common.{◌≡◌, refl, sym, ap, ◌∙◌, subst, arith, ℕ, zero, suc, ◌+◌, ◌<◌, ◌≤◌, Bool, false, IsTrue, is_none, List, [], ◌∷◌, ◌++◌, length, get_or, take, slice_get, Option, Some, None}
 use Rattle.std.specs.Prelude.{IfSome}
 use Rattle.std.specs.List.{AllByRecursion}
 use Rattle.std.proofs.lemmas.Bool.{false≢true}
@@ -11,13 +11,11 @@ use Rattle.bpl_scopes.specs.Functions.{in_number_order}
 use Rattle.bpl_scopes.specs.Scopes.{table_of, no_counts, counts_after}
 use Rattle.bpl_sorts.specs.Erased.{erased, told_apart}
 use Rattle.body_revision.specs.Names.{DeclareAlike, AreNamesOf, own_fault}
-use Rattle.body_revision.specs.Procedures.{is_procedure}
 use Rattle.body_revision.specs.Revised.{IsRevised}
 use Rattle.body_revision.specs.Revision.{IsNew, IsMade, AreNew, HaveNoFaults}
-use Rattle.body_revision.proofs.StillNew.{is_new}
+use Rattle.body_revision.proofs.NewInReadings.{made_is_new}
 use Rattle.body_revision.specs.declared.declared_names.DeclaredNames.{DeclaredNames}
 use Rattle.body_revision.specs.declared.revised.Revision.{Revision}
-use Rattle.body_revision.proofs.ReadBodies.{erased_revised, erased_there, erased_before}
 use Rattle.program_edits.specs.Replaced.{AreThere}
 use Rattle.program_edits.specs.declared.replaced.Replacement.{Replacement}
 use Rattle.program_opening.specs.NoUsers.{has_user_types}
@@ -35,21 +33,16 @@ in_order ds n names = names.order ∙ ap in_number_order (sym names.alike.table)
 
 -- ---- one
 
--- what stands there differs in the body alone
+-- of what stands there it is a revision
 revised_there : (ds : List Decl) (at : ℕ) (x e : Decl) → x ≡ get_or ds at x → IsRevised x.body e.body → (d : Decl) → slice_get ds at ≡ Some d → IsRevised d.body e.body
 revised_there ds at x e is r d g = subst (λ (y : Decl). IsRevised y.body e.body) (is ∙ get_or_from_slice_get ds at d x g) r
 
-pub one_revision : (ds : List Decl) (r : Replacement) (x : Decl) (n : DeclaredNames) (earlier : List Decl) (count : ℕ) (q : Option Revision) → AreNamesOf (erased ds) n → count ≡ length (erased ds) → r.at < length ds
-    → x ≡ get_or ds r.at x → IsRevised x.body r.decl.body → earlier ≡ take r.at ds → r.at ≡ length earlier → IfSome q (IsMade n earlier count r.decl) → IfSome q (IsRevision ds r)
-one_revision ds r x n earlier count None names all there is same before place made = tt
-one_revision ds r x n earlier count (Some v) names all there is same before place made =
+pub one_revision : (ds : List Decl) (r : Replacement) (x : Decl) (n : DeclaredNames) (count : ℕ) (q : Option Revision) → AreNamesOf (erased ds) n → count ≡ length (erased ds) → r.at < length ds
+    → x ≡ get_or ds r.at x → IsRevised x.body r.decl.body → IfSome q (IsMade n ds r.at count r.decl) → IfSome q (IsRevision ds r)
+one_revision ds r x n count None names all there is same made = tt
+one_revision ds r x n count (Some v) names all there is same made =
     let revised = revised_there ds r.at x r.decl is same in
-    record {
-      there = there;
-      revised = revised;
-      new = is_new (erased ds) r.at r.decl n earlier count v names (erased_there ds r.at r.decl there revised) (erased_revised ds r.at r.decl there revised) place
-          (ap (count_by (λ (d : Decl). is_procedure d.body)) before ∙ sym (erased_before ds r.at r.decl there revised)) all made;
-    }
+    record { there = there; revised = revised; new = made_is_new ds r.at r.decl n count v names there revised all made }
 
 -- ---- several
 

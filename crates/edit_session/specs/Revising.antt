@@ -1,4 +1,4 @@
--- Declarations take the places of ones from which they differ in the procedures' bodies alone: what is new then.
+-- Declarations take the places of ones of which they are revisions: what is new then.
 use Rattle.std.specs.Prelude.{◌≡◌, ℕ, ◌<◌, List, [], ◌∷◌, map, length, slice_get, Some, None}
 use Rattle.bpl_ast.specs.Statement.{Decl}
 use Rattle.bpl_model.specs.Module.{Module}
@@ -17,7 +17,7 @@ use Rattle.edit_session.specs.Told.{IsOpened}
 abbrev pub changes : List Replacement → List (ℕ × Decl)
 changes rs = map (λ (r : Replacement). (r.at, r.decl)) rs
 
--- each takes the place of a procedure from which it differs in the body alone, and this is what it brings where user types are integers
+-- each takes the place of a declaration of which it is a revision, and this is what it brings where user types are integers
 pub record AreBrought (ds : List Decl) (rs : List Replacement) (vs : List Revision) : Type 0 where
   pub revised : AreRevised ds (changes rs)
   pub new : AreNew (erased ds) (changes rs) vs

@@ -16,7 +16,7 @@ mod texts;
 // The program that is open, and declarations that are to be.
 pub mod program;
 
-// The program after some of its procedures have got other bodies.
+// The program after some of its procedures have got other clauses or bodies.
 mod revising;
 
 // Calls on the board, and the replies that tell them.

@@ -214,9 +214,9 @@ impl OpenProgram {
         self.built.procs()
     }
 
-    /// The declarations take the places of those that stand there, if the two are procedures each time
-    /// that differ in their bodies alone, and the program with them has no fault; the board has the goals
-    /// of the program then. Else nothing changes, and so it is without memory.
+    /// The declarations take the places of those that stand there, if they are revisions of these, and
+    /// the program with them has no fault; the board has the goals of the program then. Else nothing
+    /// changes, and so it is without memory.
     #[tactic(auto, using(crate::proofs::Revised::stays_open, crate::proofs::Revised::opened_by))]
     pub fn revise<B: GoalBoard, L: Ledger>(
         &mut self,

@@ -1,4 +1,4 @@
-// The program after some of its procedures have got other bodies.
+// The program after some of its procedures have got other clauses or bodies.
 ghost use Rattle.std.specs.Prelude.{◌≡◌, ◌<◌, ◌-◌, ◌^◌, length, false, is_none, IsTrue, IfOk, OnErr, IfSome, IfNone};
 ghost use Rattle.bpl_goto.specs.Forward.{AllGoForward};
 ghost use Rattle.bpl_scopes.specs.Scopes.{table_of, no_counts, counts_after};
@@ -33,23 +33,22 @@ use std::sync::ledger::Ledger;
 use vc_build::BuildFault;
 use vc_rebuild::{Built, rebuild};
 
-// So many procedures at most get other bodies at once: each takes a place on the stack while the module
-// is built.
-const MOST_BODIES: usize = 200;
+// So many revisions at most are made at once: each takes a place on the stack while the module is built.
+const MOST_REVISIONS: usize = 200;
 
-// Whether they are procedures that differ in their bodies alone.
-fn has_other_body(old: &Decl, new: &Decl) -> bool
-    ensures { IsTrue result → IsRevised old.now.body new.now.body }
+// Whether the new declaration is a revision of the old one.
+fn is_revision(alloc: Global, old: &Decl, new: &Decl) -> Result<bool, AllocError>
+    ensures { IfOk result (λ b. IsTrue b → IsRevised old.now.body new.now.body) }
 {
-    is_revised(&old.body, &new.body)
+    is_revised(alloc, &old.body, &new.body)
 }
 
-// What is new in the module, if the declaration differs from the one in whose place it comes in the
-// procedure's body alone, and has no fault of its own where user types are integers.
+// What is new in the module, if the declaration is a revision of the one in whose place it comes, and
+// has no fault of its own where user types are integers.
 fn revision_at<'a>(
     alloc: Global,
     names: &DeclaredNames<'a>,
-    decls: &[Decl],
+    decls: &'a [Decl],
     count: usize,
     replacement: &'a Replacement,
 ) -> Result<Option<Revision>, AllocError>
@@ -60,8 +59,8 @@ fn revision_at<'a>(
 {
     let at = replacement.at;
     let decl = &replacement.decl;
-    if has_other_body(&decls[at], decl) {
-        revision(alloc, names, &decls[..at], count, decl)
+    if is_revision(alloc, &decls[at], decl)? {
+        revision(alloc, names, decls, at, count, decl)
     } else {
         Ok(None)
     }
@@ -71,7 +70,7 @@ fn revision_at<'a>(
 fn revisions_at<'a>(
     alloc: Global,
     names: &DeclaredNames<'a>,
-    decls: &[Decl],
+    decls: &'a [Decl],
     count: usize,
     replacements: &'a [Replacement],
 ) -> Result<Option<Vec<Revision>>, AllocError>
@@ -131,7 +130,7 @@ fn are_faultless_apart(
     are_faultless(alloc, &names, replacements)
 }
 
-// What is new in the module of each, where each has another body without a fault where user types are
+// What is new in the module of each, where each is a revision without a fault where user types are
 // integers: names are those of the heads.
 fn erased_revisions(
     alloc: Global,
@@ -182,7 +181,7 @@ fn plain_revisions(
     revisions_at(alloc, &names, decls, count, replacements)
 }
 
-// What is new in the module of each, where each has another body without a fault.
+// What is new in the module of each, where each is a revision without a fault.
 fn revisions_of(
     alloc: Global,
     decls: &[Decl],
@@ -193,7 +192,7 @@ fn revisions_of(
     requires there { AreThere decls.now replacements.now }
     ensures { IfOk result (λ o. IfSome o (λ v. AreRevisions decls.now replacements.now v.items)) }
 {
-    if replacements.len() > MOST_BODIES {
+    if replacements.len() > MOST_REVISIONS {
         return Ok(None);
     }
     if has_user_types(decls) {
@@ -275,8 +274,8 @@ fn reopen_with<B: GoalBoard, L: Ledger>(
 }
 
 /// The module of declarations becomes that of the same with others in their places, and the board has
-/// its goals, if the two are procedures each time that differ in their bodies alone, and the new
-/// declarations have no fault. Else all is as it was, and so it is without memory.
+/// its goals, if the new ones are revisions of the old ones, and have no fault. Else all is as it was,
+/// and so it is without memory.
 pub fn reopen_revised<B: GoalBoard, L: Ledger>(
     alloc: Global,
     decls: &[Decl],

@@ -141,7 +141,7 @@ impl<B: GoalBoard, L: Ledger> Session<B, L> {
         }
     }
 
-    // An open or an edit: where procedures get other bodies, the program stays open with them.
+    // An open or an edit: where procedures get other clauses or bodies, the program stays open with them.
     #[tactic(auto, using(crate::proofs::Answering::no_later))]
     fn edit(&mut self, request: &Request) -> Result<Reply, AllocError>
         requires change { IsChange (request_view request.now) }
@@ -158,7 +158,7 @@ impl<B: GoalBoard, L: Ledger> Session<B, L> {
         }
     }
 
-    // An edit of the bodies of procedures; else nothing changes.
+    // An edit of clauses and bodies of procedures; else nothing changes.
     fn revise(&mut self, request: &Request) -> Option<Reply>
         requires short { TextsAreShort (request_view request.now) }
         requires room { HasRoom self.old }

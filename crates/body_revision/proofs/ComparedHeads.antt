@@ -1,0 +1,73 @@
+-- Whether one declaration is a revision of another, by what stands before their clauses and bodies.
+use Rattle.std.proofs.Common.{◌≡◌, sym, ap, ◌∙◌, inl, inr, Bool, true, false, List, Option}
+use Rattle.std.specs.Prelude.{is_some}
+use Rattle.std.proofs.lemmas.Bool.{false≢true}
+use Rattle.bpl_ast.specs.Place.{Name, Params}
+use Rattle.bpl_ast.specs.Statement.{DeclBody, Signature, Spec, procedure, implementation}
+use Rattle.body_revision.specs.Revised.{names_modified, HasParts, IsImplementation, IsOtherImplementation, IsRevised}
+use Rattle.body_revision.specs.Procedures.{is_procedure, is_implementation}
+
+-- two procedures are alike but for clauses and bodies
+abbrev pub AreAlike : Name → Name → Option Params → Option Params → Signature → Signature → List Spec → List Spec → Bool → Bool → Type 0
+AreAlike n m ps qs g h ss zs a b = (names_modified zs ≡ names_modified ss) × ((n ≡ m) × ((ps ≡ qs) × ((g ≡ h) × (a ≡ b))))
+
+module _ (d e : DeclBody) (n m : Name) (ps qs : Option Params) (g h : Signature) where
+  module _ (ss zs : List Spec) (a b : Bool) (p : HasParts d n ps g ss a) (q : HasParts e m qs h zs b) where
+    pub alike_revised : AreAlike n m ps qs g h ss zs a b → IsRevised d e
+    alike_revised s = inl (record {
+      name = n;
+      params = ps;
+      signature = g;
+      specs = ss;
+      new_specs = zs;
+      before = p.body;
+      after = q.body;
+      modified = s.0;
+      bodies = sym q.told ∙ sym s.1.1.1.1 ∙ p.told;
+      old = p.is;
+      new = q.is ∙ (λ i. procedure (sym s.1.0 i) (sym s.1.1.0 i) (sym s.1.1.1.0 i) zs q.body);
+    })
+
+    pub revised_alike : IsRevised d e → AreAlike n m ps qs g h ss zs a b
+    revised_alike (inl r) =
+        let x : procedure n ps g ss p.body ≡ procedure r.name r.params r.signature r.specs r.before = sym p.is ∙ r.old in
+        let y : procedure m qs h zs q.body ≡ procedure r.name r.params r.signature r.new_specs r.after = sym q.is ∙ r.new in
+        let specs : ss ≡ r.specs = cc x in
+        let new_specs : zs ≡ r.new_specs = cc y in
+        let before : p.body ≡ r.before = cc x in
+        let after : q.body ≡ r.after = cc y in
+        (ap names_modified new_specs ∙ r.modified ∙ sym (ap names_modified specs), (cc (x, y), (cc (x, y), (cc (x, y), p.told ∙ ap is_some before ∙ sym r.bodies ∙ sym (ap is_some after) ∙ sym q.told))))
+    revised_alike (inr r) = let x : procedure n ps g ss p.body ≡ implementation r.name r.params r.signature r.before = sym p.is ∙ r.old in absurd (cc)
+
+  module _ (p : IsImplementation d n ps g) (q : IsImplementation e m qs h) where
+    pub alike_implements : (n ≡ m) × ((ps ≡ qs) × (g ≡ h)) → IsOtherImplementation d e
+    alike_implements s = record {
+      name = n;
+      params = ps;
+      signature = g;
+      before = p.body;
+      after = q.body;
+      old = p.is;
+      new = q.is ∙ (λ i. implementation (sym s.0 i) (sym s.1.0 i) (sym s.1.1 i) q.body);
+    }
+
+    pub implements_alike : IsOtherImplementation d e → (n ≡ m) × ((ps ≡ qs) × (g ≡ h))
+    implements_alike r =
+        let x : implementation n ps g p.body ≡ implementation r.name r.params r.signature r.before = sym p.is ∙ r.old in
+        let y : implementation m qs h q.body ≡ implementation r.name r.params r.signature r.after = sym q.is ∙ r.new in
+        (cc (x, y), (cc (x, y), cc (x, y)))
+
+-- what is no procedure is revised as an implementation, and what is one not by what is none
+pub no_procedure : (d e : DeclBody) → is_procedure d ≡ false → IsRevised d e → IsOtherImplementation d e
+no_procedure d e h (inl r) = absurd (false≢true (sym h ∙ ap is_procedure r.old))
+no_procedure d e h (inr r) = r
+
+pub no_procedure_new : (d e : DeclBody) → is_procedure d ≡ true → is_procedure e ≡ false → IsRevised d e → ⊥
+no_procedure_new d e h k (inl r) = false≢true (sym k ∙ ap is_procedure r.new)
+no_procedure_new d e h k (inr r) = false≢true (sym (ap is_procedure r.old) ∙ h)
+
+pub no_implementation : (d e : DeclBody) → is_implementation d ≡ false → IsOtherImplementation d e → ⊥
+no_implementation d e h r = false≢true (sym h ∙ ap is_implementation r.old)
+
+pub no_implementation_new : (d e : DeclBody) → is_implementation e ≡ false → IsOtherImplementation d e → ⊥
+no_implementation_new d e h r = false≢true (sym h ∙ ap is_implementation r.new)
