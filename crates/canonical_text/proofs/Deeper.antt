@@ -13,7 +13,8 @@ use Rattle.canonical_text.specs.declared.level.Level.TheVariants.{Equivalence, I
 use Rattle.canonical_text.specs.Level.{rank}
 use Rattle.canonical_text.specs.declared.sign.Sign.{Sign}
 use Rattle.canonical_text.specs.Glyph.{Glyph, plain, word, opening, closing, prefix, line}
-use Rattle.canonical_text.specs.Lines.{joined, program_text}
+use Rattle.bv_base.specs.Text.{text_of}
+use Rattle.canonical_text.specs.Lines.{program_text}
 use Rattle.bpl_grammar.specs.Lexeme.{Lexeme, lexemes}
 use Rattle.bpl_grammar.specs.Part.{rule, program}
 use Rattle.bpl_grammar.specs.Judge.{deep}
@@ -95,7 +96,7 @@ rest_glyphs k = rest_loose (word "axiom") (word "if" ∷ nots k behind) (loose_w
 -- the text, and its tokens
 
 abbrev bytes_of : ℕ → List ℕ
-bytes_of k = joined (line 0 (glyphs k) ∷ [])
+bytes_of k = text_of (line 0 (glyphs k) ∷ [])
 
 lexed : (k : ℕ) → Lexed (bytes_of k) 0 (glyphs k ++ [])
 lexed k = lex_lines (one_line 0 (glyphs k) (rest_glyphs k)) [] (bytes_of k) [] 0 (sym (append-nil (bytes_of k))) (λ to e. record { values = []; reads = ap (tokens_from to 0) e; are = none })

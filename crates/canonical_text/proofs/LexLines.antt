@@ -10,7 +10,7 @@ use Rattle.bpl_lex.proofs.Longest.{front_from}
 use Rattle.bpl_lex.proofs.Fronts.{blank_begins}
 use Rattle.bpl_lex.proofs.Steps.{piece_at}
 use Rattle.canonical_text.specs.Glyph.{Glyph, gap, spaced, line}
-use Rattle.canonical_text.specs.Lines.{joined}
+use Rattle.bv_base.specs.Text.{text_of}
 use Rattle.canonical_text.specs.Spelled.{kind_in}
 use Rattle.canonical_text.specs.Lexed.{AreTokens, more, IsAlone, AreApart, AreLines, none as no_lines, more as more_lines}
 
@@ -109,10 +109,10 @@ lex_line n gs hs bytes after at a e k =
     (λ to d. lex_spaced gs hs bytes after to a d (λ end f. blank_step bytes after end 10 hs f (feed_front after) (k (end + 1) (past bytes (10 ∷ []) after end f))))
 
 -- lines one after another
-pub lex_lines : {ls : List (List ℕ)} {gs : List Glyph} → AreLines ls gs → (hs : List Glyph) (bytes after : List ℕ) (at : ℕ) → drop at bytes ≡ joined ls ++ after → Next bytes after hs → Lexed bytes at (gs ++ hs)
+pub lex_lines : {ls : List (List ℕ)} {gs : List Glyph} → AreLines ls gs → (hs : List Glyph) (bytes after : List ℕ) (at : ℕ) → drop at bytes ≡ text_of ls ++ after → Next bytes after hs → Lexed bytes at (gs ++ hs)
 lex_lines no_lines hs bytes after at e k = k at e
 lex_lines (more_lines {ls = ls} {hs = gs'} n gs a l) hs bytes after at e k =
-    subst (Lexed bytes at) (sym (append_assoc gs gs' hs)) (lex_line n gs (gs' ++ hs) bytes (joined ls ++ after) at a (e ∙ shape (line n gs) (joined ls) after) (λ to d. lex_lines l hs bytes after to d k))
+    subst (Lexed bytes at) (sym (append_assoc gs gs' hs)) (lex_line n gs (gs' ++ hs) bytes (text_of ls ++ after) at a (e ∙ shape (line n gs) (text_of ls) after) (λ to d. lex_lines l hs bytes after to d k))
   where
     shape : (a b c : List ℕ) → ((a ++ 10 ∷ []) ++ b) ++ c ≡ a ++ 10 ∷ (b ++ c)
     shape a b c = append_assoc (a ++ 10 ∷ []) b c ∙ append_assoc a (10 ∷ []) (b ++ c)

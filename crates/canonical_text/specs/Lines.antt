@@ -1,6 +1,7 @@
 -- The canonical text: a declaration's lines.
 use Rattle.std.specs.Prelude.{ℕ, ◌+◌, Bool, true, false, List, [], ◌∷◌, ◌++◌, map, flat_map, Option, Some, None}
 use Rattle.bv_base.specs.declared.place.Place.{Place}
+use Rattle.bv_base.specs.Text.{text_of}
 use Rattle.bpl_ast.specs.Place.{Name, Params, Ty}
 use Rattle.bpl_ast.specs.Tree.{Expr, Exprs, no_exprs, item, Groups, no_groups, group}
 use Rattle.bpl_ast.specs.Statement.{Target, Guard, Invariant, Stmt, stmt, Action, assert, assume, havoc, assign, call, branches, loop, «break», «return», goto, Branches, branch, otherwise, no_branch, Stmts, no_stmts, next, Spec, requires, ensures, modifies, Body, Signature, Argument, DeclBody, constant, function, axiom_of, variables, synonym, procedure, implementation, Decl}
@@ -157,14 +158,11 @@ last_lines d = []
 abbrev pub lines : DeclBody → Lines
 lines d = head_lines d ++ last_lines d
 
-abbrev pub joined : Lines → List ℕ
-joined ls = flat_map (λ l. l ++ 10 ∷ []) ls
-
 abbrev pub text : DeclBody → List ℕ
-text d = joined (lines d)
+text d = text_of (lines d)
 
 abbrev pub contract : DeclBody → List ℕ
-contract d = joined (head_lines d)
+contract d = text_of (head_lines d)
 
 -- the canonical text of a program
 abbrev pub program_text : List Decl → List ℕ

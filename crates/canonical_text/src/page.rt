@@ -1,7 +1,6 @@
 // The lines of the canonical text as they are written.
 ghost use Rattle.std.specs.Prelude.{◌≡◌, ◌+◌, [], ◌∷◌, ◌++◌, map, OnOk, IfOk};
 ghost use Rattle.canonical_text.specs.Glyph.{plain, line};
-ghost use Rattle.canonical_text.specs.Lines.{joined};
 ghost use Rattle.canonical_text.specs.Written.{begun};
 
 use crate::line::Line;
@@ -75,17 +74,4 @@ pub fn deeper(indent: usize) -> Result<usize, AllocError>
         Some(inner) => Ok(inner),
         None => Err(AllocError),
     }
-}
-
-/// Appends lines, each ended by a line feed.
-pub fn append_lines(out: &mut Vec<u8>, lines: &[Vec<u8>]) -> Result<(), AllocError>
-    ensures { OnOk result (out.new.items ≡ out.old.items ++ joined (map (λ l. l.items) lines.now)) }
-{
-    let mut rest = lines;
-    while let Some((line, tail)) = rest.split_first() {
-        out.extend_from_slice(line)?;
-        out.extend_from_slice(b"\n")?;
-        rest = tail;
-    }
-    Ok(())
 }

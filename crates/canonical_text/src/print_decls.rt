@@ -7,7 +7,7 @@ ghost use Rattle.canonical_text.specs.Glyph.{word, plain, line};
 ghost use Rattle.canonical_text.specs.Lines.{spec_line, signature, ended, local_line, body_lines, optional_body, head_lines, last_lines, lines, text, contract, program_text};
 
 use crate::line::Line;
-use crate::page::{Page, append_lines};
+use crate::page::Page;
 use crate::print_actions::{print_claim, print_free, print_named};
 use crate::print_exprs::print_expr;
 use crate::print_heads::{
@@ -18,6 +18,7 @@ use crate::print_stmts::print_stmts;
 use bpl_ast::decl::{Body, Decl, DeclBody, Program, Signature, Spec, SpecForm};
 use bpl_ast::expr::{Expr, Group};
 use bpl_ast::name::{Name, TypeParams};
+use bv_base::append_lines;
 use std::alloc::{AllocError, Global};
 
 /// The line of a clause of a contract.

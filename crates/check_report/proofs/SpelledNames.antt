@@ -23,7 +23,7 @@ use Rattle.bpl_model.specs.Module.{Proc}
 use Rattle.bpl_sorts.specs.Erased.{users_with, replaced_body, replaced_from, replaced, Unique, one_more, axioms_from, axioms_after, uniques, carrier_axioms, as_integers, erased}
 use Rattle.bpl_resolve.specs.Elaborate.{procs_in, module_of}
 use Rattle.program_opening.specs.Spelled.{IsSpelled, AreSpelled}
-use Rattle.report_text.specs.Lines.{line_feed, count, IsWithout}
+use Rattle.bv_base.specs.Text.{line_feed, count, IsWithout}
 use Rattle.report_text.specs.Called.{colon, IsName}
 
 -- ---- an identifier is a name

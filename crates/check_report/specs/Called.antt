@@ -6,7 +6,7 @@ use Rattle.bpl_sorts.specs.Erased.{erased, told_apart}
 use Rattle.bpl_resolve.specs.Elaborated.{IsElaborated}
 use Rattle.bpl_model.specs.Module.{Proc, Module}
 use Rattle.bpl_model.specs.Safe.{Safe}
-use Rattle.report_text.specs.Lines.{HasLine}
+use Rattle.bv_base.specs.Text.{HasLine}
 use Rattle.report_text.specs.Called.{correct_line, IsName}
 
 -- they have no fault by names and types, their user types read as integers and each told apart from every other type, and this is the module of those read as integers

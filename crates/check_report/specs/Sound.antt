@@ -2,7 +2,7 @@
 use Rattle.std.specs.Prelude.{◌≡◌, ℕ, List}
 use Rattle.bpl_ast.specs.Statement.{Decl}
 use Rattle.bpl_model.specs.Module.{Module}
-use Rattle.report_text.specs.Lines.{text_of}
+use Rattle.bv_base.specs.Text.{text_of}
 use Rattle.program_opening.specs.Opening.{program, opening, Opens}
 use Rattle.program_opening.specs.Spelled.{AreSpelled}
 use Rattle.check_report.specs.Scratch.{scratch}

@@ -2,7 +2,7 @@
 use Rattle.std.proofs.Common.{◌≡◌, ◌∙◌, ℕ, Bool, List, Some, None, Result, Ok, Err, IfOk, ap, sym, subst}
 use Rattle.fault_text.specs.Written.{Written, fault_line}
 use Rattle.bpl_model.specs.Module.{Module}
-use Rattle.report_text.specs.Lines.{ended, text_of}
+use Rattle.bv_base.specs.Text.{ended, text_of}
 use Rattle.program_opening.specs.ProcGoals.{ProcGoals, goals_by_proc}
 use Rattle.vc_build.specs.declared.fault.Measure.{Measure}
 use Rattle.program_opening.specs.Opening.{Opening, program, refused, size_fault, Opens}

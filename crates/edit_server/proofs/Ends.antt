@@ -1,6 +1,6 @@
 -- Lines that are the same once they are ended.
 use Rattle.std.proofs.Common.{◌≡◌, ℕ, List, [], ◌∷◌}
-use Rattle.report_text.specs.Lines.{ended}
+use Rattle.bv_base.specs.Text.{ended}
 
 pub same_line : (xs ys : List ℕ) → ended xs ≡ ended ys → xs ≡ ys
 same_line [] [] e = cc

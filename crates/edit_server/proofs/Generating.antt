@@ -4,7 +4,7 @@ use Rattle.std.specs.List.{list_all}
 use Rattle.tableau.specs.Search.{is_proved}
 use Rattle.fault_text.specs.Written.{Written, fault_line}
 use Rattle.bpl_model.specs.Module.{Module}
-use Rattle.report_text.specs.Lines.{ended}
+use Rattle.bv_base.specs.Text.{ended}
 use Rattle.program_opening.specs.ProcGoals.{ProcGoals, goals_by_proc}
 use Rattle.program_opening.specs.Opening.{Opening, program, refused, Opens}
 use Rattle.program_opening.specs.Laws.{OpensOnce}

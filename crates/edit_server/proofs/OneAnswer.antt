@@ -1,6 +1,6 @@
 -- An input has one answer.
 use Rattle.std.proofs.Common.{◌≡◌, ◌∙◌, ℕ, List, Option, Some, None, sym, ap, subst}
-use Rattle.report_text.specs.Lines.{ended}
+use Rattle.bv_base.specs.Text.{ended}
 use Rattle.fault_text.specs.Written.{Written}
 use Rattle.recheck_report.specs.Parts.{program_in, lines_in}
 use Rattle.program_opening.specs.ProcGoals.{goals_by_proc}

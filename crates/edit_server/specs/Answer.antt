@@ -6,7 +6,7 @@ use Rattle.bpl_model.specs.Module.{Proc, Module}
 use Rattle.command_words.specs.declared.command.Mode.{Mode}
 use Rattle.command_words.specs.declared.command.Mode.TheVariants.{Check, Serve, Recheck, Gen, Smoke}
 use Rattle.fault_text.specs.Written.{Written, fault_line}
-use Rattle.report_text.specs.Lines.{ended, text_of}
+use Rattle.bv_base.specs.Text.{ended, text_of}
 use Rattle.recheck_report.specs.Parts.{program_in, lines_in}
 use Rattle.vc_build.specs.Goals.{goals}
 use Rattle.vc_build.specs.declared.fault.Measure.{Measure}

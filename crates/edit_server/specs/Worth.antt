@@ -6,7 +6,7 @@ use Rattle.bpl_model.specs.Module.{Proc, Module}
 use Rattle.bpl_model.specs.Safe.{Safe}
 use Rattle.command_words.specs.declared.command.Mode.{Mode}
 use Rattle.command_words.specs.declared.command.Mode.TheVariants.{Check, Serve, Recheck, Gen, Smoke}
-use Rattle.report_text.specs.Lines.{ended}
+use Rattle.bv_base.specs.Text.{ended}
 use Rattle.check_report.specs.Called.{IsProgramOf, CallsCorrectTheSafe}
 use Rattle.recheck_report.specs.Program.{program_in}
 use Rattle.smoke_report.specs.Unreached.{NamesUnreached}

@@ -1,7 +1,7 @@
 // What is answered to a text.
 ghost use Rattle.std.specs.Prelude.{◌≡◌, ◌-◌, ◌^◌, ◌<◌, length, true, IfOk};
 ghost use Rattle.fault_text.specs.Written.{fault_line};
-ghost use Rattle.report_text.specs.Lines.{ended};
+ghost use Rattle.bv_base.specs.Text.{ended};
 ghost use Rattle.edit_server.specs.Modes.{answers_text};
 ghost use Rattle.bpl_goto.specs.Forward.{AllGoForward};
 ghost use Rattle.smoke_report.specs.Smoke.{points_large};

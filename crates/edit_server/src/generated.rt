@@ -2,7 +2,7 @@
 ghost use Rattle.std.specs.Prelude.{◌≡◌, ◌≢◌, ◌-◌, ◌^◌, ◌<◌, ◌≤◌, [], ◌∷◌, ◌++◌, length, IfOk, OnOk, OnErr};
 ghost use Rattle.std.specs.List.{list_all};
 ghost use Rattle.tableau.specs.Search.{is_proved};
-ghost use Rattle.report_text.specs.Lines.{ended};
+ghost use Rattle.bv_base.specs.Text.{ended};
 ghost use Rattle.command_words.specs.Limits.{most_size};
 ghost use Rattle.request_text.specs.Generated.{generate};
 ghost use Rattle.board_core.specs.Board.{close, closed_now};

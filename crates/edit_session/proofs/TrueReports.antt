@@ -4,7 +4,7 @@ use Rattle.std.specs.List.{AllByRecursion}
 use Rattle.bpl_ast.specs.Statement.{Decl}
 use Rattle.bpl_model.specs.Module.{Module}
 use Rattle.report_text.specs.Called.{correct_line}
-use Rattle.report_text.specs.Lines.{line_feed, ended, text_of, IsLineStart, HasLine}
+use Rattle.bv_base.specs.Text.{line_feed, ended, text_of, IsLineStart, HasLine}
 use Rattle.vc_build.specs.declared.fault.Measure.{Measure}
 use Rattle.vc_build.specs.Large.{program_large}
 use Rattle.program_opening.specs.Opening.{Opening, program, refused, Typing, typed, ill_typed, typing, unless_large, within_limits, opening}

@@ -1,7 +1,7 @@
 -- A line stands in the text of some lines only where it is one of them.
 use Rattle.std.proofs.Common.{◌≡◌, ◌∙◌, ◌⊎◌, inl, inr, ℕ, zero, suc, ◌+◌, arith, nat_eq, Bool, true, false, cond, List, [], ◌∷◌, ◌++◌, All, Contains, length, refl, sym, ap}
 use Rattle.std.proofs.lemmas.List.{append_assoc}
-use Rattle.report_text.specs.Lines.{line_feed, ended, text_of, count, IsWithout, IsLineStart, HasLine}
+use Rattle.bv_base.specs.Text.{line_feed, ended, text_of, count, IsWithout, IsLineStart, HasLine}
 use Rattle.report_text.proofs.Counts.{count_append}
 
 -- where two texts of a front, a line feed and a rest are equal and the first front has none, the second is it or goes on behind it

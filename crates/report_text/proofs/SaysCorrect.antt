@@ -7,7 +7,7 @@ use Rattle.flow_core.specs.declared.mark.GoalKind.TheVariants.{Assert, Invariant
 use Rattle.flow_core.specs.declared.mark.Mark.{Mark}
 use Rattle.tableau.specs.Search.{Verdict, proved, «open», turns, wide, is_proved}
 use Rattle.report_text.specs.Report.{kind_text, head, verdict_text, goal_line, goal_lines, last_words, last_line, proc_lines, report}
-use Rattle.report_text.specs.Lines.{line_feed, count, IsWithout, text_of, HasLine}
+use Rattle.bv_base.specs.Text.{line_feed, count, IsWithout, text_of, HasLine}
 use Rattle.report_text.specs.Called.{correct_line, colon, IsName}
 use Rattle.report_text.specs.Correct.{IsProvedAmong, CorrectIsProved}
 use Rattle.report_text.proofs.Counts.{count_append, decimal_has_none}

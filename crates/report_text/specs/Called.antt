@@ -1,6 +1,6 @@
 -- The line that calls a procedure correct.
 use Rattle.std.specs.Prelude.{ℕ, List, ◌++◌, codes}
-use Rattle.report_text.specs.Lines.{line_feed, IsWithout}
+use Rattle.bv_base.specs.Text.{line_feed, IsWithout}
 
 abbrev pub correct_line : List ℕ → List ℕ
 correct_line name = name ++ codes " correct"

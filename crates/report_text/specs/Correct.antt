@@ -4,7 +4,7 @@ use Rattle.std.specs.List.{list_all}
 use Rattle.flow_core.specs.declared.mark.Mark.{Mark}
 use Rattle.tableau.specs.Search.{Verdict, is_proved}
 use Rattle.report_text.specs.Report.{report}
-use Rattle.report_text.specs.Lines.{text_of, HasLine}
+use Rattle.bv_base.specs.Text.{text_of, HasLine}
 use Rattle.report_text.specs.Called.{correct_line, IsName}
 
 -- one of the procedures has this name, and each of its verdicts is that a proof was found

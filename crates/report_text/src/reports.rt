@@ -4,9 +4,10 @@ ghost use Rattle.tableau.specs.RunView.{verdict_of};
 ghost use Rattle.tableau.specs.Search.{is_proved};
 ghost use Rattle.std.specs.List.{list_all};
 ghost use Rattle.report_text.specs.Report.{verdict_text, goal_line, goal_lines, last_words, last_line, proc_lines, report as report_of};
-ghost use Rattle.report_text.specs.Lines.{ended, text_of};
+ghost use Rattle.bv_base.specs.Text.{text_of};
 
 use crate::heads::write_head;
+use bv_base::append_lines;
 use flow_core::Mark;
 use std::alloc::{AllocError, Global};
 use tableau::ended::Verdict;
@@ -138,9 +139,6 @@ pub fn text(alloc: Global, lines: &[Vec<u8>]) -> Result<Vec<u8>, AllocError>
     ensures { IfOk result (λ v. v.items ≡ text_of (map (λ l. l.items) lines.now)) }
 {
     let mut out = Vec::new(alloc);
-    for line in lines {
-        out.extend_from_slice(line.as_slice())?;
-        out.extend_from_slice(b"\n")?;
-    }
+    append_lines(&mut out, lines)?;
     Ok(out)
 }

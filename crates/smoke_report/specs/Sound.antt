@@ -10,7 +10,7 @@ use Rattle.smoke_report.specs.Points.{point_at}
 use Rattle.smoke_report.specs.Put.{proc_with_point, with_point}
 use Rattle.smoke_report.specs.Reach.{Reaches}
 use Rattle.vc_build.specs.Goals.{goals}
-use Rattle.report_text.specs.Lines.{text_of}
+use Rattle.bv_base.specs.Text.{text_of}
 use Rattle.smoke_report.specs.Smoke.{smoke_lines}
 use Rattle.smoke_report.specs.Unreached.{NamesUnreached}
 

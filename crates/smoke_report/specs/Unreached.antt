@@ -6,7 +6,7 @@ use Rattle.smoke_report.specs.declared.point.PointKind.{PointKind}
 use Rattle.smoke_report.specs.declared.point.PointKind.TheVariants.{Branch, Else, Loop, End}
 use Rattle.smoke_report.specs.Points.{point_at}
 use Rattle.smoke_report.specs.Reach.{Reaches}
-use Rattle.report_text.specs.Lines.{text_of}
+use Rattle.bv_base.specs.Text.{text_of}
 use Rattle.smoke_report.specs.declared.program_point.ProgramPoint.{ProgramPoint}
 
 abbrev pub kind_text : PointKind → List ℕ

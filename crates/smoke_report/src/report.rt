@@ -3,7 +3,7 @@ ghost use Rattle.std.specs.Prelude.{◌≡◌, ◌<◌, ◌++◌, ◌∷◌, [],
 ghost use Rattle.bpl_goto.specs.Forward.{AllGoForward};
 ghost use Rattle.vc_build.specs.Large.{large};
 ghost use Rattle.vc_build.specs.Exceeds.{IsFaultBy, IsFaultOf};
-ghost use Rattle.report_text.specs.Lines.{text_of};
+ghost use Rattle.bv_base.specs.Text.{text_of};
 ghost use Rattle.smoke_report.specs.Unreached.{point_line};
 ghost use Rattle.smoke_report.specs.Pointed.{AreOf, with_points};
 ghost use Rattle.smoke_report.specs.Smoke.{point_goals, is_unreachable, large_among, smoke_lines, none_unreachable, points_large};

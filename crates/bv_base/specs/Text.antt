@@ -1,4 +1,4 @@
--- Lines in a text: each is ended by a line feed.
+-- The text of some lines: each is ended by a line feed.
 use Rattle.std.specs.Prelude.{◌≡◌, ◌⊎◌, ℕ, zero, suc, ◌+◌, cond, nat_eq, List, [], ◌∷◌, ◌++◌, flat_map}
 
 abbrev pub line_feed : ℕ

@@ -1,7 +1,0 @@
-use Rattle.std.proofs.Common.{◌≡◌, ◌++◌, map, drop}
-use Rattle.report_text.specs.Lines.{text_of}
-use Rattle.report_text.proofs.reports.text.Given as goal
-
--- with the bytes of the lines that are left come the bytes of all
-abbrev pub invariant-loop-line : goal.invariant-loop-line
-invariant-loop-line l = l.out.items ++ text_of (map (λ v. v.items) (drop l.line-index l.lines)) ≡ text_of (map (λ v. v.items) l.lines)
