@@ -2,6 +2,7 @@
 
 Crates are proved beside each other, each by an `rt ci CRATE` of its own, over a copy of the sources without what that
 would prove besides, wrong bodies and crates of tests. The kit keeps what is proved, so a build that was stopped goes on.
+Where a kit's `rt ci` takes no names and keeps nothing (rattle-kit-13b), one `rt ci` proves the whole copy.
 """
 import glob
 import os
@@ -110,7 +111,8 @@ class Build:
         if width > 1 and self.is_kept:
             del environment["RT_JOBS"]
         said, told, begun = [], None, time.monotonic()
-        with subprocess.Popen(["rt", "ci", name], cwd=self.folder, env=environment, stdin=subprocess.DEVNULL,
+        words = ["rt", "ci", name] if self.is_kept else ["rt", "ci"]
+        with subprocess.Popen(words, cwd=self.folder, env=environment, stdin=subprocess.DEVNULL,
                               stdout=subprocess.PIPE, stderr=subprocess.STDOUT, text=True, errors="replace") as job:
             self.jobs.append(job)
             try:
@@ -120,7 +122,8 @@ class Build:
                     if told and told[2] != "NOT PROVED":
                         if told[1] == NAME:
                             job.send_signal(signal.SIGSTOP)  # so that it doesn't remove what it built
-                            self.take(glob.glob(f"{temporary}/rt-copy-{job.pid}-*/repo/crates/{NAME}/out/{NAME}")[0])
+                            places = [f"{temporary}/rt-copy-{job.pid}-*/repo", self.folder]
+                            self.take([it for place in places for it in glob.glob(f"{place}/crates/{NAME}/out/{NAME}")][0])
                         if told[1] == name and told[2] == "proved":
                             self.planned += self.minutes[name]
                             self.spent += width * (time.monotonic() - begun) / 60
@@ -176,6 +179,12 @@ class Build:
         tell(f"built in {(time.time() - self.begun) / 60:.0f} minutes")
 
 
+def keeps_crates(kept):
+    """Whether `rt ci` takes the names of crates and keeps what it proves of them."""
+    told = subprocess.run(["rt", "help"], stdin=subprocess.DEVNULL, stdout=subprocess.PIPE, stderr=subprocess.STDOUT, text=True)
+    return kept.name == "rattle-kept" or re.search(r"^\s*rt ci \[", told.stdout, re.M) is not None
+
+
 def build():
     """Builds in a folder that goes again, also where the build is stopped; a killed one leaves it to the next."""
     rt = shutil.which("rt") or fail(NAME, ["there is no `rt` on the PATH, the command of the Rattle kit\n"])
@@ -184,7 +193,7 @@ def build():
     # the kit keeps proofs beside its own folder; the build's is on that disk, where they are linked and not copied
     beside = Path(rt).resolve().parent.parent.parent
     kept = beside / "rattle-kept" if (beside / "rattle-kept").is_dir() else beside
-    is_kept = os.access(kept, os.W_OK) and shutil.disk_usage(kept).free >> 20 >= DISK
+    is_kept = keeps_crates(kept) and os.access(kept, os.W_OK) and shutil.disk_usage(kept).free >> 20 >= DISK
     os.makedirs(os.path.dirname(PROGRAM), exist_ok=True)
     places = [tempfile.gettempdir(), os.path.dirname(PROGRAM)]
     for old in [old for place in places for old in glob.glob(os.path.join(place, "bplserve-build-*-*"))]:
