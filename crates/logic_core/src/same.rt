@@ -2,7 +2,8 @@
 ghost use Rattle.std.specs.Prelude.{◌≡◌, ◌&&◌, nat_eq};
 ghost use Rattle.std.specs.Ordering.{int_eq};
 ghost use Rattle.logic_core.specs.View.{trees_of, parts_of, patterns_of, each_items};
-ghost use Rattle.logic_terms.specs.Same.{same_kind, same_kinds, same_term, same_trees, same_parts, same_patterns};
+ghost use Rattle.logic_terms.specs.Same.{same_kind, same_kinds, is_some_and, same_term, same_trees, same_parts, same_patterns};
+ghost use Rattle.logic_terms.specs.Variant.{as_index, as_sum, as_one, as_two, as_three, as_many, as_quantified};
 
 use crate::sort::{Sort, SortKind};
 use crate::term::{Node, Term};
@@ -42,86 +43,91 @@ impl Term {
             Node::Num(n) => *n == other.node.number(),
             Node::Truth(b) => *b == other.node.flag(),
             Node::Free(v) | Node::Bound(v) => *v == other.node.index(),
-            Node::Sum(parts, rest) => match other.node.sum() {
-                Some((others, other_rest)) => equal_sums(parts, *rest, others, other_rest),
-                None => false,
-            },
+            Node::Sum(parts, rest) => equal_sums(parts, *rest, other),
             Node::Mul(a, b) | Node::Read(a, b) | Node::Eq(a, b) | Node::Le(a, b) => {
-                match other.node.two() {
-                    Some((c, d)) => equal_two(a, b, c, d),
-                    None => false,
-                }
+                equal_two(a, b, other)
             }
-            Node::Write(a, b, c) | Node::If(a, b, c) => match other.node.three() {
-                Some((d, e, f)) => equal_three(a, b, c, d, e, f),
-                None => false,
-            },
-            Node::Call(f, terms) => match other.node.many() {
-                Some(others) => equal_calls(*f, terms, other.node.index(), others),
-                None => false,
-            },
-            Node::Not(a) => match other.node.one() {
-                Some(b) => a.equals(b),
-                None => false,
-            },
-            Node::And(terms) | Node::Or(terms) => match other.node.many() {
-                Some(others) => equal_terms(terms, others),
-                None => false,
-            },
+            Node::Write(a, b, c) | Node::If(a, b, c) => equal_three(a, b, c, other),
+            Node::Call(f, terms) => equal_calls(*f, terms, other),
+            Node::Not(a) => equal_one(a, other),
+            Node::And(terms) | Node::Or(terms) => equal_many(terms, other),
             Node::ForAll(sorts, patterns, body) | Node::Exists(sorts, patterns, body) => {
-                match other.node.quantified() {
-                    Some((other_sorts, other_patterns, other_body)) => {
-                        equal_sorts(sorts, other_sorts)
-                            && equal_bound(patterns, body, other_patterns, other_body)
-                    }
-                    None => false,
-                }
+                equal_quantified(sorts, patterns, body, other)
             }
         }
     }
 }
 
-// Each pair is the same. Choices within an arm for many constructs are functions of their own, since a proof goes through
-// each of its ways for each construct.
+// Whether the other term has these parts. Choices within an arm for many constructs are functions
+// of their own, since a proof goes through each of its ways for each construct.
 #[cycle(same)]
-fn equal_two(a: &Term, b: &Term, c: &Term, d: &Term) -> bool
-    ensures { result ≡ (same_term a.now c.now && same_term b.now d.now) }
+fn equal_one(a: &Term, other: &Term) -> bool
+    ensures { result ≡ is_some_and (as_one other.now) (λ b. same_term a.now b) }
 {
-    a.equals(c) && b.equals(d)
+    match other.node.one() {
+        Some(b) => a.equals(b),
+        None => false,
+    }
 }
 
 #[cycle(same)]
-fn equal_three(a: &Term, b: &Term, c: &Term, d: &Term, e: &Term, f: &Term) -> bool
-    ensures { result ≡ (same_term a.now d.now && (same_term b.now e.now && same_term c.now f.now)) }
+fn equal_two(a: &Term, b: &Term, other: &Term) -> bool
+    ensures { result ≡ is_some_and (as_two other.now) (λ p. same_term a.now p.0 && same_term b.now p.1) }
 {
-    a.equals(d) && equal_two(b, c, e, f)
+    match other.node.two() {
+        Some((c, d)) => a.equals(c) && b.equals(d),
+        None => false,
+    }
 }
 
 #[cycle(same)]
-fn equal_sums(parts: &[(i128, Term)], rest: i128, others: &[(i128, Term)], other_rest: i128) -> bool
-    ensures { result ≡ (same_parts (parts_of parts.now) (parts_of others.now) && int_eq rest other_rest) }
+fn equal_three(a: &Term, b: &Term, c: &Term, other: &Term) -> bool
+    ensures { result ≡ is_some_and (as_three other.now) (λ p. same_term a.now p.0 && (same_term b.now p.1 && same_term c.now p.2)) }
 {
-    equal_parts(parts, others) && rest == other_rest
+    match other.node.three() {
+        Some((d, e, f)) => a.equals(d) && (b.equals(e) && c.equals(f)),
+        None => false,
+    }
 }
 
 #[cycle(same)]
-fn equal_calls(f: u64, terms: &[Term], g: u64, others: &[Term]) -> bool
-    ensures { result ≡ (nat_eq f g && same_trees (trees_of terms.now) (trees_of others.now)) }
+fn equal_many(terms: &[Term], other: &Term) -> bool
+    ensures { result ≡ is_some_and (as_many other.now) (λ us. same_trees (trees_of terms.now) us) }
 {
-    f == g && equal_terms(terms, others)
+    match other.node.many() {
+        Some(others) => equal_terms(terms, others),
+        None => false,
+    }
 }
 
-// The patterns and the body of a quantifier.
 #[cycle(same)]
-fn equal_bound(
-    patterns: &[Vec<Term>],
-    body: &Term,
-    other_patterns: &[Vec<Term>],
-    other_body: &Term,
-) -> bool
-    ensures { result ≡ (same_patterns (patterns_of (each_items patterns.now)) (patterns_of (each_items other_patterns.now)) && same_term body.now other_body.now) }
+fn equal_calls(f: u64, terms: &[Term], other: &Term) -> bool
+    ensures { result ≡ (nat_eq f (as_index other.now) && is_some_and (as_many other.now) (λ us. same_trees (trees_of terms.now) us)) }
 {
-    equal_patterns(patterns, other_patterns) && body.equals(other_body)
+    f == other.node.index() && equal_many(terms, other)
+}
+
+#[cycle(same)]
+fn equal_sums(parts: &[(i128, Term)], rest: i128, other: &Term) -> bool
+    ensures { result ≡ is_some_and (as_sum other.now) (λ p. same_parts (parts_of parts.now) p.0 && int_eq rest p.1) }
+{
+    match other.node.sum() {
+        Some((others, other_rest)) => equal_parts(parts, others) && rest == other_rest,
+        None => false,
+    }
+}
+
+#[cycle(same)]
+fn equal_quantified(sorts: &[Sort], patterns: &[Vec<Term>], body: &Term, other: &Term) -> bool
+    ensures { result ≡ is_some_and (as_quantified other.now) (λ q. same_kinds sorts.now q.0 && (same_patterns (patterns_of (each_items patterns.now)) q.1 && same_term body.now q.2)) }
+{
+    match other.node.quantified() {
+        Some((other_sorts, other_patterns, other_body)) => {
+            equal_sorts(sorts, other_sorts)
+                && (equal_patterns(patterns, other_patterns) && body.equals(other_body))
+        }
+        None => false,
+    }
 }
 
 #[cycle(same)]

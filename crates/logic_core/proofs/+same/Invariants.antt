@@ -16,20 +16,26 @@ decreases-same::equal_parts l = 4 * parts_nodes (parts_of l.mine.now) + 1
 abbrev pub decreases-same::equal_patterns : goal.decreases-same::equal_patterns
 decreases-same::equal_patterns l = 4 * patterns_nodes (patterns_of (each_items l.mine.now)) + 2
 
+abbrev pub decreases-same::equal_one : goal.decreases-same::equal_one
+decreases-same::equal_one l = 4 * nodes l.a.now + 1
+
 abbrev pub decreases-same::equal_two : goal.decreases-same::equal_two
 decreases-same::equal_two l = 4 * (nodes l.a.now + nodes l.b.now) + 1
 
 abbrev pub decreases-same::equal_three : goal.decreases-same::equal_three
-decreases-same::equal_three l = 4 * (nodes l.a.now + (nodes l.b.now + nodes l.c.now)) + 2
+decreases-same::equal_three l = 4 * (nodes l.a.now + (nodes l.b.now + nodes l.c.now)) + 1
+
+abbrev pub decreases-same::equal_many : goal.decreases-same::equal_many
+decreases-same::equal_many l = 4 * trees_nodes (trees_of l.terms.now) + 2
+
+abbrev pub decreases-same::equal_calls : goal.decreases-same::equal_calls
+decreases-same::equal_calls l = 4 * trees_nodes (trees_of l.terms.now) + 3
 
 abbrev pub decreases-same::equal_sums : goal.decreases-same::equal_sums
 decreases-same::equal_sums l = 4 * parts_nodes (parts_of l.parts.now) + 2
 
-abbrev pub decreases-same::equal_calls : goal.decreases-same::equal_calls
-decreases-same::equal_calls l = 4 * trees_nodes (trees_of l.terms.now) + 2
-
-abbrev pub decreases-same::equal_bound : goal.decreases-same::equal_bound
-decreases-same::equal_bound l = 4 * (patterns_nodes (patterns_of (each_items l.patterns.now)) + nodes l.body.now) + 3
+abbrev pub decreases-same::equal_quantified : goal.decreases-same::equal_quantified
+decreases-same::equal_quantified l = 4 * (patterns_nodes (patterns_of (each_items l.patterns.now)) + nodes l.body.now) + 3
 
 abbrev pub invariant-same::equal_terms-loop-i : goal.invariant-same::equal_terms-loop-i
 invariant-same::equal_terms-loop-i l = record {
