@@ -2,46 +2,16 @@
 // for, a Call has the definition's parameters, both branches of an If and both sides of an Eq have
 // one sort, and triggers are well sorted, of any sorts.
 ghost use Rattle.std.specs.Prelude.{◌≡◌, ◌++◌, ◌&&◌, reverse, IfOk, slice_get, Some};
-ghost use Rattle.logic_terms.specs.Tree.{int, boolean};
+ghost use Rattle.logic_terms.specs.Tree.{int, boolean, call};
 ghost use Rattle.logic_core.specs.View.{trees_of, parts_of, patterns_of, each_items};
 ghost use Rattle.logic_terms.specs.Wide.{when};
-ghost use Rattle.logic_terms.specs.Sorts.{is, range, sort_of, are, are_formulas, are_ints, have_sorts, have_sorts_in};
+ghost use Rattle.logic_terms.specs.Sorts.{is, read_sort, write_sort, choice_sort, equation_sort, sort_of, are, are_formulas, are_ints, have_sorts, have_sorts_in};
 
 use crate::copy::copy_sorts;
 use crate::def::{Def, Signature};
-use crate::sort::{Sort, SortKind};
+use crate::sort::Sort;
 use crate::term::{Node, Term};
 use std::alloc::{AllocError, Global};
-
-impl Sort {
-    /// The sort of integers.
-    pub fn int() -> Sort
-        ensures { result ≡ int }
-    {
-        Sort {
-            kind: SortKind::Int,
-        }
-    }
-
-    /// The sort of truth values.
-    pub fn boolean() -> Sort
-        ensures { result ≡ boolean }
-    {
-        Sort {
-            kind: SortKind::Bool,
-        }
-    }
-
-    /// What a map of this sort holds; None where it is no map.
-    pub fn range(&self, alloc: Global) -> Result<Option<Sort>, AllocError>
-        ensures { IfOk result (λ r. r ≡ range self.now) }
-    {
-        match &self.kind {
-            SortKind::Int | SortKind::Bool => Ok(None),
-            SortKind::Map(range) => Ok(Some(range.copy(alloc)?)),
-        }
-    }
-}
 
 /// The sort with that number, where there is one.
 fn sort_at(alloc: Global, sorts: &[Sort], number: u64) -> Result<Option<Sort>, AllocError>
@@ -103,54 +73,15 @@ impl Term {
                 Sort::int(),
             )),
             Node::Mul(a, b) => Ok(when(
-                a.has_sort(alloc, vars, defs, bound, &Sort::int())?
-                    && b.has_sort(alloc, vars, defs, bound, &Sort::int())?,
+                are_both(alloc, vars, defs, bound, a, b, &Sort::int())?,
                 Sort::int(),
             )),
-            Node::Read(map, index) => {
-                let Some(sort) = map.sort_over(alloc, vars, defs, bound)? else {
-                    return Ok(None);
-                };
-                let Some(held) = sort.range(alloc)? else {
-                    return Ok(None);
-                };
-                Ok(when(
-                    index.has_sort(alloc, vars, defs, bound, &Sort::int())?,
-                    held,
-                ))
-            }
+            Node::Read(map, index) => read_sort(alloc, vars, defs, bound, map, index),
             Node::Write(map, index, value) => {
-                let Some(sort) = map.sort_over(alloc, vars, defs, bound)? else {
-                    return Ok(None);
-                };
-                let Some(held) = sort.range(alloc)? else {
-                    return Ok(None);
-                };
-                Ok(when(
-                    index.has_sort(alloc, vars, defs, bound, &Sort::int())?
-                        && value.has_sort(alloc, vars, defs, bound, &held)?,
-                    sort,
-                ))
+                write_sort(alloc, vars, defs, bound, map, index, value)
             }
-            Node::If(condition, a, b) => {
-                let Some(sort) = a.sort_over(alloc, vars, defs, bound)? else {
-                    return Ok(None);
-                };
-                Ok(when(
-                    condition.has_sort(alloc, vars, defs, bound, &Sort::boolean())?
-                        && b.has_sort(alloc, vars, defs, bound, &sort)?,
-                    sort,
-                ))
-            }
-            Node::Call(f, terms) => {
-                let Some(def) = defs.get(*f as usize) else {
-                    return Ok(None);
-                };
-                Ok(when(
-                    are(alloc, vars, defs, bound, def.params.as_slice(), terms)?,
-                    def.sort.copy(alloc)?,
-                ))
-            }
+            Node::If(condition, a, b) => choice_sort(alloc, vars, defs, bound, condition, a, b),
+            Node::Call(f, terms) => call_sort(alloc, vars, defs, bound, *f, terms),
             Node::Not(a) => Ok(when(
                 a.has_sort(alloc, vars, defs, bound, &Sort::boolean())?,
                 Sort::boolean(),
@@ -161,24 +92,14 @@ impl Term {
                     Sort::boolean(),
                 ))
             }
-            Node::Eq(a, b) => {
-                let Some(sort) = a.sort_over(alloc, vars, defs, bound)? else {
-                    return Ok(None);
-                };
-                Ok(when(
-                    b.has_sort(alloc, vars, defs, bound, &sort)?,
-                    Sort::boolean(),
-                ))
-            }
+            Node::Eq(a, b) => equation_sort(alloc, vars, defs, bound, a, b),
             Node::Le(a, b) => Ok(when(
-                a.has_sort(alloc, vars, defs, bound, &Sort::int())?
-                    && b.has_sort(alloc, vars, defs, bound, &Sort::int())?,
+                are_both(alloc, vars, defs, bound, a, b, &Sort::int())?,
                 Sort::boolean(),
             )),
             Node::ForAll(sorts, patterns, body) | Node::Exists(sorts, patterns, body) => {
-                let reach = within_binder(alloc, sorts, bound)?;
                 Ok(when(
-                    is_quantified(alloc, vars, defs, reach.as_slice(), patterns, body)?,
+                    is_quantified(alloc, vars, defs, bound, sorts, patterns, body)?,
                     Sort::boolean(),
                 ))
             }
@@ -204,21 +125,154 @@ impl Term {
     }
 }
 
-/// Whether the triggers of a quantifier are well sorted, and its body is a formula.
+// The sort of a Read of these parts.
+#[cycle(sorts)]
+fn read_sort(
+    alloc: Global,
+    vars: &[Sort],
+    defs: &[Def],
+    bound: &[Sort],
+    map: &Term,
+    index: &Term,
+) -> Result<Option<Sort>, AllocError>
+    ensures { IfOk result (λ s. s ≡ read_sort (sort_of vars.now defs.now bound.now map.now) (sort_of vars.now defs.now bound.now index.now)) }
+{
+    let Some(sort) = map.sort_over(alloc, vars, defs, bound)? else {
+        return Ok(None);
+    };
+    let Some(held) = sort.range(alloc)? else {
+        return Ok(None);
+    };
+    Ok(when(
+        index.has_sort(alloc, vars, defs, bound, &Sort::int())?,
+        held,
+    ))
+}
+
+// The sort of a Write of these parts.
+#[cycle(sorts)]
+fn write_sort(
+    alloc: Global,
+    vars: &[Sort],
+    defs: &[Def],
+    bound: &[Sort],
+    map: &Term,
+    index: &Term,
+    value: &Term,
+) -> Result<Option<Sort>, AllocError>
+    ensures { IfOk result (λ s. s ≡ write_sort (sort_of vars.now defs.now bound.now map.now) (sort_of vars.now defs.now bound.now index.now) (sort_of vars.now defs.now bound.now value.now)) }
+{
+    let Some(sort) = map.sort_over(alloc, vars, defs, bound)? else {
+        return Ok(None);
+    };
+    let Some(held) = sort.range(alloc)? else {
+        return Ok(None);
+    };
+    Ok(when(
+        index.has_sort(alloc, vars, defs, bound, &Sort::int())?
+            && value.has_sort(alloc, vars, defs, bound, &held)?,
+        sort,
+    ))
+}
+
+// The sort of an If of these parts.
+#[cycle(sorts)]
+fn choice_sort(
+    alloc: Global,
+    vars: &[Sort],
+    defs: &[Def],
+    bound: &[Sort],
+    condition: &Term,
+    a: &Term,
+    b: &Term,
+) -> Result<Option<Sort>, AllocError>
+    ensures { IfOk result (λ s. s ≡ choice_sort (sort_of vars.now defs.now bound.now condition.now) (sort_of vars.now defs.now bound.now a.now) (sort_of vars.now defs.now bound.now b.now)) }
+{
+    let Some(sort) = a.sort_over(alloc, vars, defs, bound)? else {
+        return Ok(None);
+    };
+    Ok(when(
+        condition.has_sort(alloc, vars, defs, bound, &Sort::boolean())?
+            && b.has_sort(alloc, vars, defs, bound, &sort)?,
+        sort,
+    ))
+}
+
+// The sort of a Call of that definition with these arguments.
+#[cycle(sorts)]
+fn call_sort(
+    alloc: Global,
+    vars: &[Sort],
+    defs: &[Def],
+    bound: &[Sort],
+    f: u64,
+    terms: &[Term],
+) -> Result<Option<Sort>, AllocError>
+    ensures { IfOk result (λ s. s ≡ sort_of vars.now defs.now bound.now (call f (trees_of terms.now))) }
+{
+    let Some(def) = defs.get(f as usize) else {
+        return Ok(None);
+    };
+    Ok(when(
+        are(alloc, vars, defs, bound, def.params.as_slice(), terms)?,
+        def.sort.copy(alloc)?,
+    ))
+}
+
+// The sort of an Eq of these sides.
+#[cycle(sorts)]
+fn equation_sort(
+    alloc: Global,
+    vars: &[Sort],
+    defs: &[Def],
+    bound: &[Sort],
+    a: &Term,
+    b: &Term,
+) -> Result<Option<Sort>, AllocError>
+    ensures { IfOk result (λ s. s ≡ equation_sort (sort_of vars.now defs.now bound.now a.now) (sort_of vars.now defs.now bound.now b.now)) }
+{
+    let Some(sort) = a.sort_over(alloc, vars, defs, bound)? else {
+        return Ok(None);
+    };
+    Ok(when(
+        b.has_sort(alloc, vars, defs, bound, &sort)?,
+        Sort::boolean(),
+    ))
+}
+
+// Whether both terms are well sorted and have this sort.
+#[cycle(sorts)]
+fn are_both(
+    alloc: Global,
+    vars: &[Sort],
+    defs: &[Def],
+    bound: &[Sort],
+    a: &Term,
+    b: &Term,
+    sort: &Sort,
+) -> Result<bool, AllocError>
+    ensures { IfOk result (λ h. h ≡ (is sort.now (sort_of vars.now defs.now bound.now a.now) && is sort.now (sort_of vars.now defs.now bound.now b.now))) }
+{
+    Ok(a.has_sort(alloc, vars, defs, bound, sort)? && b.has_sort(alloc, vars, defs, bound, sort)?)
+}
+
+// Whether the triggers of a quantifier over these sorts are well sorted, and its body is a formula.
 #[cycle(sorts)]
 fn is_quantified(
     alloc: Global,
     vars: &[Sort],
     defs: &[Def],
-    reach: &[Sort],
+    bound: &[Sort],
+    sorts: &[Sort],
     patterns: &[Vec<Term>],
     body: &Term,
 ) -> Result<bool, AllocError>
-    ensures { IfOk result (λ h. h ≡ have_sorts_in vars.now defs.now reach.now (patterns_of (each_items patterns.now)) && is boolean (sort_of vars.now defs.now reach.now body.now)) }
+    ensures { IfOk result (λ h. h ≡ (have_sorts_in vars.now defs.now (reverse sorts.now ++ bound.now) (patterns_of (each_items patterns.now)) && is boolean (sort_of vars.now defs.now (reverse sorts.now ++ bound.now) body.now))) }
 {
+    let reach = within_binder(alloc, sorts, bound)?;
     Ok(
-        have_sorts_in(alloc, vars, defs, reach, patterns)?
-            && body.has_sort(alloc, vars, defs, reach, &Sort::boolean())?,
+        have_sorts_in(alloc, vars, defs, reach.as_slice(), patterns)?
+            && body.has_sort(alloc, vars, defs, reach.as_slice(), &Sort::boolean())?,
     )
 }
 

@@ -25,6 +25,24 @@ decreases-sorts::have_sorts l = 5 * trees_nodes (trees_of l.terms.now) + 2
 abbrev pub decreases-sorts::have_sorts_in : goal.decreases-sorts::have_sorts_in
 decreases-sorts::have_sorts_in l = 5 * patterns_nodes (patterns_of (each_items l.patterns.now)) + 3
 
+abbrev pub decreases-sorts::read_sort : goal.decreases-sorts::read_sort
+decreases-sorts::read_sort l = 5 * (nodes l.map.now + nodes l.index.now) + 2
+
+abbrev pub decreases-sorts::write_sort : goal.decreases-sorts::write_sort
+decreases-sorts::write_sort l = 5 * (nodes l.map.now + nodes l.index.now + nodes l.value.now) + 2
+
+abbrev pub decreases-sorts::choice_sort : goal.decreases-sorts::choice_sort
+decreases-sorts::choice_sort l = 5 * (nodes l.condition.now + nodes l.a.now + nodes l.b.now) + 2
+
+abbrev pub decreases-sorts::call_sort : goal.decreases-sorts::call_sort
+decreases-sorts::call_sort l = 5 * trees_nodes (trees_of l.terms.now) + 3
+
+abbrev pub decreases-sorts::equation_sort : goal.decreases-sorts::equation_sort
+decreases-sorts::equation_sort l = 5 * (nodes l.a.now + nodes l.b.now) + 2
+
+abbrev pub decreases-sorts::are_both : goal.decreases-sorts::are_both
+decreases-sorts::are_both l = 5 * (nodes l.a.now + nodes l.b.now) + 2
+
 abbrev pub decreases-sorts::is_quantified : goal.decreases-sorts::is_quantified
 decreases-sorts::is_quantified l = 5 * (patterns_nodes (patterns_of (each_items l.patterns.now)) + nodes l.body.now) + 4
 
