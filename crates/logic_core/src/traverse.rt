@@ -2,6 +2,8 @@
 // elsewhere the walk goes on into the parts.
 ghost use Rattle.std.specs.Prelude.{◌≡◌, ℕ, Option, List, IfOk};
 ghost use Rattle.logic_terms.specs.Tree.{Kind, Tree};
+ghost use Rattle.logic_core.specs.Rebuilt.{with_two, with_three, with_quantified};
+ghost use Rattle.logic_core.specs.TermView.{tree_of};
 ghost use Rattle.logic_core.specs.View.{trees_of, parts_of, patterns_of, each_items};
 ghost use Rattle.logic_core.specs.Traversed.{traversed, traversed_each, traversed_parts, traversed_patterns};
 
@@ -53,24 +55,12 @@ pub fn traverse<W: Walk>(
             traverse_parts(alloc, walk, depth, parts)?,
             *c,
         ))),
-        Node::Mul(a, b) => Ok(Term::new(Node::Mul(
-            traverse_boxed(alloc, walk, depth, a)?,
-            traverse_boxed(alloc, walk, depth, b)?,
-        ))),
-        Node::Read(a, b) => Ok(Term::new(Node::Read(
-            traverse_boxed(alloc, walk, depth, a)?,
-            traverse_boxed(alloc, walk, depth, b)?,
-        ))),
-        Node::Write(a, b, c) => Ok(Term::new(Node::Write(
-            traverse_boxed(alloc, walk, depth, a)?,
-            traverse_boxed(alloc, walk, depth, b)?,
-            traverse_boxed(alloc, walk, depth, c)?,
-        ))),
-        Node::If(a, b, c) => Ok(Term::new(Node::If(
-            traverse_boxed(alloc, walk, depth, a)?,
-            traverse_boxed(alloc, walk, depth, b)?,
-            traverse_boxed(alloc, walk, depth, c)?,
-        ))),
+        Node::Mul(a, b) | Node::Read(a, b) | Node::Eq(a, b) | Node::Le(a, b) => {
+            traverse_two(alloc, walk, depth, &term.node, a, b)
+        }
+        Node::Write(a, b, c) | Node::If(a, b, c) => {
+            traverse_three(alloc, walk, depth, &term.node, a, b, c)
+        }
         Node::Call(f, args) => Ok(Term::new(Node::Call(
             walk.number(*f),
             traverse_each(alloc, walk, depth, args)?,
@@ -78,29 +68,8 @@ pub fn traverse<W: Walk>(
         Node::Not(a) => Ok(Term::new(Node::Not(traverse_boxed(alloc, walk, depth, a)?))),
         Node::And(parts) => Ok(Term::new(Node::And(traverse_each(alloc, walk, depth, parts)?))),
         Node::Or(parts) => Ok(Term::new(Node::Or(traverse_each(alloc, walk, depth, parts)?))),
-        Node::Eq(a, b) => Ok(Term::new(Node::Eq(
-            traverse_boxed(alloc, walk, depth, a)?,
-            traverse_boxed(alloc, walk, depth, b)?,
-        ))),
-        Node::Le(a, b) => Ok(Term::new(Node::Le(
-            traverse_boxed(alloc, walk, depth, a)?,
-            traverse_boxed(alloc, walk, depth, b)?,
-        ))),
-        Node::ForAll(sorts, patterns, body) => {
-            let inner = walk.under(depth, sorts)?;
-            Ok(Term::new(Node::ForAll(
-                copy_sorts(alloc, sorts)?,
-                traverse_patterns(alloc, walk, inner, patterns)?,
-                traverse_boxed(alloc, walk, inner, body)?,
-            )))
-        }
-        Node::Exists(sorts, patterns, body) => {
-            let inner = walk.under(depth, sorts)?;
-            Ok(Term::new(Node::Exists(
-                copy_sorts(alloc, sorts)?,
-                traverse_patterns(alloc, walk, inner, patterns)?,
-                traverse_boxed(alloc, walk, inner, body)?,
-            )))
+        Node::ForAll(sorts, patterns, body) | Node::Exists(sorts, patterns, body) => {
+            traverse_quantified(alloc, walk, depth, &term.node, sorts, patterns, body)
         }
     }
 }
@@ -115,6 +84,60 @@ fn traverse_boxed<W: Walk>(
     ensures { IfOk result (λ b. b.value ≡ traversed (W.stands walk.now) (W.under walk.now) (W.number walk.now) depth term.now) }
 {
     Ok(Box::new(alloc, traverse(alloc, walk, depth, term)?)?)
+}
+
+// A term of that node's construct, of the parts after the walk.
+#[cycle(traverse)]
+fn traverse_two<W: Walk>(
+    alloc: Global,
+    walk: &W,
+    depth: u64,
+    of: &Node,
+    a: &Term,
+    b: &Term,
+) -> Result<Term, AllocError>
+    ensures { IfOk result (λ t. t ≡ with_two (tree_of of.now) (traversed (W.stands walk.now) (W.under walk.now) (W.number walk.now) depth a.now) (traversed (W.stands walk.now) (W.under walk.now) (W.number walk.now) depth b.now)) }
+{
+    let a = traverse_boxed(alloc, walk, depth, a)?;
+    let b = traverse_boxed(alloc, walk, depth, b)?;
+    Ok(Term::new(of.with_two(a, b)))
+}
+
+#[cycle(traverse)]
+fn traverse_three<W: Walk>(
+    alloc: Global,
+    walk: &W,
+    depth: u64,
+    of: &Node,
+    a: &Term,
+    b: &Term,
+    c: &Term,
+) -> Result<Term, AllocError>
+    ensures { IfOk result (λ t. t ≡ with_three (tree_of of.now) (traversed (W.stands walk.now) (W.under walk.now) (W.number walk.now) depth a.now) (traversed (W.stands walk.now) (W.under walk.now) (W.number walk.now) depth b.now) (traversed (W.stands walk.now) (W.under walk.now) (W.number walk.now) depth c.now)) }
+{
+    let a = traverse_boxed(alloc, walk, depth, a)?;
+    let b = traverse_boxed(alloc, walk, depth, b)?;
+    let c = traverse_boxed(alloc, walk, depth, c)?;
+    Ok(Term::new(of.with_three(a, b, c)))
+}
+
+#[cycle(traverse)]
+fn traverse_quantified<W: Walk>(
+    alloc: Global,
+    walk: &W,
+    depth: u64,
+    of: &Node,
+    sorts: &[Sort],
+    patterns: &[Vec<Term>],
+    body: &Term,
+) -> Result<Term, AllocError>
+    ensures { IfOk result (λ t. t ≡ with_quantified (tree_of of.now) sorts.now (traversed_patterns (W.stands walk.now) (W.under walk.now) (W.number walk.now) (W.under walk.now depth sorts.now) (patterns_of (each_items patterns.now))) (traversed (W.stands walk.now) (W.under walk.now) (W.number walk.now) (W.under walk.now depth sorts.now) body.now)) }
+{
+    let inner = walk.under(depth, sorts)?;
+    let sorts = copy_sorts(alloc, sorts)?;
+    let patterns = traverse_patterns(alloc, walk, inner, patterns)?;
+    let body = traverse_boxed(alloc, walk, inner, body)?;
+    Ok(Term::new(of.with_quantified(sorts, patterns, body)))
 }
 
 #[cycle(traverse)]

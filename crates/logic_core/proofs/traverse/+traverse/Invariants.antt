@@ -11,6 +11,15 @@ decreases-traverse g l = 4 * nodes l.term.now
 abbrev pub decreases-traverse_boxed : goal.decreases-traverse_boxed
 decreases-traverse_boxed g l = 4 * nodes l.term.now + 1
 
+abbrev pub decreases-traverse_two : goal.decreases-traverse_two
+decreases-traverse_two g l = 4 * (nodes l.a.now + nodes l.b.now) + 2
+
+abbrev pub decreases-traverse_three : goal.decreases-traverse_three
+decreases-traverse_three g l = 4 * (nodes l.a.now + nodes l.b.now + nodes l.c.now) + 2
+
+abbrev pub decreases-traverse_quantified : goal.decreases-traverse_quantified
+decreases-traverse_quantified g l = 4 * (patterns_nodes (patterns_of (each_items l.patterns.now)) + nodes l.body.now) + 3
+
 abbrev pub decreases-traverse_each : goal.decreases-traverse_each
 decreases-traverse_each g l = 4 * trees_nodes (trees_of l.each.now) + 1
 
