@@ -5,9 +5,9 @@ ghost use Rattle.std.specs.Prelude.{◌≡◌, IfOk, option_copied};
 ghost use Rattle.logic_core.specs.Gives.{Gives};
 ghost use Rattle.logic_core.specs.Combine.{sum_of, linear_of, add_multiple, combined, lead, at_least_zero};
 
+use crate::construct::zero_at_most;
 use crate::copy::copy_parts;
 use crate::fault::NormalFault;
-use crate::normal::zero_at_most;
 use crate::sum::Linear;
 use crate::term::{Node, Term};
 use std::alloc::{AllocError, Global};
