@@ -97,7 +97,7 @@ pub(crate) fn zero_at_most(alloc: Global, d: Term) -> Result<Term, AllocError>
 }
 
 // The Le of these very sides.
-fn at_most(alloc: Global, a: Term, b: Term) -> Result<Term, AllocError>
+pub(crate) fn at_most(alloc: Global, a: Term, b: Term) -> Result<Term, AllocError>
     ensures { IfOk result (λ t. t ≡ at_most a b) }
 {
     Ok(Term::new(Node::Le(Box::new(alloc, a)?, Box::new(alloc, b)?)))

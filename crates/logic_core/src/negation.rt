@@ -1,14 +1,16 @@
 // The normal Not of a normal formula: Nots are moved in to the atoms by De Morgan's laws. Over the
 // integers, where 0 <= d doesn't hold, 0 <= -d - 1 does.
-ghost use Rattle.std.specs.Prelude.{◌≡◌, Some, IfOk};
+ghost use Rattle.std.specs.Prelude.{◌≡◌, option_map, IfOk};
 ghost use Rattle.logic_terms.specs.Tree.{negation, at_most};
-ghost use Rattle.logic_core.specs.View.{trees_of};
+ghost use Rattle.logic_core.specs.View.{trees_of, each_items};
 ghost use Rattle.logic_core.specs.Gives.{Gives, GivesAs};
-ghost use Rattle.logic_core.specs.Junction.{negated, negated_each};
+ghost use Rattle.logic_core.specs.Junction.{junction, negated, negated_each};
 
+use crate::construct::at_most;
 use crate::copy::{copy_patterns, copy_sorts};
 use crate::fault::NormalFault;
 use crate::junction::{Connective, junction};
+use crate::sort::Sort;
 use crate::sum::affine;
 use crate::term::{Node, Term};
 use std::alloc::{AllocError, Global};
@@ -20,19 +22,21 @@ fn plain_negation(alloc: Global, term: &Term) -> Result<Term, AllocError>
     Ok(Term::new(Node::Not(Box::new(alloc, term.copy(alloc)?)?)))
 }
 
-// The normal Not of Le(0, d) is Le(0, -d - 1).
-fn negated_inequality(alloc: Global, low: &Term, high: &Term) -> Result<Term, NormalFault>
+// The normal Not of Le(0, d), which the term is, is Le(0, -d - 1).
+fn negated_inequality(
+    alloc: Global,
+    term: &Term,
+    low: &Term,
+    high: &Term,
+) -> Result<Term, NormalFault>
+    requires { term.now ≡ at_most low.now high.now }
     ensures { Gives result (negated (at_most low.now high.now)) }
 {
     if low.is_zero() {
         let high = affine(alloc, -1, high.copy(alloc)?, -1)?;
-        let low = low.copy(alloc)?;
-        return Ok(Term::new(Node::Le(Box::new(alloc, low)?, Box::new(alloc, high)?)));
+        return Ok(at_most(alloc, low.copy(alloc)?, high)?);
     }
-    let low = low.copy(alloc)?;
-    let high = high.copy(alloc)?;
-    let kept = Term::new(Node::Le(Box::new(alloc, low)?, Box::new(alloc, high)?));
-    Ok(Term::new(Node::Not(Box::new(alloc, kept)?)))
+    Ok(plain_negation(alloc, term)?)
 }
 
 /// The normal Not of a normal formula: a truth value is flipped, Not of Not drops both, And and
@@ -45,33 +49,50 @@ pub fn negated(alloc: Global, term: &Term) -> Result<Term, NormalFault>
     match &term.node {
         Node::Truth(b) => Ok(Term::new(Node::Truth(!*b))),
         Node::Not(a) => Ok(a.copy(alloc)?),
-        Node::And(terms) => {
-            let parts = negated_each(alloc, terms)?;
-            Ok(junction(alloc, Connective::Or, parts)?)
-        }
-        Node::Or(terms) => {
-            let parts = negated_each(alloc, terms)?;
-            Ok(junction(alloc, Connective::And, parts)?)
-        }
-        Node::Le(low, high) => negated_inequality(alloc, low, high),
+        Node::And(terms) => negated_junction(alloc, Connective::Or, terms),
+        Node::Or(terms) => negated_junction(alloc, Connective::And, terms),
+        Node::Le(low, high) => negated_inequality(alloc, term, low, high),
         Node::ForAll(sorts, patterns, body) => {
-            let body = negated(alloc, body)?;
-            Ok(Term::new(Node::Exists(
-                copy_sorts(alloc, sorts)?,
-                copy_patterns(alloc, patterns)?,
-                Box::new(alloc, body)?,
-            )))
+            let (sorts, patterns, body) = negated_parts(alloc, sorts, patterns, body)?;
+            Ok(Term::new(Node::Exists(sorts, patterns, body)))
         }
         Node::Exists(sorts, patterns, body) => {
-            let body = negated(alloc, body)?;
-            Ok(Term::new(Node::ForAll(
-                copy_sorts(alloc, sorts)?,
-                copy_patterns(alloc, patterns)?,
-                Box::new(alloc, body)?,
-            )))
+            let (sorts, patterns, body) = negated_parts(alloc, sorts, patterns, body)?;
+            Ok(Term::new(Node::ForAll(sorts, patterns, body)))
         }
         _ => Ok(plain_negation(alloc, term)?),
     }
+}
+
+// The And or the Or of the normal Nots.
+#[cycle(negated)]
+fn negated_junction(
+    alloc: Global,
+    connective: Connective,
+    terms: &[Term],
+) -> Result<Term, NormalFault>
+    ensures { Gives result (option_map (λ ts. junction connective ts) (negated_each (trees_of terms.now))) }
+{
+    let parts = negated_each(alloc, terms)?;
+    Ok(junction(alloc, connective, parts)?)
+}
+
+// The parts of the other quantifier: the same sorts and triggers, and the normal Not of the body.
+#[cycle(negated)]
+fn negated_parts(
+    alloc: Global,
+    sorts: &[Sort],
+    patterns: &[Vec<Term>],
+    body: &Term,
+) -> Result<(Vec<Sort>, Vec<Vec<Term>>, Box<Term>), NormalFault>
+    ensures sorts { IfOk result (λ p. p.0.items ≡ sorts.now) }
+    ensures patterns { IfOk result (λ p. each_items p.1.items ≡ each_items patterns.now) }
+    ensures body { GivesAs (λ p. p.2.value) result (negated body.now) }
+{
+    let body = negated(alloc, body)?;
+    let sorts = copy_sorts(alloc, sorts)?;
+    let patterns = copy_patterns(alloc, patterns)?;
+    Ok((sorts, patterns, Box::new(alloc, body)?))
 }
 
 // The normal Nots of the formulas.
