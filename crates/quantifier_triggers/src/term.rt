@@ -1,15 +1,18 @@
 // A term with chosen triggers.
-ghost use Rattle.std.specs.Prelude.{◌≡◌, ◌↔◌, List, [], IfOk};
-ghost use Rattle.logic_core.specs.View.{trees_of, parts_of};
+ghost use Rattle.std.specs.Prelude.{◌≡◌, ◌↔◌, List, [], IfOk, length};
+ghost use Rattle.logic_core.specs.Rebuilt.{with_two, with_three, with_quantified};
+ghost use Rattle.logic_core.specs.TermView.{tree_of};
+ghost use Rattle.logic_core.specs.View.{trees_of, parts_of, patterns_of, each_items};
 ghost use Rattle.logic_core.specs.Value.{Value};
 ghost use Rattle.logic_core.specs.Meaning.{With};
 ghost use Rattle.logic_core.specs.Valid.{calls_of};
 ghost use Rattle.logic_core.specs.Sorts.{sort_of};
-ghost use Rattle.quantifier_triggers.specs.Choice.{with_triggers, each_with_triggers, parts_with_triggers};
+ghost use Rattle.quantifier_triggers.specs.Choice.{triggers, with_triggers, each_with_triggers, parts_with_triggers};
 
 use crate::choice::triggers;
 use logic_core::copy::copy_sorts;
 use logic_core::def::{Def, Signature};
+use logic_core::sort::Sort;
 use logic_core::term::{Node, Term};
 use std::alloc::{AllocError, Global};
 
@@ -23,46 +26,19 @@ fn choose(alloc: Global, defs: &[Def], term: &Term) -> Result<Term, AllocError>
         Node::Free(v) => Ok(Term::new(Node::Free(*v))),
         Node::Bound(v) => Ok(Term::new(Node::Bound(*v))),
         Node::Sum(parts, c) => Ok(Term::new(Node::Sum(choose_parts(alloc, defs, parts)?, *c))),
-        Node::Mul(a, b) => Ok(Term::new(Node::Mul(
-            choose_boxed(alloc, defs, a)?,
-            choose_boxed(alloc, defs, b)?,
-        ))),
-        Node::Read(a, b) => Ok(Term::new(Node::Read(
-            choose_boxed(alloc, defs, a)?,
-            choose_boxed(alloc, defs, b)?,
-        ))),
-        Node::Write(a, b, c) => Ok(Term::new(Node::Write(
-            choose_boxed(alloc, defs, a)?,
-            choose_boxed(alloc, defs, b)?,
-            choose_boxed(alloc, defs, c)?,
-        ))),
-        Node::If(a, b, c) => Ok(Term::new(Node::If(
-            choose_boxed(alloc, defs, a)?,
-            choose_boxed(alloc, defs, b)?,
-            choose_boxed(alloc, defs, c)?,
-        ))),
+        Node::Mul(a, b) | Node::Read(a, b) | Node::Eq(a, b) | Node::Le(a, b) => {
+            choose_two(alloc, defs, &term.node, a, b)
+        }
+        Node::Write(a, b, c) | Node::If(a, b, c) => {
+            choose_three(alloc, defs, &term.node, a, b, c)
+        }
         Node::Call(f, terms) => Ok(Term::new(Node::Call(*f, choose_each(alloc, defs, terms)?))),
         Node::Not(a) => Ok(Term::new(Node::Not(choose_boxed(alloc, defs, a)?))),
         Node::And(terms) => Ok(Term::new(Node::And(choose_each(alloc, defs, terms)?))),
         Node::Or(terms) => Ok(Term::new(Node::Or(choose_each(alloc, defs, terms)?))),
-        Node::Eq(a, b) => Ok(Term::new(Node::Eq(
-            choose_boxed(alloc, defs, a)?,
-            choose_boxed(alloc, defs, b)?,
-        ))),
-        Node::Le(a, b) => Ok(Term::new(Node::Le(
-            choose_boxed(alloc, defs, a)?,
-            choose_boxed(alloc, defs, b)?,
-        ))),
-        Node::ForAll(sorts, given, body) => Ok(Term::new(Node::ForAll(
-            copy_sorts(alloc, sorts)?,
-            triggers(alloc, defs, sorts.len() as u64, given, body)?,
-            choose_boxed(alloc, defs, body)?,
-        ))),
-        Node::Exists(sorts, given, body) => Ok(Term::new(Node::Exists(
-            copy_sorts(alloc, sorts)?,
-            triggers(alloc, defs, sorts.len() as u64, given, body)?,
-            choose_boxed(alloc, defs, body)?,
-        ))),
+        Node::ForAll(sorts, given, body) | Node::Exists(sorts, given, body) => {
+            choose_quantified(alloc, defs, &term.node, sorts, given, body)
+        }
     }
 }
 
@@ -71,6 +47,57 @@ fn choose_boxed(alloc: Global, defs: &[Def], term: &Term) -> Result<Box<Term>, A
     ensures { IfOk result (λ b. b.value ≡ with_triggers defs.now term.now) }
 {
     Ok(Box::new(alloc, choose(alloc, defs, term)?)?)
+}
+
+// A term of that node's construct, of the parts with their triggers chosen.
+#[cycle(choose)]
+fn choose_two(
+    alloc: Global,
+    defs: &[Def],
+    of: &Node,
+    a: &Term,
+    b: &Term,
+) -> Result<Term, AllocError>
+    ensures { IfOk result (λ t. t ≡ with_two (tree_of of.now) (with_triggers defs.now a.now) (with_triggers defs.now b.now)) }
+{
+    let a = choose_boxed(alloc, defs, a)?;
+    let b = choose_boxed(alloc, defs, b)?;
+    Ok(Term::new(of.with_two(a, b)))
+}
+
+#[cycle(choose)]
+fn choose_three(
+    alloc: Global,
+    defs: &[Def],
+    of: &Node,
+    a: &Term,
+    b: &Term,
+    c: &Term,
+) -> Result<Term, AllocError>
+    ensures { IfOk result (λ t. t ≡ with_three (tree_of of.now) (with_triggers defs.now a.now) (with_triggers defs.now b.now) (with_triggers defs.now c.now)) }
+{
+    let a = choose_boxed(alloc, defs, a)?;
+    let b = choose_boxed(alloc, defs, b)?;
+    let c = choose_boxed(alloc, defs, c)?;
+    Ok(Term::new(of.with_three(a, b, c)))
+}
+
+#[cycle(choose)]
+fn choose_quantified(
+    alloc: Global,
+    defs: &[Def],
+    of: &Node,
+    sorts: &[Sort],
+    given: &[Vec<Term>],
+    body: &Term,
+) -> Result<Term, AllocError>
+    ensures { IfOk result (λ t. t ≡ with_quantified (tree_of of.now) sorts.now (triggers defs.now (length sorts.now) (patterns_of (each_items given.now)) body.now) (with_triggers defs.now body.now)) }
+{
+    let variables = sorts.len() as u64;
+    let sorts = copy_sorts(alloc, sorts)?;
+    let chosen = triggers(alloc, defs, variables, given, body)?;
+    let body = choose_boxed(alloc, defs, body)?;
+    Ok(Term::new(of.with_quantified(sorts, chosen, body)))
 }
 
 #[cycle(choose)]

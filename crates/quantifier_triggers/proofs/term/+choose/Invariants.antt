@@ -11,6 +11,15 @@ decreases-choose l = 3 * nodes l.term.now
 abbrev pub decreases-choose_boxed : goal.decreases-choose_boxed
 decreases-choose_boxed l = 3 * nodes l.term.now + 1
 
+abbrev pub decreases-choose_two : goal.decreases-choose_two
+decreases-choose_two l = 3 * (nodes l.a.now + nodes l.b.now) + 2
+
+abbrev pub decreases-choose_three : goal.decreases-choose_three
+decreases-choose_three l = 3 * (nodes l.a.now + nodes l.b.now + nodes l.c.now) + 2
+
+abbrev pub decreases-choose_quantified : goal.decreases-choose_quantified
+decreases-choose_quantified l = 3 * nodes l.body.now + 2
+
 abbrev pub decreases-choose_each : goal.decreases-choose_each
 decreases-choose_each l = 3 * trees_nodes (trees_of l.terms.now) + 1
 
