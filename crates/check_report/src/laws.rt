@@ -22,7 +22,7 @@ pub fn declared_correct_is_safe()
     valid_goals_are_safe();
 }
 
-/// So it is of the program that a text is.
+/// A procedure that the report's bytes call correct is safe in the program that the text is.
 pub fn correct_is_safe()
     ensures { CorrectIsSafe }
 {

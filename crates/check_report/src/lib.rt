@@ -1,4 +1,4 @@
-//! The report on a program, by one thread: each goal is searched with the same turns, and the lines
+//! The report on a program: each goal is searched with the same turns, and the lines
 //! say what was found. `report` gives exactly the report from scratch, and a procedure that its bytes
 //! call correct is safe. Of a generated program one line says how many goals have each verdict:
 //! `sum_up` gives exactly that line, and whether every goal is proved; `sum_up_on` does so by a board

@@ -18,8 +18,11 @@ use tableau::ended::Verdict;
 /// A generated text: the seed, how many procedures were asked for, and the bytes that it has.
 #[derive(Clone, Copy, Drop)]
 pub struct Drawn {
+    /// What its random choices come from.
     pub seed: u32,
+    /// How many procedures were asked for.
     pub size: u32,
+    /// How many bytes its text has.
     pub bytes: u64,
 }
 

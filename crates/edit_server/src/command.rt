@@ -28,7 +28,7 @@ use std::alloc::Global;
 use std::sync::Wait;
 use std::thread::Threads;
 
-/// The most bytes of input that are read.
+/// The most bytes of input that a command reads which answers its input as a whole.
 pub const TOTAL: u64 = 16_777_216;
 
 // Reads the input to its end, and then writes the command's answer to it.

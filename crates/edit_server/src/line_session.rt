@@ -17,7 +17,7 @@ use std::alloc::Global;
 use std::marker::Brand;
 use std::sync::ledger::{Blank, Ledger};
 
-/// The most bytes of an input that are taken.
+/// The most bytes of input that a session takes.
 pub const TOTAL: u64 = 4_294_967_296;
 
 // A session whose steps are counted in this ledger.

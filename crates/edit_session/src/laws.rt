@@ -35,7 +35,7 @@ pub fn gathered_answer_reports()
     ensures { GatheredAnswerReports }
 {}
 
-/// So are the proofs.
+/// Proofs that are made of gathered answers are the proofs from scratch, whatever others did.
 pub fn gathered_answer_proofs()
     ensures { GatheredAnswerProofs }
 {}

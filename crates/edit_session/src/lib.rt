@@ -1,5 +1,5 @@
-//! A session on one thread: the program that is open, edits of it, and the board of its goals. Each
-//! request is answered as the definitions have it, whatever was kept before; a request that is refused,
+//! A session: the program that is open, edits of it, and the board of its goals, which it has to itself
+//! or shares with workers. Each request is answered as the definitions have it, whatever was kept before; a request that is refused,
 //! or for which there is no memory, leaves declarations, version, kept answers and claims as they were.
 //! Each report is the report from scratch of the program that is open, and what it calls correct is safe.
 #![tactic(auto)]

@@ -192,7 +192,7 @@ impl OpenProgram {
         self.program.decls.as_slice()
     }
 
-    /// It.
+    /// Its declarations, as a program.
     pub fn program(&self) -> &Program
         ensures { result.now ≡ self.now.decls }
     {

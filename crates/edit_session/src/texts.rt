@@ -20,7 +20,7 @@ fn are_short(puts: &[Put]) -> bool
     puts.iter().all(|put| is_short(put.text.as_str()))
 }
 
-/// Whether those of each of the request's texts can.
+/// Whether each text of the request has fewer than 2^32 - 1 bytes, so that its places can be counted.
 #[tactic(auto, using(crate::proofs::ShortTexts::open_short, crate::proofs::ShortTexts::edit_short, crate::proofs::ShortTexts::others_short))]
 pub fn has_short_texts(request: &Request) -> bool
     ensures { result ≡ true → TextsAreShort (request_view request.now) }

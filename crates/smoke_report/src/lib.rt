@@ -1,4 +1,4 @@
-//! Points of a program that no execution reaches, by one thread. The points of a procedure are the ends
+//! Points of a program that no execution reaches (as Boogie finds them with `/smoke`). The points of a procedure are the ends
 //! of the branches of its ifs, of the bodies of its loops, and of its whole body. At each of them what is
 //! false is asserted, so that an execution which reaches it fails with the point's mark, and the search is
 //! asked for a proof of it. `smoke` gives exactly the lines of `specs/Smoke.antt`; a point that a line

@@ -1,6 +1,7 @@
 //! A program's goals, built anew only where an edit changed what they depend on: a procedure whose
 //! dependency text stands among those before keeps its obligations, and takes its marks from the
-//! present program.
+//! present program. (Leino and Wüstholz, Fine-grained caching of verification results, CAV 2015, keep
+//! answers so.)
 #![tactic(auto)]
 
 // Dependency texts, and texts with their digests.
