@@ -61,24 +61,25 @@ module _ (above below above' below' : List ℕ) (over : (j : ℕ) → list_any (
   noted_more ts e h = record { first = h.first; is = h.is; within = h.within; put = put_more e.turned h.first h.put }
 
 -- a longer store
-module _ (n m : Numbered) (g : Grows n m) (above below : List ℕ) where
-  abbrev atom_at : List Tree → ℤ × ℕ → ℤ × Tree
+module _ (n m : Numbered) (g : Grows n m) where
+  abbrev pub atom_at : List Tree → ℤ × ℕ → ℤ × Tree
   atom_at ts p = (p.0, at ts p.1)
 
   atom_stays : (p : ℤ × ℕ) → p.1 < length n.terms → atom_at m.terms p ≡ atom_at n.terms p
   atom_stays p l = λ k. (p.0, stays n m p.1 g l k)
 
-  atoms_stay : (o : Option (ℤ × ℕ)) → IfSome o (λ p. p.1 < length n.terms) → option_map (atom_at m.terms) o ≡ option_map (atom_at n.terms) o
+  pub atoms_stay : (o : Option (ℤ × ℕ)) → IfSome o (λ p. p.1 < length n.terms) → option_map (atom_at m.terms) o ≡ option_map (atom_at n.terms) o
   atoms_stay None l = refl
   atoms_stay (Some p) l = ap Some (atom_stays p l)
 
-  atoms_below : (o : Option (ℤ × ℕ)) → IfSome o (λ p. p.1 < length n.terms) → IfSome o (λ p. p.1 < length m.terms)
+  pub atoms_below : (o : Option (ℤ × ℕ)) → IfSome o (λ p. p.1 < length n.terms) → IfSome o (λ p. p.1 < length m.terms)
   atoms_below None l = tt
   atoms_below (Some p) l = in_longer n m p.1 g l
 
-  noted_stays : (e : Entry) → IsEntryBelow (length n.terms) e → IsNoted n.terms above below e → IsNoted m.terms above below e
-  noted_stays e low h = record { first = h.first; is = atoms_stay h.first h.within ∙ h.is ∙ sym (ap (λ (t : Tree). lead (sum_of t)) (stays n m e.sum g low)); within = atoms_below h.first h.within; put = h.put }
+  module _ (above below : List ℕ) where
+    noted_stays : (e : Entry) → IsEntryBelow (length n.terms) e → IsNoted n.terms above below e → IsNoted m.terms above below e
+    noted_stays e low h = record { first = h.first; is = atoms_stay h.first h.within ∙ h.is ∙ sym (ap (λ (t : Tree). lead (sum_of t)) (stays n m e.sum g low)); within = atoms_below h.first h.within; put = h.put }
 
-  pub all_noted_stay : (es : List Entry) → AllByRecursion (IsEntryBelow (length n.terms)) es → AllByRecursion (IsNoted n.terms above below) es → AllByRecursion (IsNoted m.terms above below) es
-  all_noted_stay [] low h = tt
-  all_noted_stay (e ∷ es) low h = (noted_stays e low.0 h.0, all_noted_stay es low.1 h.1)
+    pub all_noted_stay : (es : List Entry) → AllByRecursion (IsEntryBelow (length n.terms)) es → AllByRecursion (IsNoted n.terms above below) es → AllByRecursion (IsNoted m.terms above below) es
+    all_noted_stay [] low h = tt
+    all_noted_stay (e ∷ es) low h = (noted_stays e low.0 h.0, all_noted_stay es low.1 h.1)

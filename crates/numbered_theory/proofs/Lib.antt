@@ -6,6 +6,7 @@ pub mod Deciding
 pub mod Entered
 pub mod Found
 pub mod KnownWays
+pub mod LeadAtoms
 pub mod LeadsNoted
 pub mod Loops
 pub mod MeetingNone

@@ -1,6 +1,6 @@
 -- Linear facts whose lead atoms are among numbers.
 use Rattle.std.specs.Prelude.{◌≡◌, ℕ, ◌<◌, ℤ, nat_eq, Bool, true, false, not, ◌&&◌, ◌||◌, Option, Some, None, List, length, option_map, IfSome, ⊤}
-use Rattle.std.specs.List.{list_any}
+use Rattle.std.specs.List.{list_any, AllZip}
 use Rattle.logic_core.specs.Tree.{Tree}
 use Rattle.logic_core.specs.Combine.{lead, sum_of}
 use Rattle.term_bank.specs.Numbered.{at}
@@ -33,3 +33,20 @@ pub record IsNoted (ts : List Tree) (above below : List ℕ) (e : Entry) : Type 
 -- the side of a fact Le(0, d) as the fact counts
 abbrev pub side_entry : ℕ → Entry
 side_entry s = record { number = 0; sum = s; turned = false }
+
+-- the number of the lead atom of a term as a sum, where it has a lead
+pub record IsLed (ts : List Tree) (sum : ℕ) (atom : Option ℕ) : Type 0 where
+  pub first : Option (ℤ × ℕ)
+  pub is : option_map (λ (p : ℤ × ℕ). (p.0, at ts p.1)) first ≡ lead (sum_of (at ts sum))
+  pub within : IfSome first (λ p. p.1 < length ts)
+  pub atom_is : option_map (λ (p : ℤ × ℕ). p.1) first ≡ atom
+
+-- those of linear facts
+abbrev pub AreLed : List Tree → List Entry → List (Option ℕ) → Type 0
+AreLed ts es atoms = AllZip (λ (e : Entry) (o : Option ℕ). IsLed ts e.sum o) es atoms
+
+-- both are there and one
+abbrev pub is_one_atom : Option ℕ → Option ℕ → Bool
+is_one_atom None o = false
+is_one_atom (Some i) None = false
+is_one_atom (Some i) (Some j) = nat_eq i j

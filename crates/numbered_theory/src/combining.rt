@@ -18,10 +18,10 @@ ghost use Rattle.numbered_branches.specs.View.{move_seen};
 ghost use Rattle.theory_rules.specs.Combining.{are_opposite, counted, lead_size, combined_pair, is_known, combine_pair, pairs_from, combined_by, combine};
 ghost use Rattle.numbered_theory.specs.Combined.{combined_at, IsCombinedBelow, CombinesAt, AttemptsAt};
 ghost use Rattle.numbered_theory.specs.Entries.{entry_at, entries_at, IsEntryBelow};
-ghost use Rattle.numbered_theory.specs.Leads.{IsNoted};
+ghost use Rattle.numbered_theory.specs.Leads.{IsNoted, IsLed, AreLed};
 
 use crate::entries::{Entry, are_opposite, entries, is_known, place_entries};
-use crate::leads::Leads;
+use crate::leads::{Leads, is_one_atom, lead_atom, lead_atoms};
 use linear_certs::gcd;
 use logic_core::NormalFault;
 use numbered_branches::branch::Branch;
@@ -163,22 +163,52 @@ fn combine_pair(
     Ok(Some(combined))
 }
 
-// The first combination of one of these with a later one.
+// The same of two whose leads have these atoms.
+fn combine_led(
+    store: &mut Store,
+    places: &Slots<usize>,
+    entries: &[Entry],
+    d: &Entry,
+    mine: &Option<TermId>,
+    e: &Entry,
+    theirs: &Option<TermId>,
+) -> Result<Option<Combined>, NormalFault>
+    requires entries { AllByRecursion (IsEntryBelow (length store.old.terms)) entries.now }
+    requires d { d.now.sum < length store.old.terms }
+    requires mine { IsLed store.old.terms d.now.sum mine.now }
+    requires e { e.now.sum < length store.old.terms }
+    requires theirs { IsLed store.old.terms e.now.sum theirs.now }
+    ensures grows { Grows store.old store.new }
+    ensures attempts { AttemptsAt store.new.terms result (combine_pair (entries_at store.old.terms entries.now) (entry_at store.old.terms d.now, entry_at store.old.terms e.now)) }
+{
+    store.terms().are_stored();
+    let may_meet = is_one_atom(mine, theirs);
+    if may_meet {
+        return combine_pair(store, places, entries, d, e);
+    }
+    Ok(None)
+}
+
+// The first combination of one of these, whose leads have these atoms, with a later one.
 fn combine_with(
     store: &mut Store,
     places: &Slots<usize>,
     entries: &[Entry],
     before: &[Entry],
+    atoms: &[Option<TermId>],
     e: &Entry,
 ) -> Result<Option<Combined>, NormalFault>
     requires entries { AllByRecursion (IsEntryBelow (length store.old.terms)) entries.now }
     requires before { AllByRecursion (IsEntryBelow (length store.old.terms)) before.now }
+    requires as_many { length atoms.now ≡ length before.now }
+    requires led { AreLed store.old.terms before.now atoms.now }
     requires e { e.now.sum < length store.old.terms }
     ensures grows { Grows store.old store.new }
     ensures attempts { AttemptsAt store.new.terms result (first_attempt (combine_pair (entries_at store.old.terms entries.now)) (map (λ d. (d, entry_at store.old.terms e.now)) (entries_at store.old.terms before.now))) }
 {
-    for d in before {
-        if let Some(combined) = combine_pair(store, places, entries, d, e)? {
+    let theirs = lead_atom(store.terms(), e);
+    for (i, d) in before.iter().enumerate() {
+        if let Some(combined) = combine_led(store, places, entries, d, &atoms[i], e, &theirs)? {
             return Ok(Some(combined));
         }
     }
@@ -192,10 +222,13 @@ fn combine_next(
     places: &Slots<usize>,
     entries: &[Entry],
     before: &[Entry],
+    atoms: &[Option<TermId>],
     e: &Entry,
 ) -> Result<Option<Combined>, NormalFault>
     requires entries { AllByRecursion (IsEntryBelow (length store.old.terms)) entries.now }
     requires before { AllByRecursion (IsEntryBelow (length store.old.terms)) before.now }
+    requires as_many { length atoms.now ≡ length before.now }
+    requires led { AreLed store.old.terms before.now atoms.now }
     requires e { e.now.sum < length store.old.terms }
     requires noted { AllByRecursion (IsNoted store.old.terms leads.old.above leads.old.below) before.now }
     ensures grows { Grows store.old store.new }
@@ -205,12 +238,44 @@ fn combine_next(
     let meets = leads.may_meet(store.terms(), e);
     leads.note(store.terms(), e)?;
     if meets {
-        return combine_with(store, places, entries, before, e);
+        return combine_with(store, places, entries, before, atoms, e);
     }
     Ok(None)
 }
 
-// The first combination: that of the oldest later fact, and then of the oldest earlier one.
+// The first combination of facts whose leads have these atoms: that of the oldest later fact, and then of
+// the oldest earlier one.
+fn first_led(
+    store: &mut Store,
+    leads: &mut Leads,
+    places: &Slots<usize>,
+    entries: &[Entry],
+    atoms: &[Option<TermId>],
+) -> Result<Option<Combined>, NormalFault>
+    requires entries { AllByRecursion (IsEntryBelow (length store.old.terms)) entries.now }
+    requires as_many { length atoms.now ≡ length entries.now }
+    requires led { AreLed store.old.terms entries.now atoms.now }
+    ensures grows { Grows store.old store.new }
+    ensures attempts { AttemptsAt store.new.terms result (first_attempt (combine_pair (entries_at store.old.terms entries.now)) (pairs_from [] (entries_at store.old.terms entries.now))) }
+{
+    leads.clear();
+    for (i, e) in entries.iter().enumerate() {
+        if let Some(combined) = combine_next(
+            store,
+            leads,
+            places,
+            entries,
+            &entries[..i],
+            &atoms[..i],
+            e,
+        )? {
+            return Ok(Some(combined));
+        }
+    }
+    Ok(None)
+}
+
+// The first combination of the facts.
 fn first_combined(
     store: &mut Store,
     leads: &mut Leads,
@@ -221,13 +286,8 @@ fn first_combined(
     ensures grows { Grows store.old store.new }
     ensures attempts { AttemptsAt store.new.terms result (first_attempt (combine_pair (entries_at store.old.terms entries.now)) (pairs_from [] (entries_at store.old.terms entries.now))) }
 {
-    leads.clear();
-    for (i, e) in entries.iter().enumerate() {
-        if let Some(combined) = combine_next(store, leads, places, entries, &entries[..i], e)? {
-            return Ok(Some(combined));
-        }
-    }
-    Ok(None)
+    let atoms = lead_atoms(store.terms(), entries)?;
+    first_led(store, leads, places, entries, &atoms)
 }
 
 // The sum is added, tightened. No definition plays a part.

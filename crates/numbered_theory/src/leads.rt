@@ -1,10 +1,10 @@
 // The lead atoms of linear facts, by number.
-ghost use Rattle.std.specs.Prelude.{◌≡◌, ◌<◌, [], ℕ, nat_eq, true, false, length, OnOk};
-ghost use Rattle.std.specs.List.{list_any};
+ghost use Rattle.std.specs.Prelude.{◌≡◌, ◌<◌, [], ℕ, ℤ, nat_eq, true, false, length, option_map, IfOk, OnOk};
+ghost use Rattle.std.specs.List.{list_any, AllByRecursion};
 ghost use Rattle.logic_core.specs.Combine.{lead};
 ghost use Rattle.theory_rules.specs.Combining.{counted, are_opposite};
-ghost use Rattle.numbered_theory.specs.Entries.{entry_at};
-ghost use Rattle.numbered_theory.specs.Leads.{IsPut, meets, IsNoted};
+ghost use Rattle.numbered_theory.specs.Entries.{entry_at, IsEntryBelow};
+ghost use Rattle.numbered_theory.specs.Leads.{IsPut, meets, IsNoted, IsLed, AreLed, is_one_atom};
 ghost use Rattle.numbered_theory.specs.declared.entries.Entry.{Entry};
 
 use crate::entries::{Entry, is_negative, is_positive};
@@ -102,5 +102,50 @@ impl Leads {
         terms.are_stored();
         let found = lead(terms, entry.sum);
         meets(self, entry.turned, found)
+    }
+}
+
+// The atom of a lead.
+fn atom_of(lead: Option<(i128, TermId)>) -> Option<TermId>
+    ensures { result ≡ option_map (λ (p : ℤ × ℕ). p.1) lead }
+{
+    match lead {
+        Some((_, atom)) => Some(atom),
+        None => None,
+    }
+}
+
+/// The atom of the fact's lead, where it has one.
+pub fn lead_atom(terms: &Terms, entry: &Entry) -> Option<TermId>
+    requires { entry.now.sum < length terms.now }
+    ensures { IsLed terms.now entry.now.sum result }
+{
+    let found = lead(terms, entry.sum);
+    atom_of(found)
+}
+
+/// The atoms of the leads of facts.
+pub fn lead_atoms(terms: &Terms, entries: &[Entry]) -> Result<Vec<Option<TermId>>, AllocError>
+    requires { AllByRecursion (IsEntryBelow (length terms.now)) entries.now }
+    ensures { IfOk result (λ v. AreLed terms.now entries.now v.items) }
+{
+    let mut atoms = Vec::new(terms.alloc());
+    for entry in entries {
+        let atom = lead_atom(terms, entry);
+        atoms.push(atom)?;
+    }
+    Ok(atoms)
+}
+
+/// Whether both leads are there, and their atoms are one.
+pub fn is_one_atom(mine: &Option<TermId>, theirs: &Option<TermId>) -> bool
+    ensures { result ≡ is_one_atom mine.now theirs.now }
+{
+    match mine {
+        Some(i) => match theirs {
+            Some(j) => *i == *j,
+            None => false,
+        },
+        None => false,
     }
 }

@@ -5,7 +5,7 @@ use Rattle.numbered_terms.specs.Stored.{Grows}
 use Rattle.theory_rules.specs.Combining.{combine_pair, pairs_from}
 use Rattle.numbered_theory.specs.Entries.{entries_at}
 use Rattle.numbered_theory.specs.Leads.{IsNoted}
-use Rattle.numbered_theory.proofs.combining.first_combined.Given as goal
+use Rattle.numbered_theory.proofs.combining.first_led.Given as goal
 
 abbrev pub invariant-loop-i : goal.invariant-loop-i
 invariant-loop-i l = record {
