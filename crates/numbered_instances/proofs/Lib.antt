@@ -15,3 +15,4 @@ pub mod ByFact
 pub mod FoundAt
 pub mod MatchedTuples
 pub mod Patterns
+pub mod ReadSorts

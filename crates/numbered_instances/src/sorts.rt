@@ -1,15 +1,16 @@
 // The sort of a closed term, by number: that of a variable, a sum, a product, a Read or a Call by those of
-// its parts, and any other over trees.
+// its parts, and any other over trees. Of a variable, and of a Read of one, no sort is copied to be compared.
 ghost use Rattle.std.specs.Prelude.{◌≡◌, ◌<◌, ◌≤◌, Some, [], length, map, slice_get, IfOk};
 ghost use Rattle.std.specs.List.{AllByRecursion};
-ghost use Rattle.logic_core.specs.Sorts.{is, sort_of, are, are_ints};
-ghost use Rattle.logic_core.specs.Tree.{int, mul, read, call};
+ghost use Rattle.logic_core.specs.Same.{is_some_and};
+ghost use Rattle.logic_core.specs.Sorts.{is, range, sort_of, are, are_ints};
+ghost use Rattle.logic_core.specs.Tree.{int, mul, read, call, free};
 ghost use Rattle.logic_core.specs.View.{trees_of, parts_of};
 ghost use Rattle.logic_core.specs.Wide.{when};
 ghost use Rattle.term_bank.specs.Numbered.{at};
 ghost use Rattle.numbered_terms.specs.Lists.{atoms_at, terms_at, AtomsBelow};
 
-use logic_core::{Def, Sort};
+use logic_core::{Def, Sort, SortKind};
 use numbered_forms::sorts::sort_of;
 use numbered_terms::Terms;
 use std::alloc::{AllocError, Global};
@@ -54,6 +55,36 @@ fn sort_over(
     }
 }
 
+// Whether the variable of that number is of the sort.
+fn is_of(vars: &[Sort], number: u64, sort: &Sort) -> bool
+    ensures { result ≡ is sort.now (slice_get vars.now number) }
+{
+    match vars.get(number as usize) {
+        Some(found) => found.equals(sort),
+        None => false,
+    }
+}
+
+// Whether what maps of the one sort hold is of the other.
+fn has_range(map: &Sort, sort: &Sort) -> bool
+    ensures { result ≡ is sort.now (range map.now) }
+{
+    match &map.kind {
+        SortKind::Map(held) => held.equals(sort),
+        _ => false,
+    }
+}
+
+// Whether the variable of that number is a map that holds values of the sort.
+fn holds(vars: &[Sort], number: u64, sort: &Sort) -> bool
+    ensures { result ≡ is_some_and (slice_get vars.now number) (λ s. is sort.now (range s)) }
+{
+    match vars.get(number as usize) {
+        Some(found) => has_range(found, sort),
+        None => false,
+    }
+}
+
 /// Whether the term has this sort.
 #[cycle(sorts)]
 pub fn has_sort(
@@ -66,9 +97,91 @@ pub fn has_sort(
     requires { id < length terms.now }
     ensures { IfOk result (λ b. b ≡ is sort.now (sort_of vars.now defs.now [] (at terms.now id))) }
 {
+    match terms.node(id) {
+        Node::Free(v) => Ok(is_of(vars, *v, sort)),
+        Node::Read(map, index) => reads(terms, vars, defs, id.number, *map, *index, sort),
+        _ => has_found(terms, vars, defs, id, sort),
+    }
+}
+
+// The same, by the sort found.
+#[cycle(sorts)]
+fn has_found(
+    terms: &Terms,
+    vars: &[Sort],
+    defs: &[Def],
+    id: TermId,
+    sort: &Sort,
+) -> Result<bool, AllocError>
+    requires { id < length terms.now }
+    ensures { IfOk result (λ b. b ≡ is sort.now (sort_of vars.now defs.now [] (at terms.now id))) }
+{
     match sort_over(terms, vars, defs, id)? {
         Some(found) => Ok(found.equals(sort)),
         None => Ok(false),
+    }
+}
+
+// Whether a Read of the variable of that number has this sort.
+#[cycle(sorts)]
+#[tactic(auto, using(crate::proofs::ReadSorts::read_is))]
+fn reads_free(
+    terms: &Terms,
+    vars: &[Sort],
+    defs: &[Def],
+    below: usize,
+    number: u64,
+    index: TermId,
+    sort: &Sort,
+) -> Result<bool, AllocError>
+    requires below { below ≤ length terms.now }
+    requires index { index < below }
+    ensures { IfOk result (λ b. b ≡ is sort.now (sort_of vars.now defs.now [] (read (free number) (at terms.now index)))) }
+{
+    Ok(holds(vars, number, sort) && has_sort(terms, vars, defs, index, &Sort::int())?)
+}
+
+// Whether a Read of the map has this sort, by the sort found.
+#[cycle(sorts)]
+fn reads_found(
+    terms: &Terms,
+    vars: &[Sort],
+    defs: &[Def],
+    below: usize,
+    map: TermId,
+    index: TermId,
+    sort: &Sort,
+) -> Result<bool, AllocError>
+    requires below { below ≤ length terms.now }
+    requires map { map < below }
+    requires index { index < below }
+    ensures { IfOk result (λ b. b ≡ is sort.now (sort_of vars.now defs.now [] (read (at terms.now map) (at terms.now index)))) }
+{
+    match read_sort(terms, vars, defs, below, map, index)? {
+        Some(found) => Ok(found.equals(sort)),
+        None => Ok(false),
+    }
+}
+
+// Whether a Read has this sort.
+#[cycle(sorts)]
+fn reads(
+    terms: &Terms,
+    vars: &[Sort],
+    defs: &[Def],
+    below: usize,
+    map: TermId,
+    index: TermId,
+    sort: &Sort,
+) -> Result<bool, AllocError>
+    requires below { below ≤ length terms.now }
+    requires map { map < below }
+    requires index { index < below }
+    ensures { IfOk result (λ b. b ≡ is sort.now (sort_of vars.now defs.now [] (read (at terms.now map) (at terms.now index)))) }
+{
+    match terms.node(map) {
+        Node::Free(v) => reads_free(terms, vars, defs, below, *v, index, sort),
+        _ => reads_found(terms, vars, defs, below, map, index, sort),
     }
 }
 
