@@ -1,5 +1,5 @@
 -- Sides of facts that are opposite have lead atoms that meet.
-use Rattle.std.proofs.Common.{◌≡◌, refl, sym, ap, ◌∙◌, ℕ, ℤ, neg_ℤ, Bool, true, false, true≢false, not, ◌&&◌, ◌||◌, Option, Some, None, option_map, List, [], ◌∷◌}
+use Rattle.std.proofs.Common.{◌≡◌, refl, sym, ap, ◌∙◌, ℕ, ◌<◌, ℤ, neg_ℤ, Bool, true, false, true≢false, not, ◌&&◌, ◌||◌, Option, Some, None, IfSome, option_map, if◌then◌else◌, List, [], ◌∷◌, length}
 use Rattle.std.specs.List.{list_any, AllByRecursion}
 use Rattle.std.specs.Ordering.{int_eq}
 use Rattle.std.proofs.lemmas.Bool.Decides.{Decides-int_eq}
@@ -10,12 +10,14 @@ use Rattle.logic_core.specs.Combine.{lead, sum_of, first_part}
 use Rattle.logic_core.proofs.Booleans.{neither, none_of}
 use Rattle.logic_core.proofs.SameTerm.{same_is_equal, same_as_itself}
 use Rattle.term_bank.specs.Numbered.{at}
+use Rattle.numbered_facts.proofs.EachOnce.{same_number}
+use Rattle.numbered_terms.specs.Stored.{AreStored}
 use Rattle.theory_rules.specs.Combining.{counted, opposite_parts, is_positive, is_negative, are_opposite}
 use Rattle.theory_rules.specs.Trichotomy.{is_opposite}
 use Rattle.theory_rules.proofs.CountedForms.{turned_above, turned_below}
 use Rattle.numbered_theory.specs.Entries.{entry_at}
 use Rattle.numbered_theory.specs.declared.entries.Entry.{Entry}
-use Rattle.numbered_theory.specs.Leads.{has_no_sign, side_entry, IsNoted}
+use Rattle.numbered_theory.specs.Leads.{has_no_sign, side_entry, IsNoted, IsLed, signed_atom, IsSignedAtom, may_be_one}
 use Rattle.numbered_theory.specs.Sums.{sums_at}
 
 -- a coefficient with a sign
@@ -66,3 +68,27 @@ pub none_opposite : (ts : List Tree) (above below : List ℕ) (high : ℕ) → (
     → (sides : List ℕ) → AllByRecursion (λ (s : ℕ). IsNoted ts above below (side_entry s)) sides → list_any (is_opposite (sum_of (at ts high))) (sums_at ts sides) ≡ false
 none_opposite ts above below high f [] h = refl
 none_opposite ts above below high f (s ∷ ss) h = none_of _ _ (f s h.0) (none_opposite ts above below high f ss h.1)
+
+-- a side whose lead has another atom
+module _ (ts : List Tree) (stored : AreStored ts) (x r : Linear) where
+  abbrev tree_at : ℤ × ℕ → ℤ × Tree
+  tree_at p = (p.0, at ts p.1)
+
+  apart : (p : ℤ × ℕ) (g : Option (ℤ × ℕ)) → Some (tree_at p) ≡ lead x → option_map tree_at g ≡ lead r → p.1 < length ts → IfSome g (λ q. q.1 < length ts)
+      → (not (is_positive p.0) && not (is_negative p.0)) ≡ false → may_be_one (Some p.1) (option_map (λ (q : ℤ × ℕ). q.1) g) ≡ false → is_opposite x r ≡ false
+  apart p None is too l k signed h = side_apart p.0 (at ts p.1) signed x r (sym is) (ap (λ (o : Option (ℤ × Tree)). are_opposite o (lead x)) (sym too))
+  apart p (Some q) is too l k signed h = side_apart p.0 (at ts p.1) signed x r (sym is)
+      (ap (λ (o : Option (ℤ × Tree)). are_opposite o (lead x)) (sym too) ∙ ap (are_opposite (Some (tree_at q))) (sym is)
+      ∙ ap (λ (b : Bool). b && ((is_negative q.0 && is_positive p.0) || (is_positive q.0 && is_negative p.0))) (sym (same_number ts stored.apart q.1 p.1 k l) ∙ h))
+
+  by_first : (f g : Option (ℤ × ℕ)) → option_map tree_at f ≡ lead x → option_map tree_at g ≡ lead r → IfSome f (λ q. q.1 < length ts) → IfSome g (λ q. q.1 < length ts)
+      → may_be_one (signed_atom f) (option_map (λ (q : ℤ × ℕ). q.1) g) ≡ false → is_opposite x r ≡ false
+  by_first None g is too l k h = absurd (true≢false h)
+  by_first (Some p) g is too l k h = signed (not (is_positive p.0) && not (is_negative p.0)) refl h
+    where
+      signed : (b : Bool) → (not (is_positive p.0) && not (is_negative p.0)) ≡ b → may_be_one (if b then None else Some p.1) (option_map (λ (q : ℤ × ℕ). q.1) g) ≡ false → is_opposite x r ≡ false
+      signed true e d = absurd (true≢false d)
+      signed false e d = apart p g is too l k e d
+
+pub other_apart : (ts : List Tree) (stored : AreStored ts) (x : Linear) (mine theirs : Option ℕ) (s : ℕ) → IsSignedAtom ts (lead x) mine → IsLed ts s theirs → may_be_one mine theirs ≡ false → is_opposite x (sum_of (at ts s)) ≡ false
+other_apart ts stored x mine theirs s f g h = by_first ts stored x (sum_of (at ts s)) f.first g.first f.is g.is f.within g.within ((λ j. may_be_one (f.atom_is j) (g.atom_is j)) ∙ h)

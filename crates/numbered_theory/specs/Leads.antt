@@ -1,5 +1,5 @@
 -- Linear facts whose lead atoms are among numbers.
-use Rattle.std.specs.Prelude.{◌≡◌, ℕ, ◌<◌, ℤ, nat_eq, Bool, true, false, not, ◌&&◌, ◌||◌, Option, Some, None, List, length, option_map, IfSome, ⊤}
+use Rattle.std.specs.Prelude.{◌≡◌, ℕ, ◌<◌, ℤ, nat_eq, Bool, true, false, not, ◌&&◌, ◌||◌, Option, Some, None, List, length, option_map, IfSome, if◌then◌else◌, ⊤}
 use Rattle.std.specs.List.{list_any, AllZip}
 use Rattle.logic_core.specs.Tree.{Tree}
 use Rattle.logic_core.specs.Combine.{lead, sum_of}
@@ -50,3 +50,24 @@ abbrev pub is_one_atom : Option ℕ → Option ℕ → Bool
 is_one_atom None o = false
 is_one_atom (Some i) None = false
 is_one_atom (Some i) (Some j) = nat_eq i j
+
+-- those of the terms as sums
+abbrev pub AreSidesLed : List Tree → List ℕ → List (Option ℕ) → Type 0
+AreSidesLed ts sides atoms = AllZip (IsLed ts) sides atoms
+
+-- the number of the atom of a lead whose coefficient has a sign
+abbrev pub signed_atom : Option (ℤ × ℕ) → Option ℕ
+signed_atom None = None
+signed_atom (Some p) = if not (is_positive p.0) && not (is_negative p.0) then None else Some p.1
+
+-- that of this lead
+pub record IsSignedAtom (ts : List Tree) (found : Option (ℤ × Tree)) (atom : Option ℕ) : Type 0 where
+  pub first : Option (ℤ × ℕ)
+  pub is : option_map (λ (p : ℤ × ℕ). (p.0, at ts p.1)) first ≡ found
+  pub within : IfSome first (λ p. p.1 < length ts)
+  pub atom_is : signed_atom first ≡ atom
+
+-- the first is there only where it is the second
+abbrev pub may_be_one : Option ℕ → Option ℕ → Bool
+may_be_one None o = true
+may_be_one (Some i) o = is_one_atom o (Some i)

@@ -1,19 +1,19 @@
 // Numbers that facts leave undecided, by number.
 ghost use Rattle.std.specs.Prelude.{◌≡◌, ◌<◌, ◌++◌, false, ℕ, [], length, map, option_map, IfOk, IfSome, OnOk};
 ghost use Rattle.std.specs.List.{cons_option, list_any, AllByRecursion};
-ghost use Rattle.logic_core.specs.Combine.{sum_of};
+ghost use Rattle.logic_core.specs.Combine.{lead, sum_of};
 ghost use Rattle.logic_core.specs.Tree.{at_most};
 ghost use Rattle.term_bank.specs.Numbered.{at};
 ghost use Rattle.numbered_terms.specs.Lists.{AtomsBelow};
 ghost use Rattle.numbered_forms.specs.Sums.{sum_at};
 ghost use Rattle.numbered_branches.specs.Branches.{fact_at, IsFactBelow};
 ghost use Rattle.theory_rules.specs.Trichotomy.{at_most_form, at_most_forms, is_opposite, equation_of_zero, undecided_by};
-ghost use Rattle.numbered_theory.specs.Leads.{has_no_sign, side_entry, IsNoted};
+ghost use Rattle.numbered_theory.specs.Leads.{has_no_sign, side_entry, IsNoted, IsLed, AreSidesLed, signed_atom, IsSignedAtom, may_be_one};
 ghost use Rattle.numbered_theory.specs.Places.{placed, ArePlacesAt};
 ghost use Rattle.numbered_theory.specs.Sums.{sums_at, undecided_places};
 
 use crate::entries::{Entry, is_at_most, is_negative, is_positive};
-use crate::leads::Leads;
+use crate::leads::{Leads, is_one_atom, lead_atom};
 use crate::linear::{has_opposite_parts, rest};
 use numbered_branches::branch::Fact;
 use numbered_facts::linear::{lead, linear_side, sum_of};
@@ -105,14 +105,70 @@ fn is_opposite(terms: &Terms, form: &NumberedSum, other: TermId) -> bool
         && same_number(true, form.rest, rest(terms, other))
 }
 
-// Whether one of the terms as sums is the opposite of this form.
-fn has_opposite(terms: &Terms, sides: &[TermId], form: &NumberedSum) -> bool
-    requires sides { AllByRecursion (λ d. d < length terms.now) sides.now }
+// The atoms of the sides' leads.
+fn side_atoms(terms: &Terms, sides: &[TermId]) -> Result<Vec<Option<TermId>>, AllocError>
+    requires { AllByRecursion (λ d. d < length terms.now) sides.now }
+    ensures { IfOk result (λ v. AreSidesLed terms.now sides.now v.items) }
+{
+    let mut atoms = Vec::new(terms.alloc());
+    for side in sides {
+        let atom = lead_atom(terms, &side_entry(*side));
+        atoms.push(atom)?;
+    }
+    Ok(atoms)
+}
+
+// Whether the second atom may be the first one, or there is no first one.
+fn may_be_one(mine: &Option<TermId>, theirs: &Option<TermId>) -> bool
+    ensures { result ≡ may_be_one mine.now theirs.now }
+{
+    match mine {
+        Some(_) => is_one_atom(theirs, mine),
+        None => true,
+    }
+}
+
+// Whether the term as a sum, whose lead has the second atom, is the opposite of the form, whose lead has
+// the first one with a sign.
+fn is_opposite_led(
+    terms: &Terms,
+    form: &NumberedSum,
+    mine: &Option<TermId>,
+    other: TermId,
+    theirs: &Option<TermId>,
+) -> bool
     requires form { AtomsBelow (length terms.now) form.now.parts.items }
+    requires mine { IsSignedAtom terms.now (lead (sum_at terms.now form.now)) mine.now }
+    requires other { other < length terms.now }
+    requires theirs { IsLed terms.now other theirs.now }
+    ensures { result ≡ is_opposite (sum_at terms.now form.now) (sum_of (at terms.now other)) }
+{
+    terms.are_stored();
+    let meets = may_be_one(mine, theirs);
+    if meets {
+        return is_opposite(terms, form, other);
+    }
+    false
+}
+
+// Whether one of the terms as sums, whose leads have these atoms, is the opposite of this form, whose lead
+// has that atom with a sign.
+fn has_opposite(
+    terms: &Terms,
+    sides: &[TermId],
+    atoms: &[Option<TermId>],
+    form: &NumberedSum,
+    mine: &Option<TermId>,
+) -> bool
+    requires sides { AllByRecursion (λ d. d < length terms.now) sides.now }
+    requires as_many { length atoms.now ≡ length sides.now }
+    requires led { AreSidesLed terms.now sides.now atoms.now }
+    requires form { AtomsBelow (length terms.now) form.now.parts.items }
+    requires mine { IsSignedAtom terms.now (lead (sum_at terms.now form.now)) mine.now }
     ensures { result ≡ list_any (is_opposite (sum_at terms.now form.now)) (sums_at terms.now sides.now) }
 {
-    for side in sides {
-        if is_opposite(terms, form, *side) {
+    for (i, side) in sides.iter().enumerate() {
+        if is_opposite_led(terms, form, mine, *side, &atoms[i]) {
             return true;
         }
     }
@@ -126,6 +182,22 @@ fn has_no_sign(lead: Option<(i128, TermId)>) -> bool
     match lead {
         Some((k, _)) => !is_positive(false, k) && !is_negative(false, k),
         None => true,
+    }
+}
+
+// The atom of a lead whose coefficient has a sign.
+fn signed_atom(lead: Option<(i128, TermId)>) -> Option<TermId>
+    ensures { result ≡ signed_atom lead }
+{
+    match lead {
+        Some((k, atom)) => {
+            if !is_positive(false, k) && !is_negative(false, k) {
+                None
+            } else {
+                Some(atom)
+            }
+        }
+        None => None,
     }
 }
 
@@ -146,16 +218,21 @@ fn is_opposite_to_side(
     terms: &Terms,
     leads: &Leads,
     sides: &[TermId],
+    atoms: &[Option<TermId>],
     high: TermId,
 ) -> Result<bool, AllocError>
     requires sides { AllByRecursion (λ d. d < length terms.now) sides.now }
+    requires as_many { length atoms.now ≡ length sides.now }
+    requires led { AreSidesLed terms.now sides.now atoms.now }
     requires noted { AllByRecursion (λ s. IsNoted terms.now leads.now.above leads.now.below (side_entry s)) sides.now }
     requires high { high < length terms.now }
     ensures { IfOk result (λ b. b ≡ list_any (is_opposite (sum_of (at terms.now high))) (sums_at terms.now sides.now)) }
 {
     if may_be_opposite(terms, leads, high) {
         let form = sum_of(terms, high)?;
-        return Ok(has_opposite(terms, sides, &form));
+        let found = lead(terms, high);
+        let mine = signed_atom(found);
+        return Ok(has_opposite(terms, sides, atoms, &form, &mine));
     }
     Ok(false)
 }
@@ -183,10 +260,13 @@ fn undecided_inequality(
     terms: &Terms,
     leads: &Leads,
     sides: &[TermId],
+    atoms: &[Option<TermId>],
     low: TermId,
     high: TermId,
 ) -> Result<Option<TermId>, AllocError>
     requires sides { AllByRecursion (λ d. d < length terms.now) sides.now }
+    requires as_many { length atoms.now ≡ length sides.now }
+    requires led { AreSidesLed terms.now sides.now atoms.now }
     requires noted { AllByRecursion (λ s. IsNoted terms.now leads.now.above leads.now.below (side_entry s)) sides.now }
     requires low { low < length terms.now }
     requires high { high < length terms.now }
@@ -196,7 +276,7 @@ fn undecided_inequality(
     if !is_zero(terms, low) {
         return Ok(None);
     }
-    let opposite = is_opposite_to_side(terms, leads, sides, high)?;
+    let opposite = is_opposite_to_side(terms, leads, sides, atoms, high)?;
     if opposite { Ok(Some(high)) } else { Ok(None) }
 }
 
@@ -206,9 +286,12 @@ fn undecided(
     terms: &Terms,
     leads: &Leads,
     sides: &[TermId],
+    atoms: &[Option<TermId>],
     fact: TermId,
 ) -> Result<Option<TermId>, AllocError>
     requires sides { AllByRecursion (λ d. d < length terms.now) sides.now }
+    requires as_many { length atoms.now ≡ length sides.now }
+    requires led { AreSidesLed terms.now sides.now atoms.now }
     requires noted { AllByRecursion (λ s. IsNoted terms.now leads.now.above leads.now.below (side_entry s)) sides.now }
     requires fact { fact < length terms.now }
     ensures is { IfOk result (λ o. option_map (λ d. at terms.now d) o ≡ undecided_by (sums_at terms.now sides.now) (at terms.now fact)) }
@@ -216,7 +299,7 @@ fn undecided(
 {
     match terms.node(fact) {
         Node::Not(t) => Ok(equation_of_zero(terms, *t)),
-        Node::Le(low, high) => undecided_inequality(terms, leads, sides, *low, *high),
+        Node::Le(low, high) => undecided_inequality(terms, leads, sides, atoms, *low, *high),
         _ => Ok(None),
     }
 }
@@ -251,9 +334,10 @@ pub fn undecided_places(
 {
     let sides = at_most_sides(terms, facts)?;
     note_sides(terms, leads, &sides)?;
+    let atoms = side_atoms(terms, &sides)?;
     let mut places = Vec::new(terms.alloc());
     for (at, fact) in facts.iter().enumerate() {
-        let what = undecided(terms, leads, &sides, fact.term)?;
+        let what = undecided(terms, leads, &sides, &atoms, fact.term)?;
         push_place(&mut places, at, fact, what)?;
     }
     Ok(places)

@@ -5,5 +5,5 @@ use Rattle.theory_rules.specs.Trichotomy.{is_opposite}
 use Rattle.numbered_theory.specs.Sums.{sums_at}
 use Rattle.numbered_theory.proofs.undecided.has_opposite.Given as goal
 
-abbrev pub invariant-loop-side : goal.invariant-loop-side
-invariant-loop-side l = list_any (is_opposite (sum_at l.terms l.form)) (sums_at l.terms (drop l.side-index l.sides)) ≡ list_any (is_opposite (sum_at l.terms l.form)) (sums_at l.terms l.sides)
+abbrev pub invariant-loop-i : goal.invariant-loop-i
+invariant-loop-i l = list_any (is_opposite (sum_at l.terms l.form)) (sums_at l.terms (drop l.i l.sides)) ≡ list_any (is_opposite (sum_at l.terms l.form)) (sums_at l.terms l.sides)

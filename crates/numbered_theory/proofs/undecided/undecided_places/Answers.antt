@@ -1,8 +1,9 @@
-use Rattle.std.proofs.Common.{◌<◌, ◌∙◌, sym, ap, subst, ℕ, length}
+use Rattle.std.proofs.Common.{◌<◌, ◌∙◌, sym, ap, subst, ℕ, Option, List, length}
+use Rattle.std.proofs.lemmas.Slice.Zip.{AllZip-long}
 use Rattle.std.specs.List.{AllByRecursion}
 use Rattle.numbered_branches.specs.Branches.{NumberedFact, IsFactBelow}
 use Rattle.numbered_branches.proofs.Listing.{all_at}
-use Rattle.numbered_theory.specs.Leads.{side_entry, IsNoted}
+use Rattle.numbered_theory.specs.Leads.{side_entry, IsNoted, IsLed, AreSidesLed}
 use Rattle.numbered_theory.proofs.PlacesListed.{undecided_put, places_more}
 use Rattle.numbered_theory.proofs.undecided.undecided_places.Goals as goal
 
@@ -12,6 +13,18 @@ undecided-requires-clause-sides c = subst (AllByRecursion (λ (j : ℕ). j < len
 pub undecided-requires-clause-noted : goal.undecided-requires-clause-noted
 undecided-requires-clause-noted c =
     subst (AllByRecursion (λ (s : ℕ). IsNoted c.args.terms.now c.note_sides.new.leads.above c.note_sides.new.leads.below (side_entry s))) (c.deref.ensures.value ∙ sym c.deref-in-loop-at.ensures.value) c.in_ok-note_sides.ensures
+
+pub undecided-requires-clause-as_many : goal.undecided-requires-clause-as_many
+undecided-requires-clause-as_many c =
+    let ts = c.args.terms.now in let ss = c.deref-in-loop-at.result.now in
+    let led = subst (λ (is : List ℕ). AreSidesLed ts is c.in_ok-atoms.atoms.items) (c.deref-2.ensures.value ∙ sym c.deref-in-loop-at.ensures.value) c.in_ok-atoms.ensures in
+    AllZip-long (λ (s : ℕ) (o : Option ℕ). IsLed ts s o) ss c.deref-in-loop-at-2.result.now (subst (λ (os : List (Option ℕ)). AreSidesLed ts ss os) (sym c.deref-in-loop-at-2.ensures.value) led)
+
+pub undecided-requires-clause-led : goal.undecided-requires-clause-led
+undecided-requires-clause-led c =
+    let ts = c.args.terms.now in let ss = c.deref-in-loop-at.result.now in
+    let led = subst (λ (is : List ℕ). AreSidesLed ts is c.in_ok-atoms.atoms.items) (c.deref-2.ensures.value ∙ sym c.deref-in-loop-at.ensures.value) c.in_ok-atoms.ensures in
+    subst (λ (os : List (Option ℕ)). AreSidesLed ts ss os) (sym c.deref-in-loop-at-2.ensures.value) led
 
 pub undecided-requires-clause-fact : goal.undecided-requires-clause-fact
 undecided-requires-clause-fact c =
