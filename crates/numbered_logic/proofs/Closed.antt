@@ -5,7 +5,7 @@ use Rattle.logic_core.specs.Tree.{Tree}
 use Rattle.tableau_branch.specs.Branch.{Fact, with_facts, none}
 use Rattle.logic_rules.specs.Closing.{pair_from, close}
 use Rattle.logic_rules.specs.View.{close_of}
-use Rattle.numbered_terms.specs.Stored.{Numbered, Grows}
+use Rattle.numbered_terms.specs.Stored.{Numbered, Grows, AreStored}
 use Rattle.numbered_branches.specs.Applied.{TriesAt}
 use Rattle.numbered_branches.specs.Branches.{NumberedFact, NumberedBranch, fact_at, branch_at, IsFactBelow, IsBranchOver}
 use Rattle.numbered_branches.specs.declared.played.Attempt.TheVariants.{Passes, Gives}
@@ -13,9 +13,12 @@ use Rattle.numbered_branches.specs.declared.played.Ending.TheVariants.{Closes}
 use Rattle.numbered_branches.specs.declared.played.Move.{Move}
 use Rattle.numbered_branches.proofs.Changing.{branch_more}
 use Rattle.numbered_logic.specs.declared.closing.Denied.{Denied}
+use Rattle.numbered_logic.specs.Apart.{IsListed, AreApart}
+use Rattle.numbered_logic.specs.declared.apart.Apart.{Apart}
 use Rattle.numbered_logic.specs.Denied.{AreDenied, denied_at}
 use Rattle.numbered_logic.specs.Forms.{branch_over}
 use Rattle.numbered_logic.proofs.Later.{fact_later}
+use Rattle.numbered_logic.proofs.NoPair.{none_close}
 
 -- where no pair closes it
 pub closes_none : (fs : List Fact) → pair_from [] fs ≡ None → close (with_facts (branch_over []) fs) ≡ none
@@ -43,3 +46,11 @@ module _ (n m : Numbered) (g : Grows n m) (b : NumberedBranch) (ds : List Denied
 
   pub not_closed : close_of None ≡ close (with_facts (branch_over []) (map (denied_at m.terms) ds)) → TriesAt m.terms (branch_at n.terms b) (Ok (Passes b)) (close (branch_at n.terms b))
   not_closed h = (branch_more n.terms m.terms g.terms b over, sym (h ∙ of_branch))
+
+-- facts that are known to be apart have no pair
+all_listed : (numbers : List ℕ) (ds : List Denied) → AllByRecursion (λ (d : Denied). IsListed numbers d.fact) ds → AllByRecursion (IsListed numbers) (map (λ (d : Denied). d.fact) ds)
+all_listed numbers [] h = tt
+all_listed numbers (d ∷ ds) h = (h.0, all_listed numbers ds h.1)
+
+pub none_among : (ts : List Tree) → AreStored ts → (a : Apart) → AreApart ts a → (ds : List Denied) → AllByRecursion (λ (d : Denied). IsListed a.facts d.fact) ds → pair_from [] (map (denied_at ts) ds) ≡ None
+none_among ts stored a apart ds h = ap (pair_from []) (as_facts ts ds) ∙ none_close ts stored a.facts a.negations apart (map (λ (d : Denied). d.fact) ds) (all_listed a.facts ds h)

@@ -1,6 +1,6 @@
 // The rule close, over numbers.
-ghost use Rattle.std.specs.Prelude.{◌≡◌, [], false, find, map, length, option_map, Some, IfOk, OnOk, IfSome};
-ghost use Rattle.std.specs.List.{AllByRecursion};
+ghost use Rattle.std.specs.Prelude.{◌≡◌, [], nat_eq, false, find, map, length, take, option_map, Some, None, IfOk, OnOk, IfSome};
+ghost use Rattle.std.specs.List.{list_any, AllByRecursion};
 ghost use Rattle.logic_core.specs.Junction.{is_truth};
 ghost use Rattle.term_bank.specs.Numbered.{at};
 ghost use Rattle.proof_core.specs.Close.{is_negation_of};
@@ -11,7 +11,7 @@ ghost use Rattle.numbered_terms.specs.Stored.{Grows};
 ghost use Rattle.numbered_branches.specs.Applied.{TriesAt};
 ghost use Rattle.numbered_branches.specs.Branches.{branch_at, IsFactBelow, IsBranchOver};
 ghost use Rattle.numbered_logic.specs.Forms.{branch_over};
-ghost use Rattle.numbered_logic.specs.Apart.{AreApart};
+ghost use Rattle.numbered_logic.specs.Apart.{AreApart, IsListed};
 ghost use Rattle.numbered_logic.specs.Denied.{IsDenied, AreDenied, denied_at};
 
 use crate::apart::Apart;
@@ -22,6 +22,7 @@ use numbered_branches::played::{Attempt, Ending, Move};
 use numbered_facts::Store;
 use numbered_forms::junction::is_truth;
 use numbered_terms::Terms;
+use numbered_terms::number_set::NumberSet;
 use std::alloc::AllocError;
 use term_bank::TermId;
 
@@ -101,14 +102,40 @@ fn first_opposed<'a>(terms: &Terms, denied: &'a [Denied], one: &Denied) -> Optio
     None
 }
 
-// The first pair of opposed facts by its later fact, and then by its earlier one. A fact that is false
-// pairs with itself.
-fn closing_pair<'a>(terms: &Terms, denied: &'a [Denied]) -> Option<(&'a Denied, &'a Denied)>
-    requires { AllByRecursion (IsDenied terms.now) denied.now }
+// Whether the fact is among these.
+fn is_listed(numbers: &NumberSet, one: &Denied) -> bool
+    ensures { result ≡ list_any (nat_eq one.now.fact.term) numbers.now }
+{
+    numbers.contains(one.fact.term)
+}
+
+// How many facts, from the first on, are among these.
+fn count_listed(numbers: &NumberSet, denied: &[Denied]) -> usize
+    ensures { AllByRecursion (λ d. IsListed numbers.now d.fact) (take result denied.now) }
+{
+    for (i, one) in denied.iter().enumerate() {
+        let listed = is_listed(numbers, one);
+        if !listed {
+            return i;
+        }
+    }
+    denied.len()
+}
+
+// The first pair of opposed facts by its later fact, and then by its earlier one, where the facts before
+// `start` have none. A fact that is false pairs with itself.
+fn pair_behind<'a>(
+    terms: &Terms,
+    denied: &'a [Denied],
+    start: usize,
+) -> Option<(&'a Denied, &'a Denied)>
+    requires denied { AllByRecursion (IsDenied terms.now) denied.now }
+    requires start { pair_from [] (map (denied_at terms.now) (take start denied.now)) ≡ None }
     ensures pair { option_map (λ p. (denied_at terms.now p.0.now, denied_at terms.now p.1.now)) result ≡ pair_from [] (map (denied_at terms.now) denied.now) }
     ensures denied { IfSome result (λ p. IsDenied terms.now p.0.now × IsDenied terms.now p.1.now) }
 {
-    for (i, one) in denied.iter().enumerate() {
+    for i in start..denied.len() {
+        let one = &denied[i];
         if let Some(earlier) = first_opposed(terms, &denied[..i], one) {
             return Some((earlier, one));
         }
@@ -117,6 +144,22 @@ fn closing_pair<'a>(terms: &Terms, denied: &'a [Denied]) -> Option<(&'a Denied, 
         }
     }
     None
+}
+
+// The same pair. Facts that are known to be apart have none.
+fn closing_pair<'a>(
+    terms: &Terms,
+    apart: &Apart,
+    denied: &'a [Denied],
+) -> Option<(&'a Denied, &'a Denied)>
+    requires apart { AreApart terms.now apart.now }
+    requires denied { AllByRecursion (IsDenied terms.now) denied.now }
+    ensures pair { option_map (λ p. (denied_at terms.now p.0.now, denied_at terms.now p.1.now)) result ≡ pair_from [] (map (denied_at terms.now) denied.now) }
+    ensures denied { IfSome result (λ p. IsDenied terms.now p.0.now × IsDenied terms.now p.1.now) }
+{
+    terms.are_stored();
+    let start = count_listed(&apart.facts, denied);
+    pair_behind(terms, denied, start)
 }
 
 // The numbers by which two facts, of which the first has the smaller number, close the branch: the
@@ -134,11 +177,12 @@ fn close_by(terms: &Terms, f: &Denied, g: &Denied) -> (u64, u64)
 }
 
 // The numbers of two facts that close a branch with these facts, as a close names them.
-fn closing_numbers(terms: &Terms, denied: &[Denied]) -> Option<(u64, u64)>
-    requires { AllByRecursion (IsDenied terms.now) denied.now }
+fn closing_numbers(terms: &Terms, apart: &Apart, denied: &[Denied]) -> Option<(u64, u64)>
+    requires apart { AreApart terms.now apart.now }
+    requires denied { AllByRecursion (IsDenied terms.now) denied.now }
     ensures { close_of result ≡ close (with_facts (branch_over []) (map (denied_at terms.now) denied.now)) }
 {
-    match closing_pair(terms, denied) {
+    match closing_pair(terms, apart, denied) {
         Some((f, g)) => {
             if f.fact.number <= g.fact.number {
                 Some(close_by(terms, f, g))
@@ -150,14 +194,16 @@ fn closing_numbers(terms: &Terms, denied: &[Denied]) -> Option<(u64, u64)>
     }
 }
 
-// The pair that closes the branch is looked for among all pairs of facts.
-fn close_among(store: &mut Store, branch: Branch) -> Result<Attempt, NormalFault>
-    requires { IsBranchOver store.old.terms branch }
+// The pair that closes the branch is looked for among all pairs of facts of which the later one isn't known
+// to be apart from those before it.
+fn close_among(store: &mut Store, apart: &Apart, branch: Branch) -> Result<Attempt, NormalFault>
+    requires apart { AreApart store.old.terms apart.now }
+    requires branch { IsBranchOver store.old.terms branch }
     ensures grows { Grows store.old store.new }
     ensures tries { TriesAt store.new.terms (branch_at store.old.terms branch) result (close (branch_at store.old.terms branch)) }
 {
     let denied = with_negations(store, &branch.facts)?;
-    match closing_numbers(store.terms(), &denied) {
+    match closing_numbers(store.terms(), apart, &denied) {
         Some((first, second)) => Ok(Attempt::Gives(Move {
             ending: Ending::Closes { first, second },
             made: Vec::new(store.alloc()),
@@ -177,5 +223,5 @@ pub fn close(store: &mut Store, apart: &mut Apart, branch: Branch) -> Result<Att
     if apart.are_apart(store, &branch.facts)? {
         return Ok(Attempt::Passes(branch));
     }
-    close_among(store, branch)
+    close_among(store, apart, branch)
 }

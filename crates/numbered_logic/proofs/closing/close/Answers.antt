@@ -19,8 +19,11 @@ returns-then-branch-clause-tries c = let m = c.are_apart.new.store in let b = c.
     apart_passes c.args.store.now m c.in_ok-are_apart.ensures.grows b c.requires.branch
     (subst (λ (fs : List NumberedFact). pair_from [] (map (fact_at m.terms) fs) ≡ None) (c.deref.ensures.value ∙ ap (λ (d : NumberedBranch). d.facts) c.branch.view_is) (c.in_ok-are_apart.ensures.none c.if-branch.true))
 
-pub close_among-requires : goal.close_among-requires
-close_among-requires c = (branch_more c.args.store.now.terms c.are_apart.new.store.terms c.in_ok-are_apart.ensures.grows.terms c.args.branch c.requires.branch).0
+pub close_among-requires-clause-apart : goal.close_among-requires-clause-apart
+close_among-requires-clause-apart c = c.in_ok-are_apart.ensures.apart
+
+pub close_among-requires-clause-branch : goal.close_among-requires-clause-branch
+close_among-requires-clause-branch c = (branch_more c.args.store.now.terms c.are_apart.new.store.terms c.in_ok-are_apart.ensures.grows.terms c.args.branch c.requires.branch).0
 
 pub returns-clause-grows : goal.returns-clause-grows
 returns-clause-grows c = grows_then c.args.store.now c.are_apart.new.store c.close_among.new.store c.in_ok-are_apart.ensures.grows c.close_among.ensures.grows
