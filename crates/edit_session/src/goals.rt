@@ -54,14 +54,28 @@ pub fn counts(alloc: Global, procs: &[BuiltProc]) -> Result<Vec<usize>, AllocErr
     Ok(found)
 }
 
-// The question whether the goal is proved in so many turns.
+// The same question in so many turns.
+fn asked_in(
+    alloc: Global,
+    asked: &Arc<Asked, Global>,
+    turns: u64,
+) -> Result<Arc<Asked, Global>, AllocError>
+    ensures { IfOk result (λ q. arc_value q ≡ record { obligation = (arc_value asked.now).obligation; turns = turns }) }
+{
+    if asked.turns() == turns {
+        return Ok(Arc::try_clone(asked)?);
+    }
+    let obligation = Arc::try_clone(asked.obligation())?;
+    let other = Asked::shared(alloc, obligation, turns)?;
+    let shared = Arc::new(alloc, other)?;
+    Ok(shared)
+}
+
+// The question whether the goal is proved in so many turns: the one that was made with it, as a rule.
 fn question(alloc: Global, goal: &KeptGoal, turns: u64) -> Result<Arc<Asked, Global>, AllocError>
     ensures { IfOk result (λ q. arc_value q ≡ question turns goal.now) }
 {
-    let obligation = Arc::try_clone(goal.obligation())?;
-    let asked = Asked::printed(alloc, obligation, goal.text(), turns)?;
-    let shared = Arc::new(alloc, asked)?;
-    Ok(shared)
+    asked_in(alloc, goal.asked(), turns)
 }
 
 // The questions of goals come behind.

@@ -144,13 +144,18 @@ fn put_decls(program: &mut Program, mut replacements: Vec<Replacement>)
 }
 
 impl OpenProgram {
-    /// The program without declarations. Nothing in it has a fault.
+    /// The program without declarations, whose goals are to be searched with so many turns. Nothing in
+    /// it has a fault.
     #[tactic(auto, using(crate::proofs::Programs::taken_decls, crate::proofs::Programs::taken_module))]
-    pub fn empty<L: Ledger>(alloc: Global, steps: &mut Steps<L>) -> Result<OpenProgram, AllocError>
+    pub fn empty<L: Ledger>(
+        alloc: Global,
+        turns: u64,
+        steps: &mut Steps<L>,
+    ) -> Result<OpenProgram, AllocError>
         ensures none { IfOk result (λ p. p.decls ≡ []) }
         ensures is_module { IfOk result (λ p. IsModuleOf [] p.typed) }
     {
-        let nothing = Built::empty(alloc);
+        let nothing = Built::empty(alloc, turns);
         match judge(alloc, &nothing, Vec::new(alloc), steps)? {
             Judged::Taken { program, .. } => Ok(program),
             Judged::Refused(reply) => {

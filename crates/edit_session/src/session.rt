@@ -66,7 +66,7 @@ impl<B: GoalBoard, L: Ledger> Session<B, L> {
         ensures new { IfOk result (λ s. s ≡ record { turns = turns; workers = B.workers; state = new_session; noted = B.noted board }) }
         ensures memory { IfErr result (λ b. b ≡ board) }
     {
-        match OpenProgram::empty(alloc, &mut steps) {
+        match OpenProgram::empty(alloc, turns, &mut steps) {
             Ok(opened) => Ok(Session {
                 alloc,
                 turns,

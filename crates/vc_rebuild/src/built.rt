@@ -13,6 +13,8 @@ use std::marker::Model;
 pub struct Built {
     procs: Sequence<BuiltProc>,
     rebuilt: u64,
+    // in which goals that are built are asked for
+    turns: u64,
 }
 
 impl Model for Built {
@@ -30,23 +32,34 @@ impl Model for Built {
 }
 
 impl Built {
-    /// Of no program.
+    /// Of no program. The questions that are made with goals from now on ask for proofs in so many
+    /// turns.
     #[tactic(auto, using(crate::proofs::Programs::none_built))]
-    pub fn empty(alloc: Global) -> Built
+    pub fn empty(alloc: Global, turns: u64) -> Built
         ensures { result ≡ record { procs = []; rebuilt = 0 } }
     {
         Built {
             procs: Sequence::new(alloc),
             rebuilt: 0,
+            turns,
         }
     }
 
-    /// These procedures, of which so many were built.
-    pub(crate) fn of(procs: Sequence<BuiltProc>, rebuilt: u64) -> Built
+    /// These procedures, of which so many were built, and go on with as many turns.
+    pub(crate) fn with_procs(&self, procs: Sequence<BuiltProc>, rebuilt: u64) -> Built
         requires { AreBuilt procs }
         ensures { result ≡ record { procs = procs; rebuilt = rebuilt } }
     {
-        Built { procs, rebuilt }
+        Built {
+            procs,
+            rebuilt,
+            turns: self.turns,
+        }
+    }
+
+    /// In how many turns goals are asked for that are built.
+    pub(crate) fn turns(&self) -> u64 {
+        self.turns
     }
 
     /// The procedures with a body, in order.

@@ -18,7 +18,7 @@ fn bytes_of(goals: &[KeptGoal]) -> u64
 {
     let mut bytes: u64 = 0;
     for goal in goals {
-        bytes = bytes.saturating_add(goal.text().len() as u64);
+        bytes = bytes.saturating_add(goal.text_len() as u64);
     }
     bytes
 }

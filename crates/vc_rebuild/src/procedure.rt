@@ -61,11 +61,12 @@ fn kept_goals(
     remarked(alloc, &marks, kept.goals())
 }
 
-// The goals, built.
+// The goals, built, and asked for in so many turns.
 fn built_goals(
     alloc: Global,
     links: &Links<'_>,
     proc: &Proc,
+    turns: u64,
 ) -> Result<Sequence<KeptGoal>, BuildFault>
     requires there { Contains links.now.procs proc.now }
     requires no_goto { BodyHasNoGoto proc.now.body }
@@ -73,7 +74,7 @@ fn built_goals(
 {
     let mut tally = Tally::new(alloc);
     add_goals(alloc, &mut tally, links, proc)?;
-    Ok(share_all(alloc, tally.into_goals().into_vec())?)
+    Ok(share_all(alloc, tally.into_goals().into_vec(), turns)?)
 }
 
 // The procedure with the candidate's obligations.
@@ -93,19 +94,20 @@ fn kept_proc(
     Ok(BuiltProc::of(name, text, goals))
 }
 
-// The procedure, built.
+// The procedure, built; its goals are asked for in so many turns.
 fn new_proc(
     alloc: Global,
     links: &Links<'_>,
     proc: &Proc,
     text: DigestedText,
+    turns: u64,
 ) -> Result<BuiltProc, BuildFault>
     requires there { Contains links.now.procs proc.now }
     requires no_goto { BodyHasNoGoto proc.now.body }
     requires text { text ≡ depends links.now proc.now }
     ensures { IfOk result (λ b. b ≡ kept_of links.now proc.now) }
 {
-    let goals = built_goals(alloc, links, proc)?;
+    let goals = built_goals(alloc, links, proc, turns)?;
     let name = proc.name.copy(alloc)?;
     Ok(BuiltProc::of(name, text, goals))
 }
@@ -140,7 +142,7 @@ fn with_text<L: Ledger>(
         }
         None => {
             steps.tick();
-            let built = new_proc(alloc, links, proc, text)?;
+            let built = new_proc(alloc, links, proc, text, before.built.turns())?;
             Ok(MadeProc {
                 built,
                 is_new: true,

@@ -150,7 +150,7 @@ fn rebuild_plain<L: Ledger>(
     let mut found = Collected::new(alloc);
     let rebuilt = add_procedures(alloc, &mut found, &before, links, steps)?;
     let procs = Sequence::of(found.into_procs());
-    Ok(Built::of(procs, rebuilt))
+    Ok(old.with_procs(procs, rebuilt))
 }
 
 /// The goals of the program, of each procedure with a body in order, where it has no fault. A procedure

@@ -1,12 +1,12 @@
 // Goals that share their obligations.
-ghost use Rattle.std.specs.Prelude.{◌≡◌, IfOk};
+ghost use Rattle.std.specs.Prelude.{◌≡◌, IfOk, length};
 ghost use Rattle.std.specs.Arc.{arc_value};
 ghost use Rattle.obligation_text.specs.Text.{obligation_text};
 ghost use Rattle.vc_rebuild.specs.Marks.{remarked};
 
 use flow_core::Mark;
 use logic_core::Sequence;
-use obligation_text::obligation::Obligation;
+use obligation_text::Asked;
 use obligation_text::printing::text;
 use std::alloc::{AllocError, Global};
 use std::marker::Model;
@@ -14,17 +14,17 @@ use std::sync::Arc;
 use vc_build::Goal;
 
 /// An assertion of a procedure and what is to be proved of it. Before and after an edit the
-/// obligation and its text may be the same ones in memory.
+/// obligation and the question that asks for its proof may be the same ones in memory.
 #[derive(Drop)]
 pub struct KeptGoal {
     mark: Mark,
-    obligation: Arc<Obligation, Global>,
-    // the obligation's
-    text: Arc<Sequence<u8>, Global>,
+    asked: Arc<Asked, Global>,
+    // of the obligation's text
+    bytes: usize,
 }
 
 impl Model for KeptGoal {
-    ghost use Rattle.std.specs.Prelude.{◌≡◌};
+    ghost use Rattle.std.specs.Prelude.{◌≡◌, length};
     ghost use Rattle.std.specs.Arc.{arc_value};
     ghost use Rattle.obligation_text.specs.Text.{obligation_text};
     ghost use Rattle.vc_build.specs.declared.goal.Goal.{Goal as goal_of};
@@ -34,32 +34,24 @@ impl Model for KeptGoal {
 
     ghost coded = { goal_row.the_row.coded };
 
-    ghost view = { λ a. record { mark = a.mark; obligation = arc_value a.obligation } };
+    ghost view = { λ a. record { mark = a.mark; obligation = (arc_value a.asked).obligation } };
 
-    ghost invariant = { λ a. arc_value a.text ≡ obligation_text (arc_value a.obligation) };
-}
-
-// The obligation's text, which may be shared from now on.
-fn shared_text(
-    alloc: Global,
-    obligation: &Obligation,
-) -> Result<Arc<Sequence<u8>, Global>, AllocError>
-    ensures { IfOk result (λ t. arc_value t ≡ obligation_text obligation.now) }
-{
-    let text = Sequence::of(text(alloc, obligation)?);
-    Ok(Arc::new(alloc, text)?)
+    ghost invariant = { λ a. a.bytes ≡ length (obligation_text (arc_value a.asked).obligation) };
 }
 
 impl KeptGoal {
-    /// The goal, whose obligation and its text may be shared from now on.
-    pub fn new(alloc: Global, goal: Goal) -> Result<KeptGoal, AllocError>
+    /// The goal, whose obligation may be shared from now on, and a question that asks for its proof in
+    /// so many turns.
+    pub fn new(alloc: Global, goal: Goal, turns: u64) -> Result<KeptGoal, AllocError>
         ensures { IfOk result (λ g. g ≡ goal) }
     {
-        let text = shared_text(alloc, &goal.obligation)?;
+        let text = text(alloc, &goal.obligation)?;
+        let obligation = Arc::new(alloc, goal.obligation)?;
+        let asked = Asked::printed(alloc, obligation, &text, turns)?;
         Ok(KeptGoal {
             mark: goal.mark,
-            obligation: Arc::new(alloc, goal.obligation)?,
-            text,
+            asked: Arc::new(alloc, asked)?,
+            bytes: text.len(),
         })
     }
 
@@ -70,18 +62,18 @@ impl KeptGoal {
         self.mark
     }
 
-    /// What is to be valid.
-    pub fn obligation(&self) -> &Arc<Obligation, Global>
-        ensures { arc_value result.now ≡ self.now.obligation }
+    /// A question whether the obligation is proved in some number of turns.
+    pub fn asked(&self) -> &Arc<Asked, Global>
+        ensures { (arc_value result.now).obligation ≡ self.now.obligation }
     {
-        &self.obligation
+        &self.asked
     }
 
-    /// The obligation's text.
-    pub fn text(&self) -> &[u8]
-        ensures { result.now ≡ obligation_text self.now.obligation }
+    /// How many bytes the obligation's text has.
+    pub fn text_len(&self) -> usize
+        ensures { result ≡ length (obligation_text self.now.obligation) }
     {
-        self.text.as_slice()
+        self.bytes
     }
 
     /// The same obligation with another mark.
@@ -90,19 +82,23 @@ impl KeptGoal {
     {
         Ok(KeptGoal {
             mark,
-            obligation: Arc::try_clone(&self.obligation)?,
-            text: Arc::try_clone(&self.text)?,
+            asked: Arc::try_clone(&self.asked)?,
+            bytes: self.bytes,
         })
     }
 }
 
-/// The goals, whose obligations may be shared from now on.
-pub fn share_all(alloc: Global, goals: Vec<Goal>) -> Result<Sequence<KeptGoal>, AllocError>
+/// The goals, whose obligations may be shared from now on; each is asked for in so many turns.
+pub fn share_all(
+    alloc: Global,
+    goals: Vec<Goal>,
+    turns: u64,
+) -> Result<Sequence<KeptGoal>, AllocError>
     ensures { IfOk result (λ gs. gs ≡ goals.items) }
 {
     let mut shared = Vec::new(alloc);
     for goal in goals {
-        shared.push(KeptGoal::new(alloc, goal)?)?;
+        shared.push(KeptGoal::new(alloc, goal, turns)?)?;
     }
     Ok(Sequence::of(shared))
 }
@@ -115,8 +111,8 @@ pub fn remarked(
 ) -> Result<Sequence<KeptGoal>, AllocError>
     ensures { IfOk result (λ gs. gs ≡ remarked marks.now goals.now) }
 {
-    let mut found = Vec::new(alloc);
     let both = marks.len().min(goals.len());
+    let mut found = Vec::with_capacity(alloc, both)?;
     for i in 0..both {
         found.push(goals[i].with_mark(marks[i])?)?;
     }
