@@ -7,3 +7,4 @@ pub mod Betweens
 pub mod Gathering
 pub mod ByItself
 pub mod Making
+pub mod Recalled

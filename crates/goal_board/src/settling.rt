@@ -17,10 +17,11 @@ use std::alloc::{AllocError, Global};
 use std::sync::Arc;
 use tableau::settled::Settled;
 
-// The search's answer to a question.
+// The search's answer to a question; it comes behind those that were found.
 fn answer_to(
     alloc: Global,
     question: &Arc<Asked, Global>,
+    found: &mut Vec<Arc<Settled, Global>>,
 ) -> Result<Arc<Settled, Global>, AllocError>
     ensures answer { IfOk result (λ a. arc_value a ≡ settled_by (arc_value question.now)) }
     ensures right { IfOk result (λ a. IsRight (arc_value a)) }
@@ -28,6 +29,7 @@ fn answer_to(
     let settled = search(alloc, question)?;
     let _question = settled.question();
     let shared = Arc::new(alloc, settled)?;
+    found.push(Arc::try_clone(&shared)?)?;
     Ok(shared)
 }
 
@@ -37,12 +39,13 @@ fn settle(
     alloc: Global,
     board: &mut Board<Settled>,
     claim: Claim<Settled>,
+    found: &mut Vec<Arc<Settled, Global>>,
 ) -> Result<bool, AllocError>
     requires { Contains board.old.out (ticket key_of claim) }
     ensures settled { IfOk result (λ more. (more ≡ true) × IsDeposited (ticket key_of claim) board.old board.new) }
     ensures given_back { OnErr result (board.new ≡ step board.old (give_back (ticket key_of claim))) }
 {
-    match answer_to(alloc, claim.question()) {
+    match answer_to(alloc, claim.question(), found) {
         Ok(answer) => {
             board.deposit(claim, answer);
             Ok(true)
@@ -56,23 +59,31 @@ fn settle(
 
 // Claims a goal and settles it, where one is left.
 #[tactic(auto, using(crate::proofs::Nexts::settled_next, crate::proofs::Nexts::empty_next, crate::proofs::Nexts::closed_next, crate::proofs::Nexts::given_back_up, crate::proofs::Nexts::nothing_up))]
-fn settle_next(alloc: Global, board: &mut Board<Settled>) -> Result<bool, AllocError>
+fn settle_next(
+    alloc: Global,
+    board: &mut Board<Settled>,
+    found: &mut Vec<Arc<Settled, Global>>,
+) -> Result<bool, AllocError>
     requires rests { IsAtRest board.old }
     requires room { board.old.next < 2 ^ 64 - 1 }
     ensures next { IfOk result (λ more. IsNext more board.old board.new) }
     ensures given_up { OnErr result (IsGivenUp board.old board.new) }
 {
     match board.claim()? {
-        Claimed::Claim(claim) => settle(alloc, board, claim),
+        Claimed::Claim(claim) => settle(alloc, board, claim, found),
         Claimed::Empty | Claimed::Closed => Ok(false),
     }
 }
 
 /// Claims goals, searches them and deposits the answers, one after another, until none is left to
-/// claim: then every present goal has a kept answer. Without memory the claim in hand is given back,
-/// and what was deposited before stays.
+/// claim: then every present goal has a kept answer. The answers come behind those that were found
+/// before. Without memory the claim in hand is given back, and what was deposited before stays.
 #[tactic(auto, using(crate::proofs::Nexts::next_loop, crate::proofs::Nexts::next_falls, crate::proofs::Nexts::room_left, crate::proofs::Nexts::rests_still, crate::proofs::Nexts::ends_loop, crate::proofs::Nexts::fails_loop, crate::proofs::Rounds::none_so_far))]
-pub fn settle_all(alloc: Global, board: &mut Board<Settled>) -> Result<(), AllocError>
+pub fn settle_all(
+    alloc: Global,
+    board: &mut Board<Settled>,
+    found: &mut Vec<Arc<Settled, Global>>,
+) -> Result<(), AllocError>
     requires rests { IsAtRest board.old }
     requires room { board.old.next + length board.old.present < 2 ^ 64 - 1 }
     ensures settled { OnOk result (IsSettled board.old board.new) }
@@ -80,7 +91,7 @@ pub fn settle_all(alloc: Global, board: &mut Board<Settled>) -> Result<(), Alloc
 {
     let mut more = true;
     while more {
-        more = settle_next(alloc, board)?;
+        more = settle_next(alloc, board, found)?;
     }
     Ok(())
 }
