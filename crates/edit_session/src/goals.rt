@@ -25,7 +25,7 @@ pub fn names(alloc: Global, procs: &[BuiltProc]) -> Result<Vec<String>, AllocErr
 fn marks_of(alloc: Global, goals: &[KeptGoal]) -> Result<Vec<Mark>, AllocError>
     ensures { IfOk result (λ v. v.items ≡ map (λ g. g.mark) goals.now) }
 {
-    let mut found = Vec::new(alloc);
+    let mut found = Vec::with_capacity(alloc, goals.len())?;
     for goal in goals {
         found.push(goal.mark())?;
     }

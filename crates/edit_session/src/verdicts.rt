@@ -16,7 +16,7 @@ use tableau::settled::Settled;
 fn verdicts_of(alloc: Global, answers: &[Arc<Settled, Global>]) -> Result<Vec<Verdict>, AllocError>
     ensures { IfOk result (λ v. map verdict_of v.items ≡ map (λ a. (arc_value {X = settled} a).verdict) answers.now) }
 {
-    let mut found = Vec::new(alloc);
+    let mut found = Vec::with_capacity(alloc, answers.len())?;
     for answer in answers {
         found.push(answer.verdict())?;
     }

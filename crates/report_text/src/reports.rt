@@ -12,6 +12,9 @@ use flow_core::Mark;
 use std::alloc::{AllocError, Global};
 use tableau::ended::Verdict;
 
+// How many bytes a line has behind the name, as a rule at most.
+const ROOM: usize = 40;
+
 // The verdict's word.
 fn word(verdict: Verdict) -> &'static [u8]
     ensures { result.now ≡ verdict_text (verdict_of verdict) }
@@ -50,7 +53,7 @@ pub fn all_proved(verdicts: &[Verdict]) -> bool
 fn goal(alloc: Global, name: &[u8], mark: &Mark, verdict: Verdict) -> Result<Vec<u8>, AllocError>
     ensures { IfOk result (λ v. v.items ≡ goal_line name.now mark.now (verdict_of verdict)) }
 {
-    let mut out = Vec::new(alloc);
+    let mut out = Vec::with_capacity(alloc, name.len().saturating_add(ROOM))?;
     write_head(&mut out, name, mark)?;
     out.extend_from_slice(b" ")?;
     out.extend_from_slice(word(verdict))?;
@@ -72,7 +75,7 @@ fn ending(verdicts: &[Verdict]) -> &'static [u8]
 fn last(alloc: Global, name: &[u8], verdicts: &[Verdict]) -> Result<Vec<u8>, AllocError>
     ensures { IfOk result (λ v. v.items ≡ last_line name.now (map verdict_of verdicts.now)) }
 {
-    let mut out = Vec::new(alloc);
+    let mut out = Vec::with_capacity(alloc, name.len().saturating_add(ROOM))?;
     out.extend_from_slice(name)?;
     out.extend_from_slice(ending(verdicts))?;
     Ok(out)
