@@ -1,5 +1,6 @@
 //! The trees of Boogie programs: types, expressions, statements and declarations, each with the
-//! places in its declaration at which faults and goals point. Contracts see the trees of `specs/`.
+//! places in its declaration at which faults and goals point. Contracts see the trees of `specs/`. (The
+//! constructs: Leino, This is Boogie 2, 2008.)
 #![tactic(auto)]
 
 // The trees, from names up.

@@ -1,6 +1,6 @@
-// The grammar of Boogie as data, what becomes of tokens that are read by it, and the laws that
-// join the two: what is read goes as far as the tokens go, and the fault's token is the first with
-// which they don't begin what is read, or that lies too deep.
+//! The grammar of Boogie (Leino, This is Boogie 2, 2008) as data, what becomes of tokens that are read
+//! by it, and the laws that join the two: what is read goes as far as the tokens go, and the fault's
+//! token is the first with which they don't begin what is read, or that lies too deep.
 #![tactic(auto)]
 
 pub mod laws;

@@ -1,4 +1,5 @@
-//! Typed modules of Boogie, the variables of their procedures, and what their executions are.
+//! Typed modules of Boogie, the variables of their procedures, and what their executions are (Leino,
+//! This is Boogie 2, 2008; Barnett and Leino, Weakest-precondition of unstructured programs, 2005).
 //! Contracts see modules and statements as the data of `specs/`.
 #![tactic(auto)]
 

@@ -15,9 +15,13 @@ use std::mem;
 #[derive(Drop)]
 pub struct DeclText {
     pub name: Name,
+    /// Its canonical text, in bytes.
     pub text: Vec<u8>,
+    /// The same without a body.
     pub contract: Vec<u8>,
+    /// The positions, among all declarations, of those that names in the text stand for.
     pub leads: Vec<u64>,
+    /// The positions of those that names in the contract stand for.
     pub contract_leads: Vec<u64>,
 }
 

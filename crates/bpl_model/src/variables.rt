@@ -15,11 +15,17 @@ use std::alloc;
 #[derive(Drop)]
 pub struct Variables {
     pub sorts: Sequence<Sort>,
+    /// The number of the first global variable.
     pub first_global: u64,
+    /// The number of the first that keeps a global's value at entry.
     pub first_entry: u64,
+    /// The number of the first in-parameter.
     pub first_in: u64,
+    /// The number of the first out-parameter.
     pub first_out: u64,
+    /// The number of the first local variable.
     pub first_local: u64,
+    /// The number of the first that stands for a replaced call.
     pub first_own: u64,
 }
 

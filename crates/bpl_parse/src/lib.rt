@@ -1,4 +1,5 @@
-// The parser of Boogie: a cursor over tokens, one method a production.
+//! The parser of Boogie (Leino, This is Boogie 2, 2008): a cursor over tokens, one method a production.
+//! It gives the program that the grammar's tokens spell, or the first token at which none goes on.
 #![tactic(auto)]
 
 mod actions;

@@ -1,7 +1,8 @@
 //! Names and sorts of programs: a program stands for a typed module, or has a first fault, by
 //! declaration, then place, then kind. The module of a program without faults has its constants,
 //! axioms, functions, global variables and procedures, with a term for each expression, and the texts
-//! of its declarations. It is typed, and its gotos go forward.
+//! of its declarations. It is typed, and its gotos go forward. (Rules of names and types: Leino, This is
+//! Boogie 2, 2008.)
 #![tactic(auto)]
 
 // The first fault of a program.

@@ -44,7 +44,7 @@ fn decl_name(alloc: Global, decl: &Decl) -> Result<Name, AllocError>
     })
 }
 
-/// The texts of a declaration, among so many.
+/// The texts of a declaration, one of `count`.
 pub fn decl_text(
     alloc: Global,
     table: &Table,

@@ -12,7 +12,7 @@ use std::thread;
 use std::thread::{Promise, Threads};
 use tableau::settled::Settled;
 
-/// How many bytes of stack a worker has: what the search of the deepest terms takes, several times over. The
+/// A worker's stack, in bytes (16 MiB): what the search of the deepest terms takes, several times over. The
 /// usual one depends on the limit that the program was started with.
 pub const STACK: usize = 0x100_0000;
 

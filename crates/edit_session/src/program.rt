@@ -188,7 +188,7 @@ impl OpenProgram {
         let _typed = &self.typed;
     }
 
-    /// Its declarations.
+    /// The declarations of the program that is open.
     pub fn decls(&self) -> &[Decl]
         ensures decls { result.now ≡ self.now.decls }
         ensures short { SourcesAreShort self.now.decls }

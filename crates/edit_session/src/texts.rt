@@ -13,7 +13,7 @@ fn is_short(text: &str) -> bool
     text.len() < 4_294_967_295
 }
 
-// Whether those of each put can.
+// Whether the text of each put has fewer than 2^32 - 1 bytes.
 fn are_short(puts: &[Put]) -> bool
     ensures { result ≡ list_all (λ p. nat_lt (length (string_bytes p.text)) (2 ^ 32 - 1)) puts.now }
 {
