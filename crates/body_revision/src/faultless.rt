@@ -27,6 +27,6 @@ pub fn own_fault<'a>(
         names.declarations.dependencies(),
         names.declarations.counts(),
         &mut before,
-        &decl.body,
+        decl.body(),
     )
 }

@@ -66,8 +66,8 @@ fn is_sought(sought: Sought, name: &[u8], decl: &Decl) -> bool
     ensures { result ≡ is_sought sought name.now decl.now.body }
 {
     match sought {
-        Sought::WithoutBody => lacks_body(name, &decl.body),
-        Sought::Implementation => gives_body(name, &decl.body),
+        Sought::WithoutBody => lacks_body(name, decl.body()),
+        Sought::Implementation => gives_body(name, decl.body()),
     }
 }
 
@@ -135,7 +135,7 @@ fn unless_implemented(decls: &[Decl], at: usize, name: &[u8]) -> Option<usize>
 pub(crate) fn procedure_place(decls: &[Decl], at: usize, decl: &Decl) -> Option<usize>
     ensures { result ≡ procedure_place decls.now at decl.now.body }
 {
-    match &decl.body {
+    match decl.body() {
         DeclBody::Procedure { name, body, .. } => match body {
             Some(_) => Some(at),
             None => unless_implemented(decls, at, name.text.as_bytes()),
@@ -156,7 +156,7 @@ pub(crate) fn procedure_by<'a>(decls: &'a [Decl], place: usize, decl: &'a Decl) 
     requires there { place < length decls.now }
     ensures { result.now.body ≡ procedure_by decls.now place decl.now }
 {
-    if is_procedure(&decl.body) {
+    if is_procedure(decl.body()) {
         decl
     } else {
         &decls[place]

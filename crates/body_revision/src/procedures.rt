@@ -21,7 +21,7 @@ pub(crate) fn count_procedures(decls: &[Decl]) -> usize
 {
     let mut count = 0;
     for decl in decls {
-        if is_procedure(&decl.body) {
+        if is_procedure(decl.body()) {
             count += 1;
         }
     }
@@ -32,7 +32,7 @@ pub(crate) fn count_procedures(decls: &[Decl]) -> usize
 fn given_by<'a>(decl: &'a Decl, name: &Name) -> Option<Implemented<'a>>
     ensures { option_map implemented_seen result ≡ implements name.now.text decl.now.body }
 {
-    match &decl.body {
+    match decl.body() {
         DeclBody::Implementation {
             name: implemented,
             signature,
@@ -82,7 +82,7 @@ pub(crate) fn procedure_of<'d, 'a>(
     requires body { IsTrue (is_procedure of.now.body) }
     ensures { IfOk result (λ p. procs_in (by.now ∷ []) declared.now.environment.now (counts_seen declared.now.counts) of.now.body ≡ p ∷ []) }
 {
-    match &of.body {
+    match of.body() {
         DeclBody::Procedure {
             name,
             signature,

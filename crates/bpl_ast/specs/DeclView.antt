@@ -1,4 +1,5 @@
 -- What a declaration of the code stands for.
+use Rattle.std.specs.Arc.{arc_value}
 use Rattle.bpl_ast.specs.ExprView.{groups_of}
 use Rattle.bpl_ast.specs.Statement.{constant, function, axiom_of, variables, synonym, procedure, implementation, DeclBody as Declared}
 use Rattle.bpl_ast.specs.declared.decl.DeclBody.{DeclBody}
@@ -10,5 +11,5 @@ body_of (Function n ps ins t x) = function n ps ins.items t x
 body_of (Axiom x) = axiom_of x
 body_of (Var gs) = variables (groups_of gs.items)
 body_of (TypeName n t) = synonym n t
-body_of (Procedure n ps s ss b) = procedure n ps s ss.items b
+body_of (Procedure n ps s ss b) = procedure n ps (arc_value s) (arc_value ss).items b
 body_of (Implementation n ps s b) = implementation n ps s b

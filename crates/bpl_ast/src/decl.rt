@@ -6,7 +6,9 @@ use crate::name::{Name, TypeParams};
 use crate::stmt::Stmt;
 use crate::types::Type;
 use bv_base::place::{Place, Span};
+use std::alloc::Global;
 use std::marker::Model;
+use std::sync::Arc;
 
 /// A clause of a procedure's contract, and the place of its word, `free` not counted.
 pub struct Spec {
@@ -115,12 +117,13 @@ pub enum DeclBody {
         name: Name,
         synonym: Option<Type>,
     },
-    /// A procedure, its contract, and its body where it stands there.
+    /// A procedure, its contract, and its body where it stands there. Its head without the body has
+    /// the same signature and clauses in memory.
     Procedure {
         name: Name,
         params: Option<TypeParams>,
-        signature: Signature,
-        specs: Vec<Spec>,
+        signature: Arc<Signature, Global>,
+        specs: Arc<Vec<Spec>, Global>,
         body: Option<Body>,
     },
     /// The body of a procedure, declared apart.
@@ -133,12 +136,13 @@ pub enum DeclBody {
 }
 
 /// A declaration. Its name is that of the first thing that it declares, `@k` for the k-th axiom,
-/// or `implementation P`. Its span is in the program's text, and its source the bytes there.
+/// or `implementation P`. Its span is in the program's text, and its source the bytes there. Its copies
+/// have the same body in memory.
 pub struct Decl {
     pub name: String,
     pub span: Span,
     pub source: Vec<u8>,
-    pub body: DeclBody,
+    pub body: Arc<DeclBody, Global>,
 }
 
 // Written out: a derived drop is proved again wherever a value is dropped.
@@ -213,6 +217,7 @@ impl Model for Argument {
 
 impl Model for Decl {
     ghost use Rattle.std.specs.Prelude.{string_bytes};
+    ghost use Rattle.std.specs.Arc.{arc_value};
     ghost use Rattle.bpl_ast.specs.Statement.{Decl as declaration};
     ghost use Rattle.bpl_ast.specs.DeclCodes.{coded_decl};
 
@@ -222,7 +227,7 @@ impl Model for Decl {
 
     ghost use Rattle.bpl_ast.specs.DeclView.{body_of};
 
-    ghost view = { λ a. record { name = string_bytes a.name; start = a.span.start; finish = a.span.end; source = a.source.items; body = body_of a.body } };
+    ghost view = { λ a. record { name = string_bytes a.name; start = a.span.start; finish = a.span.end; source = a.source.items; body = body_of (arc_value a.body) } };
 }
 
 impl Model for Program {

@@ -11,11 +11,9 @@ pub mod numeral;
 pub mod stmt;
 pub mod types;
 
-// Copies.
-pub mod copy_decls;
-pub mod copy_exprs;
+// Copies, and what is shared in place of being copied.
 pub mod copy_names;
-pub mod copy_stmts;
+pub mod shared_decls;
 
 pub use bv_base::place::{Place, Span};
 pub use decl::{Argument, Body, Decl, DeclBody, Program, Signature, Spec, SpecForm};

@@ -145,13 +145,8 @@ impl<'a> Cursor<'a> {
         let params = self.params(alloc)?;
         let signature = self.signature(alloc, INSIDE)?;
         let (specs, body) = self.contract(alloc)?;
-        Ok(DeclBody::Procedure {
-            name,
-            params,
-            signature,
-            specs,
-            body,
-        })
+        let decl = DeclBody::shared_procedure(alloc, name, params, signature, specs, body)?;
+        Ok(decl)
     }
 
     /// "implementation" {Attr} Id [TPar] Sig Body

@@ -4,7 +4,7 @@ ghost use Rattle.bpl_ast.specs.Statement.{first_name, first_of_groups, name_of, 
 ghost use Rattle.bpl_ast.specs.ExprView.{groups_of};
 ghost use Rattle.bpl_ast.specs.DeclView.{body_of};
 
-use bpl_ast::{DeclBody, Group, Name};
+use bpl_ast::{Decl, DeclBody, Group, Name};
 use std::alloc::{AllocError, Global};
 
 /// The first of the names.
@@ -56,11 +56,11 @@ pub(crate) fn name_of(alloc: Global, axioms: usize, body: &DeclBody) -> Result<S
 }
 
 /// How many axioms there are with this declaration, where there were so many before it.
-pub(crate) fn axioms_with(axioms: usize, body: &DeclBody) -> usize
+pub(crate) fn axioms_with(axioms: usize, decl: &Decl) -> usize
     requires { axioms < 2 ^ 64 - 1 }
-    ensures { result ≡ axioms_with axioms (body_of body.now) }
+    ensures { result ≡ axioms_with axioms decl.now.body }
 {
-    match body {
+    match decl.body() {
         DeclBody::Axiom(_) => axioms + 1,
         DeclBody::Const { .. } => axioms,
         DeclBody::Var(_) => axioms,

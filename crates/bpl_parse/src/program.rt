@@ -43,12 +43,8 @@ fn declared(
 {
     let name = name_of(alloc, axioms, &body)?;
     let source = Vec::from_slice(alloc, &text[span.start as usize..span.end as usize])?;
-    Ok(Decl {
-        name,
-        span,
-        source,
-        body,
-    })
+    let decl = Decl::new(alloc, name, span, source, body)?;
+    Ok(decl)
 }
 
 /// The first declaration of these tokens, or why reading it stops, and how many tokens it takes.
@@ -84,7 +80,7 @@ fn declarations(alloc: Global, text: &[u8], tokens: &[Token]) -> Result<Vec<Decl
                 let start = start_of(rest);
                 let end = end_of(own);
                 let further = declared(alloc, text, axioms, Span { start, end }, body)?;
-                axioms = axioms_with(axioms, &further.body);
+                axioms = axioms_with(axioms, &further);
                 found.push(further)?;
                 rest = left;
             }

@@ -45,7 +45,7 @@ fn push_consts<'d, 'a>(
 ) -> Result<(), AllocError>
     ensures { OnOk result (consts.new.items ≡ consts.old.items ++ consts_in declared.now.environment.now (counts_seen declared.now.counts) decl.now.body) }
 {
-    match &decl.body {
+    match decl.body() {
         DeclBody::Const { names, of, .. } => {
             let types = declared.types();
             let sort = types.sort(&types.nothing_hidden(), of)?;
@@ -100,7 +100,7 @@ fn push_axiom<'d, 'a>(
     requires { order.now ≡ in_number_order declared.now.environment.now }
     ensures { OnOk result (axioms.new.items ≡ axioms.old.items ++ axioms_in declared.now.environment.now (counts_seen declared.now.counts) decl.now.body) }
 {
-    match &decl.body {
+    match decl.body() {
         DeclBody::Axiom(x) => {
             axioms.push(axiom(alloc, declared, order, x)?)?;
             Ok(())

@@ -82,7 +82,7 @@ fn push_globals<'d, 'a>(
     requires { order.now ≡ in_number_order declared.now.environment.now }
     ensures { OnOk result (globals.new.items ≡ globals.old.items ++ globals_in declared.now.environment.now (counts_seen declared.now.counts) decl.now.body) }
 {
-    match &decl.body {
+    match decl.body() {
         DeclBody::Var(groups) => {
             let vars = Vars::new(alloc);
             let scope = declared.scope(alloc, Part::ClauseOfGlobal, &vars);

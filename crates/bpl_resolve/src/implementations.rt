@@ -25,7 +25,7 @@ pub(crate) struct Implementations<'a> {
 fn push_name<'a>(names: &mut Positions<'a>, decl: &'a Decl) -> Result<(), AllocError>
     ensures { OnOk result (names.new ≡ names.old ++ name_of_body decl.now.body) }
 {
-    match &decl.body {
+    match decl.body() {
         DeclBody::Implementation { name, .. } => {
             names.push(name.text.as_bytes())?;
             Ok(())
@@ -43,7 +43,7 @@ fn push_name<'a>(names: &mut Positions<'a>, decl: &'a Decl) -> Result<(), AllocE
 fn push_body<'a>(bodies: &mut Vec<Implemented<'a>>, decl: &'a Decl) -> Result<(), AllocError>
     ensures { OnOk result (bodies_seen bodies.new.items ≡ bodies_seen bodies.old.items ++ body_given decl.now.body) }
 {
-    match &decl.body {
+    match decl.body() {
         DeclBody::Implementation {
             signature,
             body,

@@ -10,7 +10,7 @@ use std::alloc::{AllocError, Global};
 pub(crate) fn function_name(decl: &Decl) -> Option<&Name>
     ensures { option_map (λ n. n.now.text) result ≡ function_name decl.now.body }
 {
-    match &decl.body {
+    match decl.body() {
         DeclBody::Function { name, .. } => Some(name),
         DeclBody::Const { .. } => None,
         DeclBody::Axiom(_) => None,

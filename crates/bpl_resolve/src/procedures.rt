@@ -189,7 +189,7 @@ fn push_procedure<'d, 'a>(
     requires { order.now ≡ in_number_order declared.now.environment.now }
     ensures { OnOk result (procs.new.items ≡ procs.old.items ++ procs_with implementations.now.names (bodies_seen implementations.now.bodies.items) declared.now.environment.now (counts_seen declared.now.counts) decl.now.body) }
 {
-    match &decl.body {
+    match decl.body() {
         DeclBody::Procedure {
             name,
             signature,

@@ -19,7 +19,7 @@ fn text_leads(
 ) -> Result<Vec<u64>, AllocError>
     ensures { IfOk result (λ v. v.items ≡ leads_of table.now count (decl_uses decl.now.body)) }
 {
-    let uses = decl_uses(alloc, &decl.body)?;
+    let uses = decl_uses(alloc, decl.body())?;
     leads_of(alloc, table, count, &uses)
 }
 
@@ -32,7 +32,7 @@ fn contract_leads(
 ) -> Result<Vec<u64>, AllocError>
     ensures { IfOk result (λ v. v.items ≡ leads_of table.now count (contract_uses decl.now.body)) }
 {
-    let uses = contract_uses(alloc, &decl.body)?;
+    let uses = contract_uses(alloc, decl.body())?;
     leads_of(alloc, table, count, &uses)
 }
 

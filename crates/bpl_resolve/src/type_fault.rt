@@ -287,7 +287,7 @@ fn first_fault_of<'a>(
     };
     for i in 0..decls.len() {
         let decl = &decls[i];
-        if let Some(fault) = fault_of_decl(alloc, dependencies, counts, &mut before, &decl.body)? {
+        if let Some(fault) = fault_of_decl(alloc, dependencies, counts, &mut before, decl.body())? {
             return Ok(Some(TypeFault {
                 kind: fault.kind,
                 decl: i,

@@ -176,7 +176,7 @@ pub fn declare_all<'a>(alloc: Global, decls: &'a [Decl]) -> Result<(Table<'a>, C
     };
     for i in 0..decls.len() {
         let decl = &decls[i];
-        counts = table.declare(counts, i, &decl.body)?;
+        counts = table.declare(counts, i, decl.body())?;
     }
     Ok((table, counts))
 }

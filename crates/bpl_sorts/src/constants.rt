@@ -74,7 +74,7 @@ pub(crate) fn uniques<'a>(
 {
     let mut found = Vec::new(alloc);
     for decl in decls {
-        push_in(&mut found, table, &decl.body)?;
+        push_in(&mut found, table, decl.body())?;
     }
     Ok(found)
 }
@@ -108,7 +108,7 @@ pub(crate) fn count_axioms(decls: &[Decl]) -> Result<usize, AllocError>
 {
     let mut axioms = 0;
     for decl in decls {
-        axioms = axioms_with(axioms, &decl.body)?;
+        axioms = axioms_with(axioms, decl.body())?;
     }
     Ok(axioms)
 }
@@ -149,12 +149,11 @@ fn carrier_axiom(
 ) -> Result<Decl, AllocError>
     ensures { IfOk result (λ d. d ≡ carrier_axiom axioms name.now carrier) }
 {
-    Ok(Decl {
-        name: axiom_name(alloc, axioms)?,
-        span: Span { start: 0, end: 0 },
-        source: Vec::new(alloc),
-        body: DeclBody::Axiom(equation(alloc, name, carrier)?),
-    })
+    let own_name = axiom_name(alloc, axioms)?;
+    let span = Span { start: 0, end: 0 };
+    let body = DeclBody::Axiom(equation(alloc, name, carrier)?);
+    let axiom = Decl::new(alloc, own_name, span, Vec::new(alloc), body)?;
+    Ok(axiom)
 }
 
 // Makes room for a count of this user type.

@@ -73,7 +73,7 @@ impl<'a> Implementations<'a> {
             bodies: Vec::new(alloc),
         };
         for decl in decls {
-            found.push(&decl.body)?;
+            found.push(decl.body())?;
         }
         Ok(found)
     }
@@ -173,7 +173,7 @@ fn types_with(
 {
     let mut procs = Vec::new(alloc);
     for decl in decls {
-        push_procedure(alloc, known, implementations, &decl.body, &mut procs)?;
+        push_procedure(alloc, known, implementations, decl.body(), &mut procs)?;
     }
     Ok(procs)
 }

@@ -1,5 +1,5 @@
 // The program's own declarations without user types.
-ghost use Rattle.std.specs.Prelude.{◌≡◌, IfOk};
+ghost use Rattle.std.specs.Prelude.{◌≡◌, unwrap_or, option_map, IfOk};
 ghost use Rattle.bpl_ast.specs.Statement.{constant};
 ghost use Rattle.bpl_ast.specs.DeclView.{body_of};
 ghost use Rattle.bpl_sorts.specs.UserTypes.{user_of};
@@ -33,36 +33,38 @@ fn replaced_constants(
     })
 }
 
-// A declaration, up to and with which there are so many user types.
+// What a declaration becomes, up to and with which there are so many user types, or `None` where it stays
+// as it is.
 fn replaced_body(
     alloc: Global,
     table: &Table,
     reading: Reading,
     users: u64,
     body: &DeclBody,
-) -> Result<DeclBody, AllocError>
-    ensures { IfOk result (λ b. body_of b ≡ replaced_body (stands_by reading) table.now users (body_of body.now)) }
+) -> Result<Option<DeclBody>, AllocError>
+    ensures { IfOk result (λ b. unwrap_or (option_map body_of b) (body_of body.now) ≡ replaced_body (stands_by reading) table.now users (body_of body.now)) }
 {
     match body {
         DeclBody::Const { unique, names, of } => {
-            replaced_constants(alloc, table, *unique, names, of)
+            let constants = replaced_constants(alloc, table, *unique, names, of)?;
+            Ok(Some(constants))
         }
         DeclBody::TypeName {
             name,
             synonym: None,
-        } => Ok(DeclBody::TypeName {
+        } => Ok(Some(DeclBody::TypeName {
             name: name.copy(alloc)?,
             synonym: Some(stands_by(alloc, reading, users, name.at)?),
-        }),
+        })),
         DeclBody::TypeName {
             name: _,
             synonym: Some(_),
-        } => body.copy(alloc),
-        DeclBody::Function { .. } => body.copy(alloc),
-        DeclBody::Axiom(_) => body.copy(alloc),
-        DeclBody::Var(_) => body.copy(alloc),
-        DeclBody::Procedure { .. } => body.copy(alloc),
-        DeclBody::Implementation { .. } => body.copy(alloc),
+        } => Ok(None),
+        DeclBody::Function { .. } => Ok(None),
+        DeclBody::Axiom(_) => Ok(None),
+        DeclBody::Var(_) => Ok(None),
+        DeclBody::Procedure { .. } => Ok(None),
+        DeclBody::Implementation { .. } => Ok(None),
     }
 }
 
@@ -75,16 +77,15 @@ fn replaced_decl(
 ) -> Result<Decl, AllocError>
     ensures { IfOk result (λ d. d ≡ record decl.now { body = replaced_body (stands_by reading) table.now users decl.now.body }) }
 {
-    Ok(Decl {
-        name: String::from_str(alloc, decl.name.as_str())?,
-        span: decl.span,
-        source: decl.source.clone()?,
-        body: replaced_body(alloc, table, reading, users, &decl.body)?,
-    })
+    let name = String::from_str(alloc, decl.name.as_str())?;
+    let source = decl.source.clone()?;
+    let body = replaced_body(alloc, table, reading, users, decl.body())?;
+    let made = decl.changed(alloc, name, source, body)?;
+    Ok(made)
 }
 
 /// The declarations without user types, for which something else stands, and without `unique` on
-/// their constants.
+/// their constants. Those that stay as they are have their bodies in common with these.
 pub(crate) fn replaced(
     alloc: Global,
     table: &Table,
@@ -96,7 +97,7 @@ pub(crate) fn replaced(
     let mut made = Vec::new(alloc);
     let mut users = 0;
     for decl in decls {
-        users = users_with(users, &decl.body)?;
+        users = users_with(users, decl.body())?;
         made.push(replaced_decl(alloc, table, reading, users, decl)?)?;
     }
     Ok(made)

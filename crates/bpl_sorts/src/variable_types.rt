@@ -101,7 +101,7 @@ pub(crate) fn const_types(
 {
     let mut types = Vec::new(alloc);
     for decl in decls {
-        push_consts(alloc, known, &decl.body, &mut types)?;
+        push_consts(alloc, known, decl.body(), &mut types)?;
     }
     Ok(types)
 }
@@ -135,7 +135,7 @@ pub(crate) fn global_types(
 {
     let mut types = Vec::new(alloc);
     for decl in decls {
-        push_globals(alloc, known, &decl.body, &mut types)?;
+        push_globals(alloc, known, decl.body(), &mut types)?;
     }
     Ok(types)
 }

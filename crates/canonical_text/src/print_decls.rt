@@ -210,8 +210,8 @@ pub fn print_lines(alloc: Global, decl: &Decl) -> Result<Vec<Vec<u8>>, AllocErro
     ensures { IfOk result (λ v. map (λ l. l.items) v.items ≡ lines decl.now.body) }
 {
     let mut page = Page::new(alloc);
-    print_head(&mut page, &decl.body)?;
-    print_tail(&mut page, &decl.body)?;
+    print_head(&mut page, decl.body())?;
+    print_tail(&mut page, decl.body())?;
     Ok(page.into_lines())
 }
 
@@ -230,7 +230,7 @@ pub fn print_contract(alloc: Global, decl: &Decl) -> Result<Vec<u8>, AllocError>
     ensures { IfOk result (λ v. v.items ≡ contract decl.now.body) }
 {
     let mut page = Page::new(alloc);
-    print_head(&mut page, &decl.body)?;
+    print_head(&mut page, decl.body())?;
     let mut out = Vec::new(alloc);
     append_lines(&mut out, &page.into_lines())?;
     Ok(out)

@@ -40,7 +40,7 @@ const MOST_REVISIONS: usize = 200;
 fn is_revision(alloc: Global, old: &Decl, new: &Decl) -> Result<bool, AllocError>
     ensures { IfOk result (λ b. IsTrue b → IsRevised old.now.body new.now.body) }
 {
-    is_revised(alloc, &old.body, &new.body)
+    is_revised(alloc, old.body(), new.body())
 }
 
 // What is new in the module, if the declaration is a revision of the one in whose place it comes, and

@@ -33,7 +33,7 @@ pub(crate) fn names_in<'a>(alloc: Global, texts: &'a [String]) -> Result<Positio
 pub(crate) fn is_axiom(decl: &Decl) -> bool
     ensures { result ≡ is_axiom decl.now.body }
 {
-    match &decl.body {
+    match decl.body() {
         DeclBody::Axiom(_) => true,
         DeclBody::Const { .. } => false,
         DeclBody::Var(_) => false,
@@ -102,7 +102,7 @@ fn axiom_name(alloc: Global, axioms: usize) -> Result<String, AllocError>
     Ok(name)
 }
 
-/// A copy, an axiom under its name where so many stand before it.
+/// A copy, an axiom under its name where so many stand before it. Both have one body in memory.
 pub(crate) fn renamed(alloc: Global, axioms: usize, decl: &Decl) -> Result<Decl, AllocError>
     requires { axioms < 2 ^ 64 - 1 }
     ensures { IfOk result (λ d. d ≡ renamed axioms decl.now) }
@@ -110,10 +110,8 @@ pub(crate) fn renamed(alloc: Global, axioms: usize, decl: &Decl) -> Result<Decl,
     if !is_axiom(decl) {
         return decl.copy(alloc);
     }
-    Ok(Decl {
-        name: axiom_name(alloc, axioms)?,
-        span: decl.span,
-        source: Vec::from_slice(alloc, &decl.source)?,
-        body: decl.body.copy(alloc)?,
-    })
+    let name = axiom_name(alloc, axioms)?;
+    let source = Vec::from_slice(alloc, &decl.source)?;
+    let numbered = decl.changed(alloc, name, source, None)?;
+    Ok(numbered)
 }

@@ -110,7 +110,7 @@ fn axioms_with(axioms: usize, decl: &Decl) -> usize
     if is_axiom(decl) { axioms + 1 } else { axioms }
 }
 
-// Copies, with the axioms numbered anew.
+// Copies, which have their bodies in common with these, with the axioms numbered anew.
 fn numbered(alloc: Global, decls: &[&Decl]) -> Result<Vec<Decl>, AllocError>
     ensures { IfOk result (λ v. v.items ≡ numbered 0 (decls_seen decls.now)) }
 {
@@ -124,7 +124,7 @@ fn numbered(alloc: Global, decls: &[&Decl]) -> Result<Vec<Decl>, AllocError>
 }
 
 /// The old declarations without the dropped ones, each put in its place, and the other puts behind
-/// them. Declarations are copied.
+/// them. Old and new declarations have their bodies in common.
 pub(crate) fn applied(
     alloc: Global,
     old: &[Decl],

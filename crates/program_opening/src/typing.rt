@@ -92,7 +92,7 @@ fn is_user_type(body: &DeclBody) -> bool
 pub fn has_user_types(decls: &[Decl]) -> bool
     ensures { result ≡ has_user_types decls.now }
 {
-    decls.iter().any(|decl| is_user_type(&decl.body))
+    decls.iter().any(|decl| is_user_type(decl.body()))
 }
 
 // What declarations without user types are: as they stand there are no carriers to tell.

@@ -51,7 +51,7 @@ fn push_found<'a>(parts: &mut Parts<'a>, found: Option<&'a Decl>) -> Result<(), 
     ensures { OnOk result (parts.new ≡ parts.old ++ parts_of_found (option_map (λ d. d.now) found.entry)) }
 {
     match found {
-        Some(decl) => push_parts(parts, &decl.body),
+        Some(decl) => push_parts(parts, decl.body()),
         None => Ok(()),
     }
 }

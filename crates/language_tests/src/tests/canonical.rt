@@ -52,7 +52,7 @@ fn expressions_keep_the_parentheses_that_they_need(rt: HostRuntime) -> Result<()
         assert!(rt; printed(&rt, rt.alloc(), &axiom)? == axiom, "{text:?}");
     }
     match declared(&rt, rt.alloc(), b"axiom ((a)) && (b);")?.first() {
-        Some(decl) => match &decl.body {
+        Some(decl) => match decl.body() {
             DeclBody::Axiom(formula) => {
                 let text = print_expression(rt.alloc(), formula)?;
                 assert_eq!(rt; text.as_slice(), b"a && b".as_slice());

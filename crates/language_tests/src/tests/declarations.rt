@@ -27,7 +27,7 @@ fn names_bytes_and_places(rt: HostRuntime) -> Result<(), Fail> {
         assert_eq!(&rt; (decl.span.start, decl.span.end), (*start, *end));
     }
     let place = match decls.get(2) {
-        Some(decl) => match &decl.body {
+        Some(decl) => match decl.body() {
             DeclBody::Axiom(formula) => (formula.at.line, formula.at.col),
             _ => (0, 0),
         },

@@ -1,5 +1,4 @@
-use Rattle.std.proofs.Common.{ap, Ok, Err}
-use Rattle.bpl_ast.specs.DeclView.{body_of}
+use Rattle.std.proofs.Common.{refl, Ok, Err}
 use Rattle.bpl_grammar.specs.ReadPrograms.{read_decls}
 use Rattle.bpl_parse.proofs.Programs.{known, stuck, ended, some_left, none_left, bounds, shorter, so_far}
 use Rattle.bpl_parse.proofs.program.declarations.Goals as goal
@@ -31,7 +30,7 @@ loop-rest-preserved c =
     let g = known c.args.text.now c.loop-rest.rest.now c.first_declaration-read.result.0 (Ok c.in-Ok.body) c.first_declaration-read.result.1 c.in-Ok.is c.first_declaration-read.ensures in
     so_far c.args.text.now c.args.tokens.now c.loop-rest.found.items c.loop-rest.axioms c.loop-rest.rest.now c.split_at.result.0.now c.split_at.result.1.now c.in-Ok.body c.first_declaration-read.result.1 c.start_of-start.result c.end_of-end.result
     c.loop-rest.invariant l g c.start_of-start.ensures c.end_of-end.ensures c.split_at.ensures.front c.split_at.ensures.back
-    c.push.new.self.items c.in_ok-further-in-Ok.further c.axioms_with-axioms.result (body_of c.further.inside.body) c.in_ok-push-in-Ok.ensures.items c.in_ok-further-in-Ok.ensures c.axioms_with-axioms.ensures (ap (λ d. d.body) c.further.view_is)
+    c.push.new.self.items c.in_ok-further-in-Ok.further c.axioms_with-axioms.result c.in_ok-further-in-Ok.further.body c.in_ok-push-in-Ok.ensures.items c.in_ok-further-in-Ok.ensures c.axioms_with-axioms.ensures refl
 
 pub returns-in-Err : goal.returns-in-Err
 returns-in-Err c =
