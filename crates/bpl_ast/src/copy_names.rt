@@ -28,6 +28,16 @@ pub fn copy_names(alloc: Global, names: &[Name]) -> Result<Vec<Name>, AllocError
     Ok(copies)
 }
 
+/// An equal name, or none.
+pub fn copy_optional_name(alloc: Global, name: &Option<Name>) -> Result<Option<Name>, AllocError>
+    ensures { IfOk result (λ n. n ≡ name.now) }
+{
+    match name {
+        Some(name) => Ok(Some(name.copy(alloc)?)),
+        None => Ok(None),
+    }
+}
+
 impl TypeParams {
     /// Equal type parameters.
     pub fn copy(&self, alloc: Global) -> Result<TypeParams, AllocError>

@@ -11,8 +11,11 @@ pub mod numeral;
 pub mod stmt;
 pub mod types;
 
-// Copies, and what is shared in place of being copied.
+// Copies, and what copies share.
+pub mod copy_decls;
+pub mod copy_exprs;
 pub mod copy_names;
+pub mod copy_stmts;
 pub mod shared_decls;
 
 pub use bv_base::place::{Place, Span};
