@@ -11,11 +11,22 @@ use std::marker::Model;
 
 /// The declarations of a program, with the table of their names, what leads to what, and how many names
 /// of each kind there are: made once for a program, it serves all that asks what is declared.
-#[derive(Drop)]
 pub struct Declarations<'a> {
     decls: &'a [Decl],
     dependencies: Dependencies<'a>,
     counts: Counts,
+}
+
+// Written out: a derived drop is proved again wherever a value is dropped.
+impl<'a> Drop for Declarations<'a> {
+    fn drop(self) {
+        let Declarations {
+            decls: _,
+            dependencies,
+            counts: _,
+        } = self;
+        drop(dependencies);
+    }
 }
 
 impl<'a> Model for Declarations<'a> {

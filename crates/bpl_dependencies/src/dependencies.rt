@@ -14,11 +14,24 @@ use std::alloc::{AllocError, Global};
 use std::marker::Model;
 
 /// What is declared, and what leads to what.
-#[derive(Drop)]
 pub struct Dependencies<'a> {
     environment: Environment<'a>,
     edges: Vec<Vec<usize>>,
     ranks: Vec<usize>,
+}
+
+// Written out: a derived drop is proved again wherever a value is dropped.
+impl<'a> Drop for Dependencies<'a> {
+    fn drop(self) {
+        let Dependencies {
+            environment,
+            edges,
+            ranks,
+        } = self;
+        drop(environment);
+        drop(edges);
+        drop(ranks);
+    }
 }
 
 impl<'a> Model for Dependencies<'a> {

@@ -17,10 +17,18 @@ pub struct Var<'a> {
 }
 
 /// Parameters and locals in order. Of several with one name the first counts.
-#[derive(Drop)]
 pub struct Vars<'a> {
     names: Positions<'a>,
     vars: Vec<Var<'a>>,
+}
+
+// Written out: a derived drop is proved again wherever a value is dropped.
+impl<'a> Drop for Vars<'a> {
+    fn drop(self) {
+        let Vars { names, vars } = self;
+        drop(names);
+        drop(vars);
+    }
 }
 
 impl<'a> Model for Vars<'a> {

@@ -10,10 +10,18 @@ use crate::types::Types;
 use std::marker::Model;
 
 /// A table with the sorts of its types, and which of its functions are logical.
-#[derive(Drop)]
 pub struct Environment<'a> {
     types: Types<'a>,
     logical: Vec<bool>,
+}
+
+// Written out: a derived drop is proved again wherever a value is dropped.
+impl<'a> Drop for Environment<'a> {
+    fn drop(self) {
+        let Environment { types, logical } = self;
+        drop(types);
+        drop(logical);
+    }
 }
 
 impl<'a> Model for Environment<'a> {

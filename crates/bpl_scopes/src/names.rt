@@ -9,10 +9,18 @@ use std::alloc::{AllocError, Global};
 use std::marker::Model;
 
 /// Names in the order in which they were put in, a name perhaps several times.
-#[derive(Drop)]
 pub struct Positions<'a> {
     names: Vec<&'a [u8]>,
     first: IndexMap<&'a [u8], usize>,
+}
+
+// Written out: a derived drop is proved again wherever a value is dropped.
+impl<'a> Drop for Positions<'a> {
+    fn drop(self) {
+        let Positions { names, first } = self;
+        drop(names);
+        drop(first);
+    }
 }
 
 impl<'a> Model for Positions<'a> {

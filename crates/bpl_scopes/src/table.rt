@@ -46,10 +46,18 @@ pub struct Entry<'a> {
 
 /// The one name space: the entries in the order of the text. Of several with one name the first
 /// counts.
-#[derive(Drop)]
 pub struct Table<'a> {
     positions: Positions<'a>,
     entries: Vec<Entry<'a>>,
+}
+
+// Written out: a derived drop is proved again wherever a value is dropped.
+impl<'a> Drop for Table<'a> {
+    fn drop(self) {
+        let Table { positions, entries } = self;
+        drop(positions);
+        drop(entries);
+    }
 }
 
 impl<'a> Model for Table<'a> {

@@ -22,11 +22,24 @@ use std::alloc::{AllocError, Global};
 use std::marker::Model;
 
 /// A table, with the sorts for which its synonyms stand.
-#[derive(Drop)]
 pub struct Types<'a> {
     table: Table<'a>,
     sorts: Vec<Option<Shape>>,
     nothing: Positions<'a>,
+}
+
+// Written out: a derived drop is proved again wherever a value is dropped.
+impl<'a> Drop for Types<'a> {
+    fn drop(self) {
+        let Types {
+            table,
+            sorts,
+            nothing,
+        } = self;
+        drop(table);
+        drop(sorts);
+        drop(nothing);
+    }
 }
 
 impl<'a> Model for Types<'a> {

@@ -15,10 +15,18 @@ use std::alloc::{AllocError, Global};
 use std::marker::Model;
 
 /// Labels, of which the one that was put in last goes first, a label perhaps several times.
-#[derive(Drop)]
 pub struct LabelStack<'a> {
     labels: Vec<&'a [u8]>,
     counts: IndexMap<&'a [u8], usize>,
+}
+
+// Written out: a derived drop is proved again wherever a value is dropped.
+impl<'a> Drop for LabelStack<'a> {
+    fn drop(self) {
+        let LabelStack { labels, counts } = self;
+        drop(labels);
+        drop(counts);
+    }
 }
 
 impl<'a> Model for LabelStack<'a> {
