@@ -51,13 +51,30 @@ const ORDER: [Rule; 13] = [
 
 /// What the rules keep from step to step, which may be tried on any branches: facts of which none closes
 /// one, the facts that were listed last with the counts of their atoms, and the room of other lists.
-#[derive(Drop)]
 pub struct Tables {
     pub apart: Apart,
     pub shared: Shared,
     pub instances: Instances,
     pub leads: Leads,
     pub places: Slots<usize>,
+}
+
+// Written out: a derived drop is proved again wherever a value is dropped.
+impl Drop for Tables {
+    fn drop(self) {
+        let Tables {
+            apart,
+            shared,
+            instances,
+            leads,
+            places,
+        } = self;
+        drop(apart);
+        drop(shared);
+        drop(instances);
+        drop(leads);
+        drop(places);
+    }
 }
 
 impl Tables {
