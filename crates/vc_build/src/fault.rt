@@ -1,5 +1,6 @@
 // Why goals aren't built.
 use std::alloc::{AllocError, AllocFailed};
+use thiserror::Error;
 
 /// The most goals of a program.
 pub const COUNT_LIMIT: u64 = 65_536;
@@ -17,9 +18,10 @@ pub enum Measure {
 }
 
 /// Why goals aren't built.
-#[derive(Debug, Drop)]
+#[derive(Debug, Drop, Error)]
 pub enum BuildFault {
     /// A limit is exceeded.
+    #[error("the program has too many goals, or these too long texts: {number}")]
     Large {
         /// Which one.
         what: Measure,
@@ -27,6 +29,7 @@ pub enum BuildFault {
         number: u64,
     },
     /// There is no memory for them.
+    #[error("out of memory")]
     Memory,
 }
 
