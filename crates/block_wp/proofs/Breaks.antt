@@ -1,6 +1,6 @@
 -- An assignment that breaks an assertion along a path from block 0 makes the goal of its equations false.
-use Rattle.std.specs.Prelude.{◌≡◌, ℕ, ◌+◌, ◌<◌, ◌≤◌, nat_eq, Bool, true, false, cond, is_some, IsTrue, List, [], ◌∷◌, ◌++◌, map, length, take, reverse, filter, slice_get, unwrap_or, position}
-use Rattle.std.specs.List.{AllByRecursion, position_or_len}
+use Rattle.std.specs.Prelude.{◌≡◌, ℕ, ◌+◌, ◌<◌, ◌≤◌, nat_eq, Bool, true, false, cond, is_some, IsTrue, List, [], ◌∷◌, ◌++◌, map, length, take, reverse, filter, slice_get, unwrap_or, position, ◌==◌}
+use Rattle.std.specs.List.{AllByRecursion, position_or_len, list_any}
 use Rattle.std.proofs.Common.{arith, ap, ◌∙◌}
 use Rattle.std.proofs.lemmas.Bool.{eq-eqb, ne_eqb}
 use Rattle.std.proofs.lemmas.List.{map-append, length-map, length-append, reverse-append}
@@ -20,7 +20,7 @@ use Rattle.flow_core.specs.declared.command.Command.TheVariants.{Assert}
 use Rattle.flow_core.specs.State.{State, HoldsIn, AllHold}
 use Rattle.passive_form.specs.declared.passive.Passive.{Passive}
 use Rattle.passive_form.specs.Passive.{passive_block_at, formula_in, formulas, BreaksIn, BreaksAlong}
-use Rattle.block_wp.specs.Equations.{among, reaching, block_call, successors, block_equation, assertion_equation, block_definition, formula_of, body_of, equations}
+use Rattle.block_wp.specs.Equations.{reaching, block_call, successors, block_equation, assertion_equation, block_definition, formula_of, body_of, equations}
 use Rattle.block_wp.specs.Broken.{EdgesRise, FormulasAreSorted, EquationsBreak}
 use Rattle.block_wp.proofs.SortedBlocks.{sorted_block, sorted_take, sorted_at}
 use Rattle.block_wp.proofs.Frame.{frame}
@@ -103,8 +103,8 @@ module _ (g : Passive) (defs : List Def) (rises : EdgesRise g.blocks) (sorted : 
       let cs = (passive_block_at g.blocks b).commands in
       let next = (passive_block_at g.blocks b).next in
       equation_fails frees (calls_after bs) (has_call bs) (formulas cs) (successors given blocks (passive_block_at g.blocks b)) (all_hold bs cs (sorted_block defs g sorted b) held)
-      (conjunction_fails frees (calls_after bs) (has_call bs) (block_call given blocks) c fails (filter (among next) (reverse blocks))
-      (in_filter (among next) c (is_among next c edge) (reverse blocks) (in_reverse c blocks there)))
+      (conjunction_fails frees (calls_after bs) (has_call bs) (block_call given blocks) c fails (filter (λ x. list_any (λ y. y == x) next) (reverse blocks))
+      (in_filter (λ x. list_any (λ y. y == x) next) c (is_among next c edge) (reverse blocks) (in_reverse c blocks there)))
 
   module _ (b : ℕ) (s : Split b blocks) where
     front_calls : calls_after blocks ≡ calls_from frees given (map definition s.front ++ definition b ∷ map definition s.rest) (calls_of frees defs)

@@ -1,6 +1,6 @@
 -- The equations of a rising graph whose formulas are well sorted are well sorted: each block's definition calls only those of blocks above it.
 use Rattle.std.specs.Prelude.{◌≡◌, refl, ◌⊎◌, ℕ, zero, suc, ◌+◌, ◌<◌, nat_eq, ◌==◌, Bool, true, false, cond, IsTrue, List, [], ◌∷◌, ◌++◌, map, length, take, reverse, filter, slice_index_or, slice_get, Option, Some, None, unwrap_or, position, All, Contains}
-use Rattle.std.specs.List.{AllByRecursion, position_or_len}
+use Rattle.std.specs.List.{AllByRecursion, position_or_len, list_any}
 use Rattle.std.proofs.Common.{arith, ap, ◌∙◌}
 use Rattle.std.proofs.lemmas.Bool.{eqb-true, and_from, and_parts, or_cases, cond_both}
 use Rattle.std.proofs.lemmas.List.{map-append, length-append, reverse-append}
@@ -17,7 +17,7 @@ use Rattle.logic_laws.proofs.SortFrame.{within_more, within_itself, within_none,
 use Rattle.flow_core.specs.declared.command.Command.{Command}
 use Rattle.passive_form.specs.declared.passive.Passive.{Passive}
 use Rattle.passive_form.specs.Passive.{passive_block_at, formula_in, formulas}
-use Rattle.block_wp.specs.Equations.{among, reaching, block_call, conjunction, successors, negations, block_equation, assertion_equation, block_definition, formula_of, body_of, equations}
+use Rattle.block_wp.specs.Equations.{reaching, block_call, conjunction, successors, negations, block_equation, assertion_equation, block_definition, formula_of, body_of, equations}
 use Rattle.block_wp.specs.Broken.{EdgesRise, FormulasAreSorted}
 use Rattle.block_wp.proofs.Junctions.{In}
 use Rattle.block_wp.proofs.Reaching.{in_one}
@@ -32,9 +32,9 @@ bodies_joined vars below (d ∷ xs) ys h k =
     and_from (is d.sort (sort_of vars below (reverse d.params) d.body)) (bodies_sorted vars (below ++ d ∷ []) (xs ++ ys)) p.0
     (bodies_joined vars (below ++ d ∷ []) xs ys p.1 (subst (λ bs. bodies_sorted vars bs ys ≡ true) (sym (append_assoc below (d ∷ []) xs)) k))
 
-pub from_among : (x : ℕ) (xs : List ℕ) → among xs x ≡ true → In x xs
+pub from_among : (x : ℕ) (xs : List ℕ) → list_any (λ y. y == x) xs ≡ true → In x xs
 from_among x [] h = let c : false ≡ true = h in absurd cc
-from_among x (y ∷ xs) h = elim (or_cases (y == x) (among xs x) h) [ inl e ↦ inl (eqb-true y x e) | inr k ↦ inr (from_among x xs k) ]
+from_among x (y ∷ xs) h = elim (or_cases (y == x) (list_any (λ y. y == x) xs) h) [ inl e ↦ inl (eqb-true y x e) | inr k ↦ inr (from_among x xs k) ]
 
 pub to_contains : (x : ℕ) (xs : List ℕ) → In x xs → Contains xs x
 to_contains x [] h = absurd h
@@ -140,8 +140,8 @@ module _ (g : Passive) (defs : List Def) (rises : EdgesRise g.blocks) (sorted : 
       let cs = (passive_block_at g.blocks b).commands in
       let next = (passive_block_at g.blocks b).next in
       let falls : Falling (front ++ b ∷ rest) = subst Falling e (reaching_falls g k) in
-      let each : AllByRecursion (λ c. IsFormula g.vars (defs ++ map definition front) (block_call given blocks c)) (filter (among next) (reverse blocks))
-      = filtered (among next) (λ c. IsFormula g.vars (defs ++ map definition front) (block_call given blocks c)) (reverse blocks) (λ c there passes.
+      let each : AllByRecursion (λ c. IsFormula g.vars (defs ++ map definition front) (block_call given blocks c)) (filter (λ x. list_any (λ y. y == x) next) (reverse blocks))
+      = filtered (λ x. list_any (λ y. y == x) next) (λ c. IsFormula g.vars (defs ++ map definition front) (block_call given blocks c)) (reverse blocks) (λ c there passes.
       let above : b < c = rises b c (to_contains c next (from_among c next passes)) in
       let in_all : In c (front ++ b ∷ rest) = subst (In c) e (out_reverse c blocks there) in
       let before : position_or_len (nat_eq c) (front ++ b ∷ rest) < length front = in_front c front (b ∷ rest) (before_it b c front rest falls above in_all) in
@@ -150,8 +150,8 @@ module _ (g : Passive) (defs : List Def) (rises : EdgesRise g.blocks) (sorted : 
       let p : place c ≡ position_or_len (nat_eq c) blocks = place_of c blocks (omega (there_before, longer, length-append front (b ∷ rest), arith)) in
       call_sorted front c (omega (p, there_before, arith))) in
       equation_sorted g.vars (defs ++ map definition front) (formulas cs) (successors given blocks (passive_block_at g.blocks b)) (formulas_over g.vars defs (map definition front) cs (sorted_block defs g sorted b))
-      (conjunction_sorted g.vars (defs ++ map definition front) (map (block_call given blocks) (filter (among next) (reverse blocks)))
-      (mapped_formulas g.vars (defs ++ map definition front) (block_call given blocks) (filter (among next) (reverse blocks)) each))
+      (conjunction_sorted g.vars (defs ++ map definition front) (map (block_call given blocks) (filter (λ x. list_any (λ y. y == x) next) (reverse blocks)))
+      (mapped_formulas g.vars (defs ++ map definition front) (block_call given blocks) (filter (λ x. list_any (λ y. y == x) next) (reverse blocks)) each))
 
   body_sorted : (front : List ℕ) (b : ℕ) (rest : List ℕ) → blocks ≡ front ++ b ∷ rest → IsFormula g.vars (defs ++ map definition front) (body_of g given blocks k at b)
   body_sorted front b rest e = cond_both (nat_eq b k) (assertion_equation (passive_block_at g.blocks b) at) (block_equation (formulas (passive_block_at g.blocks b).commands) (successors given blocks (passive_block_at g.blocks b)))
@@ -171,7 +171,7 @@ module _ (g : Passive) (defs : List Def) (rises : EdgesRise g.blocks) (sorted : 
       (subst (λ ds. bodies_sorted g.vars ds (map definition blocks) ≡ true) (append-nil defs) (bodies_from blocks [] refl))
 
   pub goal_sorted : IsFormula g.vars (equations g defs k at).defs (equations g defs k at).goal
-  goal_sorted = cond_both (among blocks 0) (block_call given blocks 0) (truth true) (IsFormula g.vars (defs ++ map definition blocks))
+  goal_sorted = cond_both (list_any (λ y. y == 0) blocks) (block_call given blocks 0) (truth true) (IsFormula g.vars (defs ++ map definition blocks))
       (λ t. let s = split 0 blocks (from_among 0 blocks t) in
       let longer : length blocks ≡ length (s.front ++ 0 ∷ s.rest) = ap length s.joined in
       let shorter : position_or_len (nat_eq 0) blocks < length blocks = omega (s.place, longer, length-append s.front (0 ∷ s.rest), arith) in

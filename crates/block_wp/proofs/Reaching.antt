@@ -7,7 +7,7 @@ use mathlib.Core.Path.{subst, sym}
 use mathlib.Core.Logic.{inl, inr}
 use Rattle.passive_form.specs.declared.passive.Passive.{Passive}
 use Rattle.passive_form.specs.Passive.{passive_block_at}
-use Rattle.block_wp.specs.Equations.{among, reaching_from}
+use Rattle.block_wp.specs.Equations.{reaching_from}
 use Rattle.block_wp.proofs.Junctions.{In}
 
 pub in_left : (x : ℕ) (xs ys : List ℕ) → In x xs → In x (xs ++ ys)
@@ -25,10 +25,10 @@ in_one x (z ∷ xs) ys (inl e) = inl (inl e)
 in_one x (z ∷ xs) ys (inr h) = elim (in_one x xs ys h) [ inl k ↦ inl (inr k) | inr k ↦ inr k ]
 
 -- the tests
-pub is_among : (xs : List ℕ) (x : ℕ) → In x xs → among xs x ≡ true
+pub is_among : (xs : List ℕ) (x : ℕ) → In x xs → list_any (λ y. y == x) xs ≡ true
 is_among [] x h = absurd h
-is_among (y ∷ xs) x (inl e) = or_left (y == x) (among xs x) (eq-eqb y x e)
-is_among (y ∷ xs) x (inr h) = or_right (y == x) (among xs x) (is_among xs x h)
+is_among (y ∷ xs) x (inl e) = or_left (y == x) (list_any (λ y. y == x) xs) (eq-eqb y x e)
+is_among (y ∷ xs) x (inr h) = or_right (y == x) (list_any (λ y. y == x) xs) (is_among xs x h)
 
 pub contained : (xs : List ℕ) (x k : ℕ) → k < length xs → slice_index_or xs k x ≡ x → In x xs
 contained [] x k below e = absurd (omega (below, arith))
@@ -42,7 +42,7 @@ some_passes p (y ∷ xs) x (inr h) e = or_right (p y) (list_any p xs) (some_pass
 
 module _ (g : Passive) where
   abbrev pub leads : ℕ → List ℕ → Bool
-  leads n bs = list_any (among (passive_block_at g.blocks n).next) bs
+  leads n bs = list_any (λ x. list_any (λ y. y == x) (passive_block_at g.blocks n).next) bs
 
   abbrev pub joins : ℕ → List ℕ → List ℕ
   joins n bs = cond (leads n bs) (bs ++ n ∷ []) bs
@@ -92,5 +92,5 @@ module _ (g : Passive) where
     where
       joins_itself : n ≡ b → In c bs → In b (joins n bs)
       joins_itself e there =
-          let leading : leads n bs ≡ true = some_passes (among (passive_block_at g.blocks n).next) bs c there (is_among (passive_block_at g.blocks n).next c (subst (λ m. In c (passive_block_at g.blocks m).next) (sym e) edge)) in
+          let leading : leads n bs ≡ true = some_passes (λ x. list_any (λ y. y == x) (passive_block_at g.blocks n).next) bs c there (is_among (passive_block_at g.blocks n).next c (subst (λ m. In c (passive_block_at g.blocks m).next) (sym e) edge)) in
           subst (λ t. In b (cond t (bs ++ n ∷ []) bs)) (sym leading) (in_right b bs (n ∷ []) (inl e))

@@ -1,6 +1,6 @@
 -- The numbers of a list that stand in a falling one, sorted and each once, are those of the falling one, turned round, that stand in the list.
-use Rattle.std.specs.Prelude.{◌≡◌, refl, ℕ, ◌<◌, ◌≤◌, eqb, Bool, true, false, cond, List, [], ◌∷◌, ◌++◌, filter, reverse, Contains}
-use Rattle.std.specs.List.{AllByRecursion, dedup}
+use Rattle.std.specs.Prelude.{◌≡◌, refl, ℕ, ◌<◌, ◌≤◌, eqb, Bool, true, false, cond, List, [], ◌∷◌, ◌++◌, filter, reverse, Contains, ◌==◌}
+use Rattle.std.specs.List.{AllByRecursion, dedup, list_any}
 use Rattle.std.specs.List.Sorted.{IsPermutation, IsSorted, IsStrictlySortedBy}
 use Rattle.std.specs.Ordering.{nat_cmp}
 use Rattle.std.specs.Cmp.{nat_cmp_is}
@@ -13,7 +13,6 @@ use Rattle.std.proofs.lemmas.List.Sorted.{Contains-permutation, IsPermutation-sy
 use Rattle.std.proofs.lemmas.Map.Keys.{IsStrictlyIncreasing-dedup, sorted_from_strictly_increasing}
 use mathlib.Core.Path.{subst, sym}
 use mathlib.Core.Logic.{inl, inr}
-use Rattle.block_wp.specs.Equations.{among}
 use Rattle.block_wp.specs.Numbers.{Falling}
 use Rattle.block_wp.proofs.Junctions.{In}
 use Rattle.block_wp.proofs.Reaching.{is_among, contained}
@@ -117,19 +116,19 @@ from_sorted (x ∷ xs) h = (all_above x xs h.0, from_sorted xs h.1)
 to_in : (x : ℕ) (xs : List ℕ) → Contains xs x → In x xs
 to_in x xs c = contained xs x c.0 c.1 c.2
 
-pub sorted_once : (blocks next those sorted : List ℕ) → Falling blocks → those ≡ filter (among blocks) next → IsPermutation those sorted → IsSorted nat_cmp sorted → dedup eqb sorted ≡ filter (among next) (reverse blocks)
-sorted_once blocks next those sorted falls is perm rises = same_rising (dedup eqb sorted) (filter (among next) (reverse blocks)) (from_sorted (dedup eqb sorted) (sorted_from_strictly_increasing (dedup eqb sorted) (IsStrictlyIncreasing-dedup sorted rises))) (rising_filter (among next) (reverse blocks) (turned_rises blocks falls)) there back
+pub sorted_once : (blocks next those sorted : List ℕ) → Falling blocks → those ≡ filter (λ x. list_any (λ y. y == x) blocks) next → IsPermutation those sorted → IsSorted nat_cmp sorted → dedup eqb sorted ≡ filter (λ x. list_any (λ y. y == x) next) (reverse blocks)
+sorted_once blocks next those sorted falls is perm rises = same_rising (dedup eqb sorted) (filter (λ x. list_any (λ y. y == x) next) (reverse blocks)) (from_sorted (dedup eqb sorted) (sorted_from_strictly_increasing (dedup eqb sorted) (IsStrictlyIncreasing-dedup sorted rises))) (rising_filter (λ x. list_any (λ y. y == x) next) (reverse blocks) (turned_rises blocks falls)) there back
   where
-    there : (x : ℕ) → In x (dedup eqb sorted) → In x (filter (among next) (reverse blocks))
+    there : (x : ℕ) → In x (dedup eqb sorted) → In x (filter (λ x. list_any (λ y. y == x) next) (reverse blocks))
     there x h =
         let c = Contains-from_dedup eqb sorted x (to_contains x (dedup eqb sorted) h) in
         let d = Contains-permutation sorted those x (IsPermutation-sym those sorted perm) c in
-        let r = out_filter (among blocks) x next (subst (In x) is (to_in x those d)) in
-        in_filter (among next) x (is_among next x r.0) (reverse blocks) (in_reverse x blocks (from_among x blocks r.1))
+        let r = out_filter (λ x. list_any (λ y. y == x) blocks) x next (subst (In x) is (to_in x those d)) in
+        in_filter (λ x. list_any (λ y. y == x) next) x (is_among next x r.0) (reverse blocks) (in_reverse x blocks (from_among x blocks r.1))
 
-    back : (x : ℕ) → In x (filter (among next) (reverse blocks)) → In x (dedup eqb sorted)
+    back : (x : ℕ) → In x (filter (λ x. list_any (λ y. y == x) next) (reverse blocks)) → In x (dedup eqb sorted)
     back x h =
-        let r = out_filter (among next) x (reverse blocks) h in
-        let mine = in_filter (among blocks) x (is_among blocks x (out_reverse x blocks r.0)) next (from_among x next r.1) in
+        let r = out_filter (λ x. list_any (λ y. y == x) next) x (reverse blocks) h in
+        let mine = in_filter (λ x. list_any (λ y. y == x) blocks) x (is_among blocks x (out_reverse x blocks r.0)) next (from_among x next r.1) in
         let c = Contains-permutation those sorted x perm (to_contains x those (subst (In x) (sym is) mine)) in
         to_in x (dedup eqb sorted) (Contains-dedup_nat sorted x c)

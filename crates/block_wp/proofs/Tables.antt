@@ -8,7 +8,7 @@ use mathlib.Core.Path.{subst, sym}
 use mathlib.Core.Logic.{inl, inr}
 use Rattle.passive_form.specs.declared.passive.Passive.{Passive}
 use Rattle.passive_form.specs.Passive.{passive_block_at}
-use Rattle.block_wp.specs.Equations.{among, reaching_from}
+use Rattle.block_wp.specs.Equations.{reaching_from}
 use Rattle.block_wp.specs.declared.reached.Reached.{Reached}
 use Rattle.block_wp.specs.Numbers.{Falling, number_in, with_lower, IsNumbered}
 use Rattle.block_wp.proofs.Junctions.{In}
@@ -182,30 +182,30 @@ alone_numbered given last =
     subst (λ n. IsNumberedFrom last (record { given = given; last = last; blocks = last ∷ []; table = Some n ∷ [] })) (let e : given + 0 ≡ given = omega arith in e) (lower_numbered last (nothing given last) true (nothing_numbered given last))
 
 -- whether a number stands in the list, by its place
-among_placed : (c : ℕ) (xs : List ℕ) → place c xs < length xs → among xs c ≡ true
+among_placed : (c : ℕ) (xs : List ℕ) → place c xs < length xs → list_any (λ y. y == c) xs ≡ true
 among_placed c [] h = absurd (omega (h, arith))
 among_placed c (x ∷ xs) h = by_test (nat_eq c x) refl h (among_placed c xs)
   where
-    by_test : (t : Bool) → nat_eq c x ≡ t → cond (not t) (1 + place c xs) 0 < suc (length xs) → (place c xs < length xs → among xs c ≡ true) → among (x ∷ xs) c ≡ true
-    by_test true e k f = or_left (x == c) (among xs c) (eq-eqb x c (sym (eqb-true c x e)))
-    by_test false e k f = or_right (x == c) (among xs c) (f (omega (k, arith)))
+    by_test : (t : Bool) → nat_eq c x ≡ t → cond (not t) (1 + place c xs) 0 < suc (length xs) → (place c xs < length xs → list_any (λ y. y == c) xs ≡ true) → list_any (λ y. y == c) (x ∷ xs) ≡ true
+    by_test true e k f = or_left (x == c) (list_any (λ y. y == c) xs) (eq-eqb x c (sym (eqb-true c x e)))
+    by_test false e k f = or_right (x == c) (list_any (λ y. y == c) xs) (f (omega (k, arith)))
 
-not_among : (c : ℕ) (xs : List ℕ) → length xs ≤ place c xs → among xs c ≡ false
+not_among : (c : ℕ) (xs : List ℕ) → length xs ≤ place c xs → list_any (λ y. y == c) xs ≡ false
 not_among c [] h = refl
 not_among c (x ∷ xs) h = by_test (nat_eq c x) refl h (not_among c xs)
   where
-    by_test : (t : Bool) → nat_eq c x ≡ t → suc (length xs) ≤ cond (not t) (1 + place c xs) 0 → (length xs ≤ place c xs → among xs c ≡ false) → among (x ∷ xs) c ≡ false
+    by_test : (t : Bool) → nat_eq c x ≡ t → suc (length xs) ≤ cond (not t) (1 + place c xs) 0 → (length xs ≤ place c xs → list_any (λ y. y == c) xs ≡ false) → list_any (λ y. y == c) (x ∷ xs) ≡ false
     by_test true e k f = absurd (omega (k, arith))
-    by_test false e k f = ap (λ t. t || among xs c) (ne_eqb x c (λ same. eqb-false c x e (sym same))) ∙ f (omega (k, arith))
+    by_test false e k f = ap (λ t. t || list_any (λ y. y == c) xs) (ne_eqb x c (λ same. eqb-false c x e (sym same))) ∙ f (omega (k, arith))
 
-pub has_number : (r : Reached) → IsNumbered r → (c : ℕ) → is_some (number_in r c) ≡ among r.blocks c
+pub has_number : (r : Reached) → IsNumbered r → (c : ℕ) → is_some (number_in r c) ≡ list_any (λ y. y == c) r.blocks
 has_number r h c = ap is_some (h.numbers c) ∙ (elim (cases_lt (place c r.blocks) (length r.blocks)) [
   | inl k ↦ ap (λ t. is_some (option_map (λ p. r.given + p) (cond t (Some (place c r.blocks)) None))) (lt-ltb (place c r.blocks) (length r.blocks) k) ∙ sym (among_placed c r.blocks k)
   | inr k ↦ ap (λ t. is_some (option_map (λ p. r.given + p) (cond t (Some (place c r.blocks)) None))) (le-ltb (place c r.blocks) (length r.blocks) k) ∙ sym (not_among c r.blocks k)
 ])
 
 -- those that have a number are those that are among the blocks
-pub have_numbers : (r : Reached) → IsNumbered r → (λ c. is_some (number_in r c)) ≡ among r.blocks
+pub have_numbers : (r : Reached) → IsNumbered r → (λ c. is_some (number_in r c)) ≡ (λ x. list_any (λ y. y == x) r.blocks)
 have_numbers r h = λ j c. has_number r h c j
 
 some_passing : (p : ℕ → Bool) (xs : List ℕ) → list_any p xs ≡ true → (x : ℕ) × In x xs × (p x ≡ true)
@@ -215,11 +215,11 @@ some_passing p (x ∷ xs) h = elim (or_cases (p x) (list_any p xs) h) [
   | inr k ↦ let r = some_passing p xs k in (r.0, inr r.1, r.2)
 ]
 
-meets : (xs ys : List ℕ) → list_any (among xs) ys ≡ true → list_any (among ys) xs ≡ true
-meets xs ys h = let r = some_passing (among xs) ys h in some_passes (among ys) xs r.0 (from_among r.0 xs r.2) (is_among ys r.0 r.1)
+meets : (xs ys : List ℕ) → list_any (λ x. list_any (λ y. y == x) xs) ys ≡ true → list_any (λ x. list_any (λ y. y == x) ys) xs ≡ true
+meets xs ys h = let r = some_passing (λ x. list_any (λ y. y == x) xs) ys h in some_passes (λ x. list_any (λ y. y == x) ys) xs r.0 (from_among r.0 xs r.2) (is_among ys r.0 r.1)
 
-pub joins_same : (r : Reached) → IsNumbered r → (next : List ℕ) → list_any (λ c. is_some (number_in r c)) next ≡ list_any (among next) r.blocks
-joins_same r h next = ap (λ p. list_any p next) (have_numbers r h) ∙ same_truth (list_any (among r.blocks) next) (list_any (among next) r.blocks) (meets r.blocks next) (meets next r.blocks)
+pub joins_same : (r : Reached) → IsNumbered r → (next : List ℕ) → list_any (λ c. is_some (number_in r c)) next ≡ list_any (λ x. list_any (λ y. y == x) next) r.blocks
+joins_same r h next = ap (λ p. list_any p next) (have_numbers r h) ∙ same_truth (list_any (λ x. list_any (λ y. y == x) r.blocks) next) (list_any (λ x. list_any (λ y. y == x) next) r.blocks) (meets r.blocks next) (meets next r.blocks)
 
 -- a step to the next lower block
 module _ (g : Passive) (high low : ℕ) (next_lower : high ≡ suc low) (r r' : Reached) (h : IsNumberedFrom high r) (joins : Bool) (number : ℕ)

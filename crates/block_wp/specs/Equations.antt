@@ -1,5 +1,5 @@
 -- The equations of the blocks from which an assertion is reached, one definition for each block.
-use Rattle.std.specs.Prelude.{ℕ, zero, suc, ◌+◌, nat_eq, ◌==◌, Bool, true, cond, List, [], ◌∷◌, ◌++◌, map, length, reverse, take, position, filter, unwrap_or, slice_get, Option, Some, None}
+use Rattle.std.specs.Prelude.{ℕ, zero, suc, ◌+◌, nat_eq, ◌==◌, true, cond, List, [], ◌∷◌, ◌++◌, map, length, reverse, take, position, filter, unwrap_or, slice_get, Option, Some, None}
 use Rattle.std.specs.List.{list_any}
 use Rattle.logic_core.specs.Tree.{boolean, Tree, truth, call, negation, all, some, no_trees}
 use Rattle.logic_core.specs.View.{trees_of}
@@ -10,14 +10,10 @@ use Rattle.passive_form.specs.declared.passive.PassiveBlock.{PassiveBlock}
 use Rattle.passive_form.specs.declared.passive.Passive.{Passive}
 use Rattle.passive_form.specs.Passive.{passive_block_at, formula_in, formulas}
 
--- whether the number stands in the list
-abbrev pub among : List ℕ → ℕ → Bool
-among xs x = list_any (λ y. y == x) xs
-
 -- of the n blocks of lowest number, those with an edge to one of bs join bs, the highest first
 abbrev pub reaching_from : Passive → ℕ → List ℕ → List ℕ
 reaching_from g zero bs = bs
-reaching_from g (suc n) bs = reaching_from g n (cond (list_any (among (passive_block_at g.blocks n).next) bs) (bs ++ n ∷ []) bs)
+reaching_from g (suc n) bs = reaching_from g n (cond (list_any (λ x. list_any (λ y. y == x) (passive_block_at g.blocks n).next) bs) (bs ++ n ∷ []) bs)
 
 -- the blocks from which k is reached, k among them, the highest first; every edge rises
 abbrev pub reaching : Passive → ℕ → List ℕ
@@ -37,7 +33,7 @@ module _ (given : ℕ) (blocks : List ℕ) where
 
   -- the successors among these blocks, in rising order: their conjunction, or the one alone
   abbrev pub successors : PassiveBlock → Tree
-  successors b = conjunction (map block_call (filter (among b.next) (reverse blocks)))
+  successors b = conjunction (map block_call (filter (λ x. list_any (λ y. y == x) b.next) (reverse blocks)))
 
 abbrev pub negations : List Tree → List Tree
 negations ts = map negation ts
@@ -72,5 +68,5 @@ equations g defs k at =
     let blocks = reaching g k in
     record {
       defs = defs ++ map (λ b. block_definition (body_of g (length defs) blocks k at b)) blocks;
-      goal = cond (among blocks 0) (block_call (length defs) blocks 0) (truth true);
+      goal = cond (list_any (λ y. y == 0) blocks) (block_call (length defs) blocks 0) (truth true);
     }

@@ -1,7 +1,8 @@
 // The equations of an assertion.
-ghost use Rattle.std.specs.Prelude.{◌≡◌, ◌++◌, cond, true, map, IfOk};
+ghost use Rattle.std.specs.Prelude.{◌≡◌, ◌++◌, cond, true, map, IfOk, ◌==◌};
+ghost use Rattle.std.specs.List.{list_any};
 ghost use Rattle.logic_core.specs.Tree.{truth};
-ghost use Rattle.block_wp.specs.Equations.{among, block_call, block_definition, body_of, equations};
+ghost use Rattle.block_wp.specs.Equations.{block_call, block_definition, body_of, equations};
 ghost use Rattle.block_wp.specs.Numbers.{IsNumbered};
 
 use crate::bodies::definition;
@@ -15,7 +16,7 @@ use std::alloc::{AllocError, Global};
 // Block 0's application, or true where it has no definition.
 fn goal(alloc: Global, reached: &Reached) -> Term
     requires { IsNumbered reached.now }
-    ensures { result ≡ cond (among reached.now.blocks 0) (block_call reached.now.given reached.now.blocks 0) (truth true) }
+    ensures { result ≡ cond (list_any (λ y. y == 0) reached.now.blocks) (block_call reached.now.given reached.now.blocks 0) (truth true) }
 {
     if reached.has(0) {
         reached.block_call(alloc, 0)

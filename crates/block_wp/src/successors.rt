@@ -1,6 +1,7 @@
 // The successors of a block among those from which another is reached.
-ghost use Rattle.std.specs.Prelude.{◌≡◌, ◌+◌, nat_eq, is_some, unwrap_or, position, filter, reverse, map, IfOk};
-ghost use Rattle.block_wp.specs.Equations.{among, block_call, conjunction};
+ghost use Rattle.std.specs.Prelude.{◌≡◌, ◌+◌, nat_eq, is_some, unwrap_or, position, filter, reverse, map, IfOk, ◌==◌};
+ghost use Rattle.std.specs.List.{list_any};
+ghost use Rattle.block_wp.specs.Equations.{block_call, conjunction};
 ghost use Rattle.block_wp.specs.Numbers.{number_in, IsNumbered};
 
 use crate::formulas::conjunction;
@@ -12,7 +13,7 @@ impl Reached {
     /// Whether the block has a definition.
     pub fn has(&self, block: u64) -> bool
         requires { IsNumbered self.now }
-        ensures { result ≡ among self.now.blocks block }
+        ensures { result ≡ list_any (λ y. y == block) self.now.blocks }
     {
         self.number(block).is_some()
     }
@@ -52,7 +53,7 @@ impl Reached {
     // Those of the blocks that have a definition, in rising order, each once.
     fn rising(&self, alloc: Global, blocks: &[u64]) -> Result<Vec<u64>, AllocError>
         requires { IsNumbered self.now }
-        ensures { IfOk result (λ v. v.items ≡ filter (among blocks.now) (reverse self.now.blocks)) }
+        ensures { IfOk result (λ v. v.items ≡ filter (λ x. list_any (λ y. y == x) blocks.now) (reverse self.now.blocks)) }
     {
         let mut those = self.among(alloc, blocks)?;
         those.sort_unstable();
@@ -76,7 +77,7 @@ impl Reached {
     /// conjunction, or the one alone.
     pub fn successors(&self, alloc: Global, next: &[u64]) -> Result<Term, AllocError>
         requires { IsNumbered self.now }
-        ensures { IfOk result (λ t. t ≡ conjunction (map (block_call self.now.given self.now.blocks) (filter (among next.now) (reverse self.now.blocks)))) }
+        ensures { IfOk result (λ t. t ≡ conjunction (map (block_call self.now.given self.now.blocks) (filter (λ x. list_any (λ y. y == x) next.now) (reverse self.now.blocks)))) }
     {
         let rising = self.rising(alloc, next)?;
         let calls = self.block_calls(alloc, rising.as_slice())?;

@@ -1,7 +1,8 @@
 -- How long a text's two parts are: the program has no more bytes than the text, and so have the lines behind it, one line feed more at most.
-use Rattle.std.proofs.Common.{◌≡◌, ℕ, ◌+◌, ◌≤◌, Bool, true, false, cond, List, [], ◌∷◌, ◌++◌, length, map, refl, ap, arith}
+use Rattle.std.proofs.Common.{◌≡◌, ℕ, ◌+◌, ◌≤◌, Bool, true, false, cond, List, [], ◌∷◌, ◌++◌, length, map, refl, sym, ap, ◌∙◌, arith}
 use Rattle.std.proofs.lemmas.List.{length-append}
 use Rattle.recheck_report.specs.Lines.{is_feed, onto, pieces, without_feed, lines}
+use Rattle.recheck_report.proofs.Pieces.{lines_are}
 use Rattle.recheck_report.specs.Parts.{is_mark, before_mark, after_mark, program_in, lines_in}
 
 -- the bytes of pieces
@@ -78,5 +79,5 @@ after_is_less (p ∷ ps) = after_cond (is_mark p) p ps (after_is_less ps)
 
 pub proofs_are_shorter : (text proofs : List ℕ) → lines proofs ≡ lines_in text → length proofs ≤ length text + 1
 proofs_are_shorter text proofs e =
-    let same : lines_bytes (pieces proofs) ≡ lines_bytes (after_mark (pieces text)) = ap ended_in e in
+    let same : lines_bytes (pieces proofs) ≡ lines_bytes (after_mark (pieces text)) = ap ended_in (sym (lines_are proofs) ∙ e) in
     omega (arith, same, at_least proofs, after_is_less (pieces text), at_most text)

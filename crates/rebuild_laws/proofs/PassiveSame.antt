@@ -1,5 +1,5 @@
 -- Passive graphs that rename one another, one to one, have the same obligations.
-use Rattle.std.specs.Prelude.{◌≡◌, refl, ◌⊎◌, ℕ, zero, suc, ◌+◌, ◌-◌, ◌<◌, ◌≤◌, nat_eq, nat_lt, Bool, true, false, cond, List, [], ◌∷◌, ◌++◌, map, length, take, filter, reverse, position, slice_get, Option, Some, None, option_map, unwrap_or}
+use Rattle.std.specs.Prelude.{◌≡◌, refl, ◌⊎◌, ℕ, zero, suc, ◌+◌, ◌-◌, ◌<◌, ◌≤◌, nat_eq, nat_lt, Bool, true, false, cond, List, [], ◌∷◌, ◌++◌, map, length, take, filter, reverse, position, slice_get, Option, Some, None, option_map, unwrap_or, ◌==◌}
 use Rattle.std.specs.List.{AllByRecursion, list_any, position_from}
 use Rattle.std.proofs.Common.{ap, sym, subst, arith, ◌∙◌}
 use Rattle.std.proofs.lemmas.Bool.Decides.{nat_tests}
@@ -20,7 +20,7 @@ use Rattle.logic_laws.proofs.SortedNumbers.{HasVariable, HasDefinition, mentions
 use Rattle.flow_core.specs.declared.command.Command.{Command}
 use Rattle.passive_form.specs.declared.passive.Passive.{Passive}
 use Rattle.passive_form.specs.Passive.{passive_block_at, formula_in, formulas}
-use Rattle.block_wp.specs.Equations.{among, reaching_from, reaching, block_call, conjunction, successors, negations, block_equation, formula_of, assertion_equation, block_definition, body_of}
+use Rattle.block_wp.specs.Equations.{reaching_from, reaching, block_call, conjunction, successors, negations, block_equation, formula_of, assertion_equation, block_definition, body_of}
 use Rattle.obligation_text.proofs.Lists.{variables_have, calls_have}
 use Rattle.vc_build.specs.Goals.{sequent_at, obligation_at}
 use Rattle.obligation_text.specs.Canonical.{canonical}
@@ -115,7 +115,7 @@ module _ (V C : ℕ → Type 0) where
 
 grown : (g : Passive) (n : ℕ) (bs : List ℕ) → 0 < length bs → 0 < length (reaching_from g n bs)
 grown g zero bs h = h
-grown g (suc n) bs h = grown g n (cond (list_any (among (passive_block_at g.blocks n).next) bs) (bs ++ n ∷ []) bs) (by (list_any (among (passive_block_at g.blocks n).next) bs) bs h)
+grown g (suc n) bs h = grown g n (cond (list_any (λ x. list_any (λ y. y == x) (passive_block_at g.blocks n).next) bs) (bs ++ n ∷ []) bs) (by (list_any (λ x. list_any (λ y. y == x) (passive_block_at g.blocks n).next) bs) bs h)
   where
     by : (b : Bool) (bs : List ℕ) → 0 < length bs → 0 < length (cond b (bs ++ n ∷ []) bs)
     by true [] k = absurd (omega (k, arith))
@@ -134,8 +134,8 @@ module _ (new_def new_var old_def old_var : ℕ → ℕ) (D V : ℕ → Type 0) 
   reached_same : (n : ℕ) (bs : List ℕ) → reaching_from h n bs ≡ reaching_from g n bs
   reached_same zero bs = refl
   reached_same (suc n) bs =
-      ap (λ ns. reaching_from h n (cond (list_any (among ns) bs) (bs ++ n ∷ []) bs)) (next n)
-      ∙ reached_same n (cond (list_any (among (passive_block_at g.blocks n).next) bs) (bs ++ n ∷ []) bs)
+      ap (λ ns. reaching_from h n (cond (list_any (λ x. list_any (λ y. y == x) ns) bs) (bs ++ n ∷ []) bs)) (next n)
+      ∙ reached_same n (cond (list_any (λ x. list_any (λ y. y == x) (passive_block_at g.blocks n).next) bs) (bs ++ n ∷ []) bs)
 
   module _ (k at : ℕ) (sorted : IsWellSorted (sequent_at g ds xs k at)) where
     abbrev rs : List ℕ
@@ -201,9 +201,9 @@ module _ (new_def new_var old_def old_var : ℕ → ℕ) (D V : ℕ → Type 0) 
 
     successors_new : (b : ℕ) → successors (length es) rs (passive_block_at h.blocks b) ≡ both_renamed new new_var (successors (length ds) rs (passive_block_at g.blocks b))
     successors_new b =
-        ap (λ ns. conjunction (map (block_call (length es) rs) (filter (among ns) (reverse rs)))) (next b)
-        ∙ ap conjunction (sym (calls_new (filter (among (passive_block_at g.blocks b).next) (reverse rs))))
-        ∙ sym (conjunction_renewed new new_var (map (block_call (length ds) rs) (filter (among (passive_block_at g.blocks b).next) (reverse rs))))
+        ap (λ ns. conjunction (map (block_call (length es) rs) (filter (λ x. list_any (λ y. y == x) ns) (reverse rs)))) (next b)
+        ∙ ap conjunction (sym (calls_new (filter (λ x. list_any (λ y. y == x) (passive_block_at g.blocks b).next) (reverse rs))))
+        ∙ sym (conjunction_renewed new new_var (map (block_call (length ds) rs) (filter (λ x. list_any (λ y. y == x) (passive_block_at g.blocks b).next) (reverse rs))))
 
     assertion_new : (b : ℕ) → assertion_equation (passive_block_at h.blocks b) at ≡ both_renamed new new_var (assertion_equation (passive_block_at g.blocks b) at)
     assertion_new b =
@@ -257,7 +257,7 @@ module _ (new_def new_var old_def old_var : ℕ → ℕ) (D V : ℕ → Type 0) 
         by : (c : Bool) → EachHas V Each (cond c (assertion_equation (passive_block_at g.blocks b) at) (block_equation (made_of b) (successors (length ds) rs (passive_block_at g.blocks b))))
         by true = assertion_covered b
         by false = negated_has V Each (made_of b) (successors (length ds) rs (passive_block_at g.blocks b)) (made_covered b)
-            (conjunction_has V Each (map (block_call (length ds) rs) (filter (among (passive_block_at g.blocks b).next) (reverse rs))) (calls_covered (filter (among (passive_block_at g.blocks b).next) (reverse rs))))
+            (conjunction_has V Each (map (block_call (length ds) rs) (filter (λ x. list_any (λ y. y == x) (passive_block_at g.blocks b).next) (reverse rs))) (calls_covered (filter (λ x. list_any (λ y. y == x) (passive_block_at g.blocks b).next) (reverse rs))))
 
     abbrev mine : ℕ → Def
     mine b = block_definition (body_of g (length ds) rs k at b)
@@ -304,15 +304,15 @@ module _ (new_def new_var old_def old_var : ℕ → ℕ) (D V : ℕ → Type 0) 
           lower = each_more V (λ c. Each c × (c < f)) V (Lower f) (λ v q. q) (lower_later f b) (mine x).body (both_have V (λ v. Unit {0}) Each (λ c. c < f) (mine x).body (body_covered x) less);
         }
 
-    goal_new : cond (among rs 0) (block_call (length es) rs 0) (truth true) ≡ both_renamed new new_var (cond (among rs 0) (block_call (length ds) rs 0) (truth true))
-    goal_new = by (among rs 0)
+    goal_new : cond (list_any (λ y. y == 0) rs) (block_call (length es) rs 0) (truth true) ≡ both_renamed new new_var (cond (list_any (λ y. y == 0) rs) (block_call (length ds) rs 0) (truth true))
+    goal_new = by (list_any (λ y. y == 0) rs)
       where
         by : (b : Bool) → cond b (block_call (length es) rs 0) (truth true) ≡ both_renamed new new_var (cond b (block_call (length ds) rs 0) (truth true))
         by true = sym (call_new 0)
         by false = refl
 
-    goal_covered : EachHas V Each (cond (among rs 0) (block_call (length ds) rs 0) (truth true))
-    goal_covered = by (among rs 0)
+    goal_covered : EachHas V Each (cond (list_any (λ y. y == 0) rs) (block_call (length ds) rs 0) (truth true))
+    goal_covered = by (list_any (λ y. y == 0) rs)
       where
         by : (b : Bool) → EachHas V Each (cond b (block_call (length ds) rs 0) (truth true))
         by true = (call_covered 0, tt)
@@ -323,7 +323,7 @@ module _ (new_def new_var old_def old_var : ℕ → ℕ) (D V : ℕ → Type 0) 
       vars = h.vars;
       defs = es ++ map (λ b. block_definition (body_of h (length es) bs k at b)) bs;
       axioms = ys;
-      goal = cond (among bs 0) (block_call (length es) bs 0) (truth true);
+      goal = cond (list_any (λ y. y == 0) bs) (block_call (length es) bs 0) (truth true);
     }
 
     pub obligation_same : obligation_at h es ys k at ≡ obligation_at g ds xs k at

@@ -1,8 +1,9 @@
 -- No line of a text is longer than the text.
-use Rattle.std.proofs.Common.{ℕ, suc, ◌^◌, ◌<◌, ◌≤◌, arith, Bool, true, false, cond, List, [], ◌∷◌, length, map}
+use Rattle.std.proofs.Common.{ℕ, suc, ◌^◌, ◌<◌, ◌≤◌, arith, Bool, true, false, cond, List, [], ◌∷◌, length, map, sym, subst}
 use Rattle.std.specs.List.{AllByRecursion}
 use Rattle.recheck_report.specs.Lines.{is_feed, onto, pieces, without_feed, lines, first_line, later_lines}
 use Rattle.recheck_report.specs.AnswerView.{AreShort}
+use Rattle.recheck_report.proofs.Pieces.{lines_are}
 
 abbrev AreWithin : ℕ → List (List ℕ) → Type 0
 AreWithin n ps = AllByRecursion (λ p. length p ≤ n) ps
@@ -36,7 +37,7 @@ each_short n [] below h = tt
 each_short n (p ∷ ps) below h = ((let first = h.0 in let line = line_within p in omega (arith, first, line, below)), each_short n ps below h.1)
 
 pub lines_short : (text : List ℕ) → length text < 2 ^ 32 → AreShort (lines text)
-lines_short text below = each_short (length text) (pieces text) below (pieces_within text)
+lines_short text below = subst AreShort (sym (lines_are text)) (each_short (length text) (pieces text) below (pieces_within text))
 
 pub first_short : (ls : List (List ℕ)) → AreShort ls → length (first_line ls) < 2 ^ 32
 first_short [] h = omega arith

@@ -1,9 +1,7 @@
--- The lines of a text: each ends at a line feed, which is no part of it, or at the end of the text, where at least one byte stands before that.
-use Rattle.std.specs.Prelude.{ℕ, List, [], ◌∷◌, map}
+-- The lines of a text, the first of them, and those behind it.
+use Rattle.std.specs.Prelude.{ℕ, List, [], ◌∷◌}
+pub use Rattle.bv_base.specs.Lines.{lines}
 pub use Rattle.recheck_report.specs.Program.{is_feed, onto, pieces, without_feed}
-
-abbrev pub lines : List ℕ → List (List ℕ)
-lines text = map without_feed (pieces text)
 
 abbrev pub first_line : List (List ℕ) → List ℕ
 first_line [] = []
