@@ -75,3 +75,4 @@ pub mod BareStatements
 pub mod BareProcedures
 pub mod SameExpressionsAlike
 pub mod ReachClosed
+pub mod ElseLists

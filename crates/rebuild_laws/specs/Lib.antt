@@ -8,3 +8,4 @@ pub mod Twins
 pub mod Resolved
 pub mod Declared
 pub mod SameButForPlaces
+pub mod ElseLists

@@ -2,6 +2,7 @@
 ghost use Rattle.rebuild_laws.specs.CanonicalForms.{RenamedHaveOneForm, RenamedHaveOneFormWithTriggers};
 ghost use Rattle.rebuild_laws.specs.Procedures.{BodiesWithoutGotosGoAlike, CorrespondingHaveEqualGoals, CorrespondingHaveOneObligations};
 ghost use Rattle.rebuild_laws.specs.DependencyTexts.{DependencyTextsTell};
+ghost use Rattle.rebuild_laws.specs.ElseLists.{ElseListsMakeNoDifference};
 ghost use Rattle.rebuild_laws.specs.Unplaced.{AlikeWhereverTheyStand};
 
 use bpl_goto::laws::{remove_gotos_keeps_failures, remove_gotos_stays_typed};
@@ -54,4 +55,10 @@ pub fn dependency_texts_tell()
 /// Bodies that go alike over new numbers do so wherever they stand.
 pub fn alike_wherever_they_stand()
     ensures { AlikeWhereverTheyStand }
+{}
+
+/// Whether an else list stands behind a branch, also an empty one, makes no difference to executions and
+/// to the blocks of a graph; nor does it to obligations, by the law on procedures that correspond.
+pub fn else_lists_make_no_difference()
+    ensures { ElseListsMakeNoDifference }
 {}
