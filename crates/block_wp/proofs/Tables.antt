@@ -205,7 +205,7 @@ has_number r h c = ap is_some (h.numbers c) ∙ (elim (cases_lt (place c r.block
 ])
 
 -- those that have a number are those that are among the blocks
-pub have_numbers : (r : Reached) → IsNumbered r → (λ c. is_some (number_in r c)) ≡ (λ x. list_any (λ y. y == x) r.blocks)
+pub have_numbers : (r : Reached) → IsNumbered r → ◌≡◌ {A = ℕ → Bool} (λ c. is_some (number_in r c)) (λ x. list_any (λ y. y == x) r.blocks)
 have_numbers r h = λ j c. has_number r h c j
 
 some_passing : (p : ℕ → Bool) (xs : List ℕ) → list_any p xs ≡ true → (x : ℕ) × In x xs × (p x ≡ true)
