@@ -28,7 +28,7 @@ pub mod carriers;
 // What the readings tell of types, and what a program can tell of carriers.
 pub mod laws;
 
-pub use carriers::{CarrierFault, check_carriers, first_carrier_fault};
-pub use erased::erase;
+pub use carriers::{CarrierFault, check_carriers, first_carrier_fault, first_carrier_fault_over};
+pub use erased::{erase, erase_over};
 pub use readings::Reading;
 pub use value_types::{Ty, Types};

@@ -2,6 +2,7 @@
 ghost use Rattle.std.specs.Prelude.{◌≡◌, ◌<◌, length, false, None, IfOk};
 ghost use Rattle.bpl_ast.specs.DeclView.{body_of};
 ghost use Rattle.bpl_declaration_faults.specs.DeclFaults.{fault_of};
+ghost use Rattle.bpl_scopes.specs.Scopes.{table_of};
 ghost use Rattle.bpl_goto.specs.Forward.{AllGoForward};
 ghost use Rattle.bpl_resolve.specs.Elaborate.{module_of};
 ghost use Rattle.fault_text.specs.FaultView.{SourcesAreShort};
@@ -14,8 +15,8 @@ ghost use Rattle.program_opening.specs.OpenedView.{IsTypedAs};
 use bpl_ast::{Decl, DeclBody, Program};
 use bpl_model::Module;
 use bpl_resolve::{ResolveFault, resolve};
-use bpl_scopes::TypeKind;
-use bpl_sorts::{erase, first_carrier_fault};
+use bpl_scopes::{Table, TypeKind, declare_all};
+use bpl_sorts::{erase_over, first_carrier_fault_over};
 use bv_base::place::Place;
 use fault_text::{Written, fault_in_decl, written_of_program};
 use std::alloc::{AllocError, Global};
@@ -49,14 +50,20 @@ fn written_of_carrier(
 
 // What declarations are whose erased ones have no fault and this module.
 #[tactic(auto, using(crate::proofs::Openings::carriers_told, crate::proofs::Openings::carriers_right, crate::proofs::Openings::carrier_there))]
-fn with_carriers(alloc: Global, program: &Program, module: Module) -> Result<Typed, AllocError>
+fn with_carriers(
+    alloc: Global,
+    table: &Table,
+    program: &Program,
+    module: Module,
+) -> Result<Typed, AllocError>
+    requires table { table.now ≡ table_of program.now }
     requires sources { SourcesAreShort program.now }
     requires faultless { fault_of (erased program.now) ≡ None }
     requires module { «module» ≡ module_of (erased program.now) }
     requires forward { AllGoForward «module» }
     ensures { IfOk result (λ t. IsTypedAs (typing_by_carriers program.now (carrier_fault program.now)) t) }
 {
-    match first_carrier_fault(alloc, program)? {
+    match first_carrier_fault_over(alloc, table, program)? {
         None => Ok(Typed::Module(module)),
         Some((decl, at)) => Ok(Typed::Refused(written_of_carrier(
             alloc,
@@ -118,9 +125,10 @@ fn check_erased(alloc: Global, program: &Program) -> Result<Typed, AllocError>
     requires { SourcesAreShort program.now }
     ensures { IfOk result (λ t. IsTypedAs (typing program.now) t) }
 {
-    let erased = erase(alloc, program)?;
+    let (table, _) = declare_all(alloc, &program.decls)?;
+    let erased = erase_over(alloc, &table, program)?;
     match resolve(alloc, &erased) {
-        Ok(module) => with_carriers(alloc, program, module),
+        Ok(module) => with_carriers(alloc, &table, program, module),
         Err(ResolveFault::Fault(fault)) => {
             Ok(Typed::Refused(written_of_program(alloc, &erased.decls, fault)?))
         }
