@@ -1,0 +1,1 @@
+function f(x: int): int { f(x) }

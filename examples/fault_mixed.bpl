@@ -1,0 +1,1 @@
+axiom true && true || true;

@@ -1,0 +1,1 @@
+procedure S() { assert 1 <; }

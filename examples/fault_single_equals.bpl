@@ -1,0 +1,1 @@
+procedure S() { x = 1; }

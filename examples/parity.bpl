@@ -1,0 +1,1 @@
+procedure T(x: int) { assert 2 * x != 1; }
