@@ -1,3 +1,4 @@
 pub mod Ended
 pub mod Rare
 pub mod Tables
+pub mod First

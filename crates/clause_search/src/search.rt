@@ -5,9 +5,12 @@ ghost use Rattle.proof_core.specs.Accepted.{IsAccepted};
 ghost use Rattle.tableau.specs.RunView.{run_of, answer_seen};
 ghost use Rattle.tableau.specs.Search.{run, answer};
 ghost use Rattle.tableau.specs.Settled.{settled_by};
+ghost use Rattle.numbered_branches.specs.Branches.{branch_at, IsBranchOver};
 
+use crate::first::first_branch;
 use crate::run::run;
-use logic_core::def::{Def, copy_defs};
+use logic_core::copy::copy_sorts;
+use logic_core::def::{Signature, copy_defs};
 use logic_core::fault::NormalFault;
 use numbered_branches::branch::Branch;
 use numbered_facts::Store;
@@ -19,17 +22,22 @@ use std::sync::Arc;
 use tableau::ended::{Answer, Run, Verdict};
 use tableau::search::found;
 use tableau::settled::Settled;
-use tableau::start::first_branch;
-use tableau_branch::branch::Branch as TreeBranch;
+
+/// A store without terms, over the signature.
+fn store_over(alloc: Global, signature: &Signature) -> Result<Store, AllocError>
+    ensures { IfOk result (λ s. s ≡ record { terms = []; vars = signature.now.vars; defs = signature.now.defs }) }
+{
+    let vars = copy_sorts(alloc, signature.vars())?;
+    let defs = copy_defs(alloc, signature.defs())?;
+    Ok(Store::new(Terms::new(alloc), vars, defs))
+}
 
 /// Searches from one branch, by number.
-fn run_from(alloc: Global, defs: &[Def], turns: u64, first: &TreeBranch) -> Result<Run, AllocError>
-    ensures { IfOk result (λ r. run_of r ≡ run defs.now turns turns (first.now ∷ [])) }
+fn run_from(store: &mut Store, turns: u64, first: Branch) -> Result<Run, AllocError>
+    requires { IsBranchOver store.old.terms first }
+    ensures { IfOk result (λ r. run_of r ≡ run store.old.defs turns turns (branch_at store.old.terms first ∷ [])) }
 {
-    let copies = copy_defs(alloc, defs)?;
-    let mut store = Store::new(Terms::new(alloc), Vec::new(alloc), copies);
-    let branch = Branch::of(&mut store, first)?;
-    let ended = run(&mut store, turns, branch)?;
+    let ended = run(store, turns, first)?;
     ended.tree(store.terms())
 }
 
@@ -39,10 +47,10 @@ pub fn answer(alloc: Global, obligation: &Obligation, turns: u64) -> Result<Answ
     ensures exact { IfOk result (λ a. answer_seen a ≡ answer obligation.now turns) }
     ensures accepted { IfOk result (λ a. IfSome a.proof (IsAccepted obligation.now)) }
 {
-    let signature = obligation.signature();
-    match first_branch(alloc, obligation) {
+    let mut store = store_over(alloc, obligation.signature())?;
+    match first_branch(&mut store, obligation) {
         Ok(first) => {
-            let ended = run_from(alloc, signature.defs(), turns, &first)?;
+            let ended = run_from(&mut store, turns, first)?;
             let verdict = ended.verdict;
             let proof = found(alloc, ended)?;
             Ok(Answer { verdict, proof })

@@ -1,32 +1,40 @@
-use Rattle.std.proofs.Common.{◌≡◌, ap, sym, ◌∙◌, ℕ, Option, Some, [], ◌∷◌}
+use Rattle.std.proofs.Common.{◌≡◌, ap, sym, ◌∙◌, ℕ, List, Option, Some, [], ◌∷◌}
 use Rattle.std.specs.Prelude.{option_map}
-use Rattle.logic_core.specs.Def.{Signature, Obligation}
+use Rattle.logic_core.specs.Def.{Def, Signature, Obligation}
 use Rattle.proof_core.specs.Proof.{Proof}
 use Rattle.proof_core.specs.Context.{start}
 use Rattle.tableau_branch.specs.Branch.{Branch}
 use Rattle.tableau.specs.RunView.{run_of}
 use Rattle.tableau.specs.Search.{Answer, answer, answer_of, first_branch, Run, run, found_by}
 use Rattle.tableau.proofs.Starting.{answers, answers_wide, answer_accepted}
+use Rattle.numbered_terms.specs.Stored.{Numbered}
+use Rattle.numbered_branches.specs.Branches.{branch_at}
 use Rattle.clause_search.proofs.search.answer.Goals as goal
 
 -- the answer of a run from the first branch
-from_run : (o : Obligation) (s : Signature) (n : ℕ) (b : Branch) (r : Run) (found : Option Proof) → s ≡ record { vars = o.vars; defs = o.defs } → option_map first_branch (start o) ≡ Some b → r ≡ run s.defs n n (b ∷ []) → found ≡ found_by r.verdict r.moves → answer o n ≡ record { verdict = r.verdict; found = found }
-from_run o s n b r found is_s h is_r is_found =
-    let over : run s.defs n n (b ∷ []) ≡ run o.defs n n (b ∷ []) = ap (λ (x : Signature). run x.defs n n (b ∷ [])) is_s in
+from_run : (o : Obligation) (ds : List Def) (n : ℕ) (b : Branch) (r : Run) (found : Option Proof) → ds ≡ o.defs → option_map first_branch (start o) ≡ Some b → r ≡ run ds n n (b ∷ []) → found ≡ found_by r.verdict r.moves → answer o n ≡ record { verdict = r.verdict; found = found }
+from_run o ds n b r found are h is_r is_found =
+    let over : run ds n n (b ∷ []) ≡ run o.defs n n (b ∷ []) = ap (λ (es : List Def). run es n n (b ∷ [])) are in
     answers o n b h ∙ ap answer_of (sym (is_r ∙ over)) ∙ ap (λ p. record { verdict = r.verdict; found = p }) (sym is_found)
+
+pub first_branch-requires-clause-vars : goal.first_branch-requires-clause-vars
+first_branch-requires-clause-vars c = ap (λ (n : Numbered). n.vars) c.in_ok-store.ensures ∙ ap (λ (s : Signature). s.vars) c.signature.ensures.value
+
+pub first_branch-requires-clause-defs : goal.first_branch-requires-clause-defs
+first_branch-requires-clause-defs c = ap (λ (n : Numbered). n.defs) c.in_ok-store.ensures ∙ ap (λ (s : Signature). s.defs) c.signature.ensures.value
 
 pub returns-in_ok-proof-in-Ok-clause-exact : goal.returns-in_ok-proof-in-Ok-clause-exact
 returns-in_ok-proof-in-Ok-clause-exact c =
-    let s = c.signature-signature.result.now in
-    let ran : run_of c.in_ok-ended-in-Ok.ended ≡ run s.defs c.args.turns c.args.turns (c.in-Ok.first ∷ []) = rw c.defs.ensures at c.in_ok-ended-in-Ok.ensures in
-    sym (from_run c.args.obligation.now s c.args.turns c.in-Ok.first (run_of c.in_ok-ended-in-Ok.ended) c.in_ok-proof-in-Ok.proof c.signature-signature.ensures.value c.in-Ok.ensures ran c.in_ok-proof-in-Ok.ensures)
+    let m = c.first_branch.new.store in let b = branch_at m.terms c.in-Ok.first in
+    let are = c.in-Ok.ensures.grows.defs ∙ ap (λ (n : Numbered). n.defs) c.in_ok-store.ensures ∙ ap (λ (s : Signature). s.defs) c.signature.ensures.value in
+    sym (from_run c.args.obligation.now m.defs c.args.turns b (run_of c.in_ok-ended-in-Ok.ended) c.in_ok-proof-in-Ok.proof are c.in-Ok.ensures.gives c.in_ok-ended-in-Ok.ensures c.in_ok-proof-in-Ok.ensures)
 
 pub returns-in_ok-proof-in-Ok-clause-accepted : goal.returns-in_ok-proof-in-Ok-clause-accepted
 returns-in_ok-proof-in-Ok-clause-accepted c =
-    let s = c.signature-signature.result.now in
-    let ran : run_of c.in_ok-ended-in-Ok.ended ≡ run s.defs c.args.turns c.args.turns (c.in-Ok.first ∷ []) = rw c.defs.ensures at c.in_ok-ended-in-Ok.ensures in
-    let exact = from_run c.args.obligation.now s c.args.turns c.in-Ok.first (run_of c.in_ok-ended-in-Ok.ended) c.in_ok-proof-in-Ok.proof c.signature-signature.ensures.value c.in-Ok.ensures ran c.in_ok-proof-in-Ok.ensures in
-    answer_accepted c.args.obligation.now c.args.turns c.signature-signature.ensures.sorted c.in_ok-proof-in-Ok.proof (ap (λ (a : Answer). a.found) exact)
+    let m = c.first_branch.new.store in let b = branch_at m.terms c.in-Ok.first in
+    let are = c.in-Ok.ensures.grows.defs ∙ ap (λ (n : Numbered). n.defs) c.in_ok-store.ensures ∙ ap (λ (s : Signature). s.defs) c.signature.ensures.value in
+    let exact = from_run c.args.obligation.now m.defs c.args.turns b (run_of c.in_ok-ended-in-Ok.ended) c.in_ok-proof-in-Ok.proof are c.in-Ok.ensures.gives c.in_ok-ended-in-Ok.ensures c.in_ok-proof-in-Ok.ensures in
+    answer_accepted c.args.obligation.now c.args.turns c.signature.ensures.sorted c.in_ok-proof-in-Ok.proof (ap (λ (a : Answer). a.found) exact)
 
 pub returns-in-Err-Wide-clause-exact : goal.returns-in-Err-Wide-clause-exact
-returns-in-Err-Wide-clause-exact c = sym (answers_wide c.args.obligation.now c.args.turns (c.in-Err-Wide.ensures c.in-Err-Wide.field-0-is))
+returns-in-Err-Wide-clause-exact c = sym (answers_wide c.args.obligation.now c.args.turns (c.in-Err-Wide.ensures.gives c.in-Err-Wide.field-0-is))
