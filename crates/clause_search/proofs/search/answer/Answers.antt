@@ -23,14 +23,14 @@ first_branch-requires-clause-vars c = ap (λ (n : Numbered). n.vars) c.in_ok-sto
 pub first_branch-requires-clause-defs : goal.first_branch-requires-clause-defs
 first_branch-requires-clause-defs c = ap (λ (n : Numbered). n.defs) c.in_ok-store.ensures ∙ ap (λ (s : Signature). s.defs) c.signature.ensures.value
 
-pub returns-in_ok-proof-in-Ok-clause-exact : goal.returns-in_ok-proof-in-Ok-clause-exact
-returns-in_ok-proof-in-Ok-clause-exact c =
+pub returns-in-Ok-clause-exact : goal.returns-in-Ok-clause-exact
+returns-in-Ok-clause-exact c =
     let m = c.first_branch.new.store in let b = branch_at m.terms c.in-Ok.first in
     let are = c.in-Ok.ensures.grows.defs ∙ ap (λ (n : Numbered). n.defs) c.in_ok-store.ensures ∙ ap (λ (s : Signature). s.defs) c.signature.ensures.value in
     sym (from_run c.args.obligation.now m.defs c.args.turns b (run_of c.in_ok-ended-in-Ok.ended) c.in_ok-proof-in-Ok.proof are c.in-Ok.ensures.gives c.in_ok-ended-in-Ok.ensures c.in_ok-proof-in-Ok.ensures)
 
-pub returns-in_ok-proof-in-Ok-clause-accepted : goal.returns-in_ok-proof-in-Ok-clause-accepted
-returns-in_ok-proof-in-Ok-clause-accepted c =
+pub returns-in-Ok-clause-accepted : goal.returns-in-Ok-clause-accepted
+returns-in-Ok-clause-accepted c =
     let m = c.first_branch.new.store in let b = branch_at m.terms c.in-Ok.first in
     let are = c.in-Ok.ensures.grows.defs ∙ ap (λ (n : Numbered). n.defs) c.in_ok-store.ensures ∙ ap (λ (s : Signature). s.defs) c.signature.ensures.value in
     let exact = from_run c.args.obligation.now m.defs c.args.turns b (run_of c.in_ok-ended-in-Ok.ended) c.in_ok-proof-in-Ok.proof are c.in-Ok.ensures.gives c.in_ok-ended-in-Ok.ensures c.in_ok-proof-in-Ok.ensures in
