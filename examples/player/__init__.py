@@ -1,0 +1,1 @@
+"""Random programs, and executions of their procedures."""
