@@ -6,12 +6,11 @@ import random
 from player import trees
 from player.claims import Claims
 from player.facts import (
-    assigned, current, equal, forgotten, ghost, ghosts, is_plain, joined, kept, negated, pushed, without,
+    assigned, current, equal, forgotten, ghost, ghosts, joined, kept, negated, pushed, without,
 )
 from player.terms import Terms
 from player.trees import (
-    BOOL, INT, Binary, Clause, Expression, Name, Number, Old, Procedure, Program, Read, Statement, Truth, Type,
-    Unary, Variable, Write,
+    INT, Binary, Clause, Expression, Name, Number, Old, Procedure, Program, Read, Statement, Type, Write,
 )
 
 DEPTH = 3
@@ -54,8 +53,7 @@ class Body:
         """What holds at entry, as far as the body can say it."""
         procedure, hidden = self.procedure, set(self.own)
         known = [it for it in self.program.axioms if not trees.free(it) & hidden]
-        known += [it.where for it in self.globals.values() if it.where is not None and not trees.free(it.where) & hidden]
-        known += [it.where for it in self.own.values() if it.where is not None]
+        known += self.clauses([*self.globals, *self.own])
         known += [clause.condition for clause in procedure.requires]
         known += [equal(Name(name), Old(Name(name))) for name in self.globals]
         return without(known[::-1], [])
@@ -67,9 +65,11 @@ class Body:
     def one(self) -> list[Statement]:
         """A statement, or a few that belong together."""
         self.left -= 1
-        ways = [(self.assign, 5), (self.asserted, 5), (self.havoc, 1), (self.assume, 0.6), (self.call, 3), (self.write, 2)]
+        ways = [(self.assign, 5), (self.asserted, 5), (self.havoc, 1), (self.assume, 0.6), (self.call, 3)]
+        ways += [(self.write, 2)]
         if self.depth < DEPTH and self.left > 2:
-            ways += [(self.branch, 2.5), (self.labelled, 0.8), (self.jump, 1), (self.choose, 0.8), (self.loop, 3)]
+            ways += [(self.branch, 2.5), (self.labelled, 0.8), (self.jump, 1), (self.choose, 0.8)]
+            ways += [(self.loop, 3)]
         if self.depth and self.exits:
             ways += [(self.leave, 1.5)]
         way = self.random.choices([it for it, _ in ways], [weight for _, weight in ways])[0]
@@ -301,7 +301,9 @@ class Body:
     def argument(self, type: Type) -> Expression:
         """What a parameter gets: often a variable that may be set here."""
         names = self.targets(type)
-        return Name(self.random.choice(names)) if names and self.chance(0.5) else self.terms.term(type, self.random.choice([0, 1]))
+        if names and self.chance(0.5):
+            return Name(self.random.choice(names))
+        return self.terms.term(type, self.random.choice([0, 1]))
 
     def met(self, conditions: list[Expression]) -> list[Statement]:
         """Conditions are assumed, of any values that variables get before that, at times."""
@@ -315,7 +317,9 @@ class Body:
 
     def can_call(self, callee: Procedure) -> bool:
         """Whether there are arguments and targets for a call, and its globals may be set."""
-        if not set(callee.modifies) <= set(self.procedure.modifies) or not all(self.terms.has(it.type) for it in callee.ins):
+        if not set(callee.modifies) <= set(self.procedure.modifies):
+            return False
+        if not all(self.terms.has(it.type) for it in callee.ins):
             return False
         if any(name in self.globals and name not in self.may for name in callee.modifies):
             return False

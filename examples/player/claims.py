@@ -109,7 +109,8 @@ class Claims:
         if fact.sign == "==":
             term = self.terms.term(INT, 1)
             found += [Binary("<=", right, left), equal(right, left), Binary("!=", left, more)]
-            found += [equal(Binary("+", left, term), Binary("+", term, right)), equal(Binary("-", right, left), Number(0))]
+            found += [equal(Binary("+", left, term), Binary("+", term, right))]
+            found += [equal(Binary("-", right, left), Number(0))]
             found += self.alike(left, right)
         return self.random.choice(found)
 

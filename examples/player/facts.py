@@ -177,7 +177,9 @@ def without(facts: list[Expression], names: list[str]) -> list[Expression]:
 
 def is_trivial(fact: Expression) -> bool:
     """Whether a fact says nothing."""
-    return isinstance(fact, (Truth, Number)) or isinstance(fact, Binary) and fact.sign == "==" and fact.left == fact.right
+    if isinstance(fact, Binary):
+        return fact.sign == "==" and fact.left == fact.right
+    return isinstance(fact, Truth)
 
 
 def ghost(name: str) -> str:

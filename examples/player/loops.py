@@ -4,9 +4,9 @@ from __future__ import annotations
 from player import trees
 from player.bodies import Body
 from player.facts import assigned, current, equal, negated, tidy, without
-from player.terms import over
+from player.terms import BOUND, over
 from player.trees import (
-    BOOL, FLAGS, GRID, INT, ROW, Binary, Clause, Expression, Name, Number, Read, Statement, Truth, Unary,
+    BOOL, GRID, INT, ROW, Binary, Clause, Expression, Name, Number, Read, Statement, Truth, Unary,
 )
 
 
@@ -124,7 +124,8 @@ class Loops(Body):
         bound = self.terms.fresh(trees.free(value) | trees.free(low) | {name, index})
         read = Read(Name(name), Name(bound))
         claim = equal(read, renamed(value, index, bound))
-        self.invariants.append(over("forall", (bound,), (read,), Binary("==>", between(low, Name(bound), Name(index)), claim)))
+        inside = Binary("==>", between(low, Name(bound), Name(index)), claim)
+        self.invariants.append(over("forall", (bound,), (read,), inside))
         before = [it for it in rows if equal(Name(name), it) in self.facts]
         if before and self.chance(0.5):
             rest = Binary("||", Binary("<", Name(bound), low), Binary("<=", Name(index), Name(bound)))
@@ -140,7 +141,8 @@ class Loops(Body):
             return []
         name, row = self.random.choice(names), self.random.choice(rows)
         bound, test = self.test(index, row, low, touched, name)
-        every = over("forall", (bound,), (Read(row, Name(bound)),), Binary("==>", between(low, Name(bound), Name(index)), test(bound)))
+        body = Binary("==>", between(low, Name(bound), Name(index)), test(bound))
+        every = over("forall", (bound,), (Read(row, Name(bound)),), body)
         made.append(trees.Assign([(name, [])], [Truth(True)]))
         self.facts = assigned(self.facts, {name: Truth(True)})
         self.invariants.append(Binary(self.random.choice(["==>", "<==>"]), Name(name), every))
@@ -220,8 +222,10 @@ class Loops(Body):
         changing = [row, column, name]
         calm = [it for it in self.terms.leaves(INT) if not current(it) & set(changing)]
         high = self.random.choice(calm + [Number(3)])
-        first, second = self.random.sample([it for it in ("i", "j", "k", "n", "b") if it not in trees.free(high) | set(changing)], 2)
-        value = self.random.choice([Number(1), Binary("+", Name(row), Name(column)), Binary("-", Name(column), Name(row))])
+        taken = trees.free(high) | set(changing)
+        first, second = self.random.sample([it for it in BOUND if it not in taken], 2)
+        both = Name(row), Name(column)
+        value = self.random.choice([Number(1), Binary("+", *both), Binary("-", *reversed(both))])
         read = Read(Read(Name(name), Name(first)), Name(second))
         claim = equal(read, renamed(renamed(value, row, first), column, second))
         inside = between(Number(0), Name(second), high)
@@ -230,12 +234,12 @@ class Loops(Body):
         read = Read(Read(Name(name), Name(row)), Name(second))
         body = Binary("==>", between(Number(0), Name(second), Name(column)), equal(read, renamed(value, column, second)))
         columns = over("forall", (second,), (read,), body)
-        positive = [Binary("<=", Number(0), Name(row)), Binary("<=", Number(0), Name(column))]
+        positive = [Binary("<=", Number(0), it) for it in both]
         self.facts = assigned(self.facts, {row: Number(0)})
         outer = self.enter(Binary("<", Name(row), high), [positive[0], rows], changing)
         behind = self.head
         self.facts = assigned(self.facts, {column: Number(0)})
-        inner = self.enter(Binary("<", Name(column), high), [positive[0], positive[1], rows, columns], [column, name])
+        inner = self.enter(Binary("<", Name(column), high), [*positive, rows, columns], [column, name])
         inner.body = [trees.Assign([(name, [Name(row), Name(column)])], [value]), counted(column)]
         outer.body = [trees.Assign([(column, [])], [Number(0)]), inner, counted(row)]
         self.take(behind, negated(outer.guard))

@@ -1,6 +1,7 @@
 """Random executions of procedures, as docs/EXECUTIONS.md says what one may do."""
 from __future__ import annotations
 
+import collections
 import random
 from dataclasses import dataclass, replace
 
@@ -13,6 +14,8 @@ from player.values import Value
 # a loop's rounds, and an execution's statements, after which it is left
 ROUNDS = 12
 STATEMENTS = 400
+# so often no entry state is found before none is sought
+MISSES = 3
 
 
 class Failed(Exception):
@@ -76,6 +79,9 @@ class Player:
         self.random = random.Random(seed)
         self.meaning = Meaning(program.functions)
         self.unique: dict[str, Value] = {}
+        # entry states that were found, and how often none was, by procedure
+        self.found: dict[str, list[Scope]] = {}
+        self.missed: collections.Counter = collections.Counter()
         carriers: dict[str, list[int]] = {}
         for constant in program.constants:
             if constant.unique:
@@ -100,22 +106,31 @@ class Player:
         return constants
 
     def entry(self, procedure: Procedure) -> Scope:
-        """An entry state of a procedure."""
-        globals, frame = {}, {}
-        outside = Scope(self.world(), globals)
+        """An entry state of a procedure; often much like one that was found before."""
+        found = self.found.setdefault(procedure.name, [])
+        if not found and self.missed[procedure.name] >= MISSES:
+            raise Ended("no entry state")
+        like = self.random.choice(found) if found and self.random.random() < 0.7 else None
+        globals = dict(like.globals) if like else {}
+        frame = dict(like.frame) if like else {}
+        outside = Scope(like.constants if like else self.world(), globals)
         inside = replace(outside, frame=frame)
-        wanted = self.wanted()
-        conditions = []
-        inner = procedure.ins + procedure.outs + procedure.locals
-        for scope, table, variables in ((outside, globals, self.program.variables), (inside, frame, inner)):
+        wanted, conditions = self.wanted(), []
+        own = procedure.ins + procedure.outs + procedure.locals
+        for scope, table, variables in ((outside, globals, self.program.variables), (inside, frame, own)):
             for variable in variables:
-                fresh(wanted, table, variable.name, variable.type, scope)
+                wanted.want(table, variable.name, variable.type)
+                if not like or self.random.random() < 0.4:
+                    wanted.begin(table, variable.name, scope)
                 if variable.where is not None:
                     conditions.append((variable.where, scope))
         conditions += [(clause.condition, inside) for clause in procedure.requires]
         if not wanted.meet(conditions):
+            self.missed[procedure.name] += 1
             raise Ended("no entry state")
-        return replace(inside, entry=dict(globals))
+        scope = replace(inside, entry=dict(globals))
+        found.append(replace(scope, globals=dict(globals), frame=dict(frame)))
+        return scope
 
     def play(self, procedure: Procedure) -> Execution:
         """A new execution, before its first statement."""
@@ -125,8 +140,7 @@ class Player:
 def fresh(wanted: Wanted, table: dict[str, Value], name: str, type: Type, scope: Scope) -> None:
     """Wants a variable, and gives it a first value."""
     wanted.want(table, name, type)
-    table[name] = 0
-    wanted.draw(name, scope)
+    wanted.begin(table, name, scope)
 
 
 class Execution:

@@ -88,7 +88,8 @@ class Programs:
         if self.program.types and self.chance(0.2):
             parameters.append(("c", Type(self.program.types[0])))
         terms = self.terms(names | dict(parameters))
-        result = BOOL if logical else self.random.choice([INT, INT, BOOL, ROW] if len(parameters) > 2 else [INT, INT, BOOL])
+        rows = [ROW for _, type in parameters if type == ROW]
+        result = BOOL if logical else self.random.choice([INT, INT, BOOL, *rows])
         if logical:
             body = terms.about_map(Name("m"))
             body = Binary("&&", body, terms.condition(1)) if self.chance(0.3) else body
@@ -115,11 +116,11 @@ class Programs:
 
     def about(self, variable: Variable, names: dict[str, Type]) -> Expression:
         """A condition on a variable."""
-        terms = self.terms(names)
+        terms = self.terms({name: type for name, type in names.items() if name != variable.name})
         if variable.type == INT:
             return Binary(self.random.choice(["<=", "<", ">="]), terms.term(INT, 0), Name(variable.name))
-        if variable.type == ROW:
-            return terms.about_map(Name(variable.name))
+        if variable.type == ROW or not terms.has(variable.type):
+            return terms.about_map(Name(variable.name)) if variable.type == ROW else terms.condition(0)
         return Binary(self.random.choice(["==", "!="]), Name(variable.name), terms.term(variable.type, 0))
 
     def draw_globals(self) -> None:
@@ -221,8 +222,7 @@ class Programs:
         """Postconditions: facts of the end that name no local."""
         ends = [it for it in [body.facts, *body.arrived["return"]] if it is not None]
         names = {it.name for it in procedure.locals}
-        hidden = {it.name for it in procedure.locals if it.name not in {v.name for v in procedure.ins + procedure.outs}}
-        facts = [it for it in joined(ends) if not trees.free(it) & names and not trees.free(it) & hidden] if ends else []
+        facts = [it for it in joined(ends) if not trees.free(it) & names] if ends else []
         scope, globals = self.scope(procedure, True)
         claims = Claims(self.terms(scope, globals), frozenset(globals))
         for _ in range(self.random.choice([0, 1, 1, 2]) if facts else 0):
@@ -244,6 +244,5 @@ def recursive(chance: random.Random) -> Procedure:
     guard = Binary(chance.choice(["==", "<="]), n, Number(0))
     base: list[Statement] = [trees.Assign([("r", [])], [Number(start)])]
     requires = [Clause(Binary("<=", Number(0), n))]
-    return Procedure(
-        "R", [Variable("n", INT)], [Variable("r", INT)], requires, [], [Clause(claim)], [], [trees.If(guard, base, step)]
-    )
+    body: list[Statement] = [trees.If(guard, base, step)]
+    return Procedure("R", [Variable("n", INT)], [Variable("r", INT)], requires, [], [Clause(claim)], [], body)

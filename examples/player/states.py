@@ -104,6 +104,11 @@ class Wanted:
         table = scope.table(name)
         table[name] = self.drawing.value(self.types[id(table), name], others)
 
+    def begin(self, table: dict[str, Value], name: str, scope: Scope) -> None:
+        """A value for a variable that a scope doesn't have yet."""
+        table[name] = 0
+        self.draw(name, scope)
+
     def is_wanted(self, name: str, scope: Scope) -> bool:
         """Whether a name is one of the variables."""
         return (id(scope.table(name)), name) in self.types

@@ -117,14 +117,15 @@ class Terms:
         if draw < 0.58 and self.leaves(FLAGS):
             table = self.random.choice(self.leaves(FLAGS))
             index = self.fresh(trees.free(table))
-            return over("forall", (index,), (Read(table, Name(index)),), self.within(index, Read(table, Name(index)), table))
+            read = Read(table, Name(index))
+            return over("forall", (index,), (read,), self.within(index, read))
         return self.condition()
 
     def fresh(self, names) -> str:
         """A name for a bound variable that hides none of these."""
         return self.random.choice([it for it in BOUND if it not in names])
 
-    def within(self, index: str, claim: Expression, avoid: Expression) -> Expression:
+    def within(self, index: str, claim: Expression) -> Expression:
         """A claim on an index that lies in bounds."""
         safe = [it for it in self.leaves(INT) if index not in trees.free(it)]
         ends = safe + [Number(self.random.randint(0, 5))]
@@ -146,7 +147,7 @@ class Terms:
         if self.random.random() < 0.2:
             return self.sorted(table)
         order = self.random.choice(["<=", "<", ">=", "!=", "=="])
-        return over("forall", (index,), (read,), self.within(index, Binary(order, read, self.bound_for(index)), table))
+        return over("forall", (index,), (read,), self.within(index, Binary(order, read, self.bound_for(index))))
 
     def bound_for(self, index: str) -> Expression:
         """What is compared with a read at an index: a number or name, or the index itself."""
