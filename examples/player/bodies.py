@@ -255,7 +255,7 @@ class Body:
                 made += self.one()
         self.exits.pop()
         self.meet(self.arrived.pop(label) + ([self.facts] if self.facts is not None else []))
-        behind = self.asserted()
+        behind = self.asserted() if self.chance(0.6) or self.left <= 0 else self.one()
         behind[0].labels.append(label)
         return made + behind
 

@@ -4,8 +4,8 @@ from __future__ import annotations
 import random
 
 from player import trees
-from player.facts import Captured, current, equal, is_plain, negated, pushed, replaced, tidy
-from player.terms import Terms
+from player.facts import Captured, current, equal, is_pattern, is_plain, negated, replaced, tidy
+from player.terms import BOUND, Terms, over
 from player.trees import (
     BOOL, INT, Apply, Binary, Choice, Expression, Function, Name, Number, Old, Quantified, Read, Truth, Type, Unary,
     Write,
@@ -71,6 +71,8 @@ class Claims:
         maps = [name for name, type in self.terms.names.items() if type.range == INT]
         if maps:
             table = Name(self.random.choice(maps))
+            if self.random.random() < 0.3:
+                return self.of_all(table)
             found.append(equal(Read(Write(table, term, other), term), other))
             apart = Binary("!=", term, other)
             found.append(Binary("==>", apart, equal(Read(Write(table, term, other), other), Read(table, other))))
@@ -78,9 +80,28 @@ class Claims:
             found.append(equal(twice, Write(table, term, other)))
         return self.random.choice(found)
 
+    def of_all(self, table: Name) -> Expression:
+        """What holds always, and speaks of all values of a type."""
+        index, other = self.random.sample([it for it in BOUND if it != table.name], 2)
+        read = Read(table, Name(index))
+        below = Binary("<=", read, Read(table, Name(other)))
+        some = over("exists", (other,), (Read(table, Name(other)),), below)
+        truth = Binary("==>", Name("t"), Binary("||", Binary("<", Number(0), read), Name("t")))
+        found: list[Expression] = [
+            over("forall", (index,), (read,), some),
+            Quantified("forall", (("t", BOOL), (index, INT)), (), truth),
+        ]
+        for name, type in self.terms.names.items():
+            if type.range is not None and type.range.name not in ("int", "bool", "map"):
+                paint = Read(Name(name), Name(index))
+                claim = Binary("||", Binary("!=", paint, Name("c")), equal(Name("c"), paint))
+                if name not in (index, "c"):
+                    found += [Quantified("forall", (("c", type.range), (index, INT)), (), claim)] * 3
+        return self.random.choice(found)
+
     def weaker(self, fact: Expression, facts: list[Expression]) -> Expression:
         """What follows from a fact, beside others."""
-        ways = [self.beside, self.substituted]
+        ways = [self.beside, self.substituted, self.some]
         match fact:
             case Binary("==" | "<=" | "<" | ">=" | ">", left, _) if self.type(left) == INT:
                 ways += [self.compared] * 4
@@ -161,6 +182,18 @@ class Claims:
                 return fact
             given[Name(name)] = self.terms.term(type, 1)
         return replaced(fact.body, given)
+
+    def some(self, fact: Expression, facts: list[Expression]) -> Expression:
+        """That what is read at an index is read at some."""
+        reads = [it for it in reads_of(fact) if is_pattern(it)] if is_plain(fact) else []
+        if not reads:
+            return fact
+        read = self.random.choice(reads)
+        bound = self.terms.fresh(trees.free(fact))
+        other = Read(read.map, Name(bound))
+        body = replaced(fact, {read: other})
+        body = Binary("&&", equal(Name(bound), read.index), body) if self.random.random() < 0.3 else body
+        return over("exists", (bound,), (other,), body)
 
     def narrowed(self, fact: Quantified, facts: list[Expression]) -> Expression:
         """A universal that says less."""
@@ -248,6 +281,12 @@ class Claims:
         return tree
 
 
+def reads_of(tree: Expression) -> list[Read]:
+    """The reads in an expression."""
+    below = [it for part in trees.parts(tree) for it in reads_of(part)]
+    return [tree, *below] if isinstance(tree, Read) else below
+
+
 def entry_names(tree: Expression) -> frozenset[str]:
     """The names under `old`."""
     return trees.free(tree.body) if isinstance(tree, Old) else frozenset().union(*map(entry_names, trees.parts(tree)))
@@ -256,8 +295,3 @@ def entry_names(tree: Expression) -> frozenset[str]:
 def bare(tree: Expression) -> Expression:
     """The same without `old`."""
     return tree.body if isinstance(tree, Old) else trees.rebuilt(tree, tuple(map(bare, trees.parts(tree))))
-
-
-def canonical(tree: Expression, globals: frozenset[str]) -> Expression:
-    """A condition as facts have it."""
-    return pushed(tree, globals)

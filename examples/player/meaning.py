@@ -47,7 +47,7 @@ class Meaning:
 
     def holds(self, tree: Expression, scope: Scope) -> bool:
         """Whether a condition holds; Undecided where that isn't found out."""
-        self.comparing.bound.clear()
+        self.comparing.begin()
         return self.value(tree, scope)
 
     def value(self, tree: Expression, scope: Scope) -> Value:

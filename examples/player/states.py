@@ -119,7 +119,7 @@ class Wanted:
         given = [it for it in equations(condition) if self.is_wanted(it[0], scope)]
         if given and choose.random() < 0.7:
             name, right = choose.choice(given)
-            scope.table(name)[name] = self.meaning.value(right, scope)
+            scope.table(name)[name] = self.meaning.holds(right, scope)
             return True
         named = [it for it in sorted(current(condition)) if self.is_wanted(it, scope)]
         if named:

@@ -108,7 +108,10 @@ class Terms:
     def formula(self) -> Expression:
         """A condition that may have quantifiers."""
         logical = [it for it in self.functions if it.logical and all(self.has(type) for _, type in it.parameters)]
+        numbers = [it for it in self.functions if it.result == INT and [type for _, type in it.parameters] == [INT]]
         draw = self.random.random()
+        if numbers and draw < 0.1:
+            return self.about_function(self.random.choice(numbers))
         if draw < 0.2 and logical:
             return self.applied(self.random.choice(logical), 0)
         maps = self.leaves(ROW)
@@ -148,6 +151,13 @@ class Terms:
             return self.sorted(table)
         order = self.random.choice(["<=", "<", ">=", "!=", "=="])
         return over("forall", (index,), (read,), self.within(index, Binary(order, read, self.bound_for(index))))
+
+    def about_function(self, function: Function) -> Expression:
+        """What a function gives for all numbers, or for those within bounds."""
+        index = self.fresh([])
+        given = Apply(function.name, (Name(index),))
+        order = self.random.choice(["<=", ">=", "!="])
+        return over("forall", (index,), (given,), self.within(index, Binary(order, given, self.bound_for(index))))
 
     def bound_for(self, index: str) -> Expression:
         """What is compared with a read at an index: a number or name, or the index itself."""

@@ -10,8 +10,8 @@ from __future__ import annotations
 
 from dataclasses import dataclass
 
-# more places than these are not tried
-PLACES = 160
+# more places than these are not tried, of all bound variables of a condition together
+PLACES = 600
 
 
 class Undecided(Exception):
@@ -89,6 +89,12 @@ class Comparing:
 
     def __init__(self) -> None:
         self.bound: list[Bound] = []
+        self.left = 0
+
+    def begin(self) -> None:
+        """No variable is bound, and no place was tried."""
+        self.bound.clear()
+        self.left = PLACES
 
     def sign(self, number: int | Form) -> int:
         """-1, 0 or 1: the sign of a number where the bound variables stand now."""
@@ -132,6 +138,9 @@ class Comparing:
             waiting = [0]
             while waiting:
                 variable.place = waiting.pop()
+                self.left -= 1
+                if self.left < 0:
+                    raise Undecided
                 if not test(Form(0, ((level, 1),))):
                     return False
                 waiting += new_places(variable, places)
@@ -149,8 +158,6 @@ def new_places(variable: Bound, places: dict[int | Form, None]) -> list[int | Fo
                 places[at] = None
                 found.append(at)
     variable.noted.clear()
-    if len(places) > PLACES:
-        raise Undecided
     return found
 
 
