@@ -45,13 +45,13 @@ class Meaning:
         self.functions = {it.name: it for it in functions}
         self.comparing = Comparing()
 
-    def holds(self, tree: Expression, scope: Scope) -> bool:
-        """Whether a condition holds; Undecided where that isn't found out."""
+    def read(self, tree: Expression, scope: Scope) -> Value:
+        """The value of an expression in a state; Undecided where that isn't found out."""
         self.comparing.begin()
         return self.value(tree, scope)
 
     def value(self, tree: Expression, scope: Scope) -> Value:
-        """The value of an expression."""
+        """The value of an expression, also in a quantifier's body."""
         match tree:
             case trees.Name(name):
                 return scope.value(name)

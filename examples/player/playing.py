@@ -163,17 +163,13 @@ class Execution:
             if not clause.free:
                 self.check(clause.condition, clause.place, "ensures")
 
-    def holds(self, tree: Expression) -> bool:
-        """Whether a condition holds now."""
-        return self.player.meaning.holds(tree, self.scope)
-
     def value(self, tree: Expression) -> Value:
         """The value of an expression now."""
-        return self.player.meaning.holds(tree, self.scope)
+        return self.player.meaning.read(tree, self.scope)
 
     def check(self, tree: Expression, place: tuple[int, int], kind: str) -> None:
         """Fails where a condition doesn't hold."""
-        if not self.holds(tree):
+        if not self.value(tree):
             raise Failed(f"{self.procedure.name} {place[0]}:{place[1]} {kind}")
 
     def list(self, statements: list[Statement]) -> Leaving | None:
@@ -199,7 +195,7 @@ class Execution:
             case trees.Assert(condition):
                 self.check(condition, statement.place, "assert")
             case trees.Assume(condition):
-                if not self.holds(condition):
+                if not self.value(condition):
                     raise Ended("assumed")
             case trees.Havoc(names):
                 self.havoc(names, assumed_next(statements, at))
@@ -226,7 +222,7 @@ class Execution:
 
     def allows(self, guard: Expression | None, often: float) -> bool:
         """Whether a guard holds; of `*` by chance."""
-        return self.random.random() < often if guard is None else self.holds(guard)
+        return self.random.random() < often if guard is None else self.value(guard)
 
     def loop(self, statement: trees.While) -> Leaving | None:
         """Plays rounds until the guard allows to go on, or the loop is left."""
@@ -234,7 +230,7 @@ class Execution:
             for clause in statement.invariants:
                 if not clause.free:
                     self.check(clause.condition, clause.place, "invariant-kept" if number else "invariant-entry")
-                elif not self.holds(clause.condition):
+                elif not self.value(clause.condition):
                     raise Ended("assumed")
             if not self.allows(statement.guard, 0.6):
                 return None
@@ -261,7 +257,7 @@ class Execution:
             fresh(wanted, self.scope.table(name), name, self.variables[name].type, self.scope)
         wheres = [(it.where, self.scope_of(it)) for it in map(self.variables.get, names) if it.where is not None]
         wanted.meet(wheres + [(it, self.scope) for it in assumed])
-        if not (all(self.player.meaning.holds(*it) for it in wheres) or wanted.meet(wheres)):
+        if not (all(self.player.meaning.read(*it) for it in wheres) or wanted.meet(wheres)):
             raise Ended("no values")
         self.trail.append("havoc " + shown({name: self.scope.value(name) for name in names}))
 
@@ -277,7 +273,7 @@ class Execution:
         scope = replace(self.scope, frame=frame, entry=dict(self.scope.globals))
         checked = [clause for clause in callee.requires if not clause.free]
         for k, clause in enumerate(checked, 1):
-            if not self.player.meaning.holds(clause.condition, scope):
+            if not self.player.meaning.read(clause.condition, scope):
                 line, column = statement.place
                 raise Failed(f"{self.procedure.name} {line}:{column} requires({k})")
         self.take(callee, scope)

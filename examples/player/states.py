@@ -119,7 +119,7 @@ class Wanted:
         given = [it for it in equations(condition) if self.is_wanted(it[0], scope)]
         if given and choose.random() < 0.7:
             name, right = choose.choice(given)
-            scope.table(name)[name] = self.meaning.holds(right, scope)
+            scope.table(name)[name] = self.meaning.read(right, scope)
             return True
         named = [it for it in sorted(current(condition)) if self.is_wanted(it, scope)]
         if named:
@@ -129,7 +129,7 @@ class Wanted:
     def meet(self, conditions: list[tuple[Expression, Scope]]) -> bool:
         """Changes values until all conditions hold; False where it gives up. Undecided where one isn't decided."""
         for _ in range(CHANGES):
-            failing = next((it for it in conditions if not self.meaning.holds(*it)), None)
+            failing = next((it for it in conditions if not self.meaning.read(*it)), None)
             if failing is None:
                 return True
             if not self.mend(*failing):
