@@ -17,7 +17,11 @@ DEPTH = 3
 
 
 class Body:
-    """Draws one body. `facts` hold where it has come to, `None` where nothing comes to."""
+    """Draws one body. `facts` hold where it has come to, `None` where nothing comes to.
+
+    So often as `noise` says a claim is spoiled, and so often as `slip` says the facts behind a statement are
+    drawn wrongly, as if it did less than it does: then later claims may be false.
+    """
 
     def __init__(self, chance: random.Random, program: Program, procedure: Procedure, callees: list[Procedure]):
         self.random = chance
@@ -25,6 +29,7 @@ class Body:
         self.procedure = procedure
         self.callees = callees
         self.noise = chance.choice([0.0, 0.0, 0.0, 0.08, 0.25])
+        self.slip = chance.choice([0.0, 0.0, 0.2])
         self.own = {it.name: it for it in procedure.ins + procedure.outs + procedure.locals}
         self.globals = {it.name: it for it in program.variables if it.name not in self.own}
         names = {it.name: it.type for it in program.constants}
@@ -61,6 +66,10 @@ class Body:
     def chance(self, often: float) -> bool:
         """True so often."""
         return self.random.random() < often
+
+    def slips(self) -> bool:
+        """Whether facts are drawn wrongly here."""
+        return self.chance(self.slip)
 
     def one(self) -> list[Statement]:
         """A statement, or a few that belong together."""
@@ -102,6 +111,8 @@ class Body:
         names = self.random.sample(self.may, min(count, len(self.may)))
         values = {name: self.right_side(name) for name in names if self.terms.has(self.terms.names[name])}
         self.facts = assigned(self.facts, values)
+        if self.slips():
+            self.facts = without(self.clauses(list(values)) + self.facts, [])
         return [trees.Assign([(name, []) for name in values], list(map(self.claims.with_old, values.values())))]
 
     def right_side(self, name: str) -> Expression:
@@ -166,7 +177,8 @@ class Body:
         if not self.may:
             return self.assume()
         names = self.random.sample(self.may, min(len(self.may), self.random.choice([1, 1, 2])))
-        self.facts = without(self.clauses(names) + forgotten(self.facts, names), [])
+        known = self.facts if self.slips() else forgotten(self.facts, names)
+        self.facts = without(self.clauses(names) + known, [])
         made: list[Statement] = [trees.Havoc(names)]
         return made + self.assume() if self.chance(0.4) else made
 
@@ -204,6 +216,8 @@ class Body:
 
     def meet(self, arriving: list[list[Expression]]) -> None:
         """Goes on where several ways meet, if there are any."""
+        if len(arriving) > 1 and self.slips():
+            arriving.pop(self.random.randrange(len(arriving)))
         self.facts = joined(arriving) if arriving else None
 
     def label(self) -> str:
@@ -334,7 +348,7 @@ class Body:
     def after_call(self, callee: Procedure, targets: list[str], table: dict[Expression, Expression]) -> None:
         """The facts after a call: what it ensures, and what was known of what it doesn't change."""
         changed = dict.fromkeys([*targets, *(it for it in callee.modifies if it in self.globals)])
-        before = ghosts(changed)
+        before = {} if self.slips() else ghosts(changed)
         given = {key: to for key, to in zip(table, kept(list(table.values()), before))}
         for out, target in zip(callee.outs, targets):
             given[Name(out.name)] = Name(target)

@@ -70,7 +70,7 @@ class Loops(Body):
         for invariant in invariants:
             if not self.chance(self.noise / 2):
                 clauses.append(Clause(self.claims.with_old(self.maybe_spoiled(invariant)), self.chance(0.05)))
-        known = [it for it in self.facts if not current(it) & set(changing)]
+        known = [it for it in self.facts if not current(it) & set(changing) or self.slips()]
         head = without([*invariants, *known], [])
         self.take(head, guard)
         return trees.While(guard, clauses, []), head

@@ -220,7 +220,8 @@ class Programs:
 
     def ensure(self, procedure: Procedure, body: Loops) -> None:
         """Postconditions: facts of the end that name no local."""
-        ends = [it for it in [body.facts, *body.arrived["return"]] if it is not None]
+        early = [] if body.slips() and body.facts is not None else body.arrived["return"]
+        ends = [it for it in [body.facts, *early] if it is not None]
         names = {it.name for it in procedure.locals}
         facts = [it for it in joined(ends) if not trees.free(it) & names] if ends else []
         scope, globals = self.scope(procedure, True)
