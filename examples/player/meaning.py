@@ -1,7 +1,7 @@
 """What an expression means in a state."""
 from __future__ import annotations
 
-from dataclasses import dataclass, field, replace
+from dataclasses import dataclass, field
 
 from player import trees
 from player.trees import Expression, Function, Type
@@ -31,11 +31,11 @@ class Scope:
 
     def binding(self, name: str, value: Value) -> Scope:
         """This scope, and in it a bound variable."""
-        return replace(self, bound={**self.bound, name: value})
+        return Scope(self.constants, self.globals, self.entry, self.frame, {**self.bound, name: value})
 
     def before(self) -> Scope:
         """This scope with the globals as they were at entry."""
-        return replace(self, globals=self.entry)
+        return Scope(self.constants, self.entry, self.entry, self.frame, self.bound)
 
 
 class Meaning:
@@ -44,6 +44,19 @@ class Meaning:
     def __init__(self, functions: list[Function]):
         self.functions = {it.name: it for it in functions}
         self.comparing = Comparing()
+        self.ways = {
+            trees.Name: lambda it, scope: scope.value(it.name),
+            trees.Number: lambda it, scope: it.value,
+            trees.Truth: lambda it, scope: it.value,
+            trees.Old: lambda it, scope: self.value(it.body, scope.before()),
+            trees.Binary: lambda it, scope: self.joined(it.sign, it.left, it.right, scope),
+            trees.Unary: self.prefixed,
+            trees.Choice: self.chosen,
+            trees.Read: lambda it, scope: self.comparing.read(self.value(it.map, scope), self.value(it.index, scope)),
+            trees.Write: lambda it, scope: written(*(self.value(part, scope) for part in trees.parts(it))),
+            trees.Apply: self.applied,
+            trees.Quantified: lambda it, scope: self.quantified(it.word == "forall", it.variables, it.body, scope),
+        }
 
     def read(self, tree: Expression, scope: Scope) -> Value:
         """The value of an expression in a state; Undecided where that isn't found out."""
@@ -52,38 +65,23 @@ class Meaning:
 
     def value(self, tree: Expression, scope: Scope) -> Value:
         """The value of an expression, also in a quantifier's body."""
-        match tree:
-            case trees.Name(name):
-                return scope.value(name)
-            case trees.Number(value) | trees.Truth(value):
-                return value
-            case trees.Binary(sign, left, right):
-                return self.joined(sign, left, right, scope)
-            case trees.Unary("!", body):
-                return not self.value(body, scope)
-            case trees.Unary("-", body):
-                return combined(0, self.value(body, scope), -1)
-            case trees.Old(body):
-                return self.value(body, scope.before())
-            case trees.Choice(condition, then, other):
-                return self.value(then if self.value(condition, scope) else other, scope)
-            case trees.Quantified(word, variables, _, body):
-                return self.quantified(word == "forall", variables, body, scope)
-        return self.value_of_table(tree, scope)
+        return self.ways[type(tree)](tree, scope)
 
-    def value_of_table(self, tree: Expression, scope: Scope) -> Value:
-        """The value of a read, an update or an application."""
-        match tree:
-            case trees.Read(table, index):
-                return self.comparing.read(self.value(table, scope), self.value(index, scope))
-            case trees.Write(table, index, value):
-                return written(self.value(table, scope), self.value(index, scope), self.value(value, scope))
-            case trees.Apply(name, arguments):
-                function = self.functions[name]
-                given = [self.value(it, scope) for it in arguments]
-                names = dict(zip((name for name, _ in function.parameters), given))
-                return self.value(function.body, Scope(scope.constants, bound=names))
-        raise TypeError(tree)
+    def prefixed(self, tree: trees.Unary, scope: Scope) -> Value:
+        """The value of an operand with a sign before it."""
+        value = self.value(tree.body, scope)
+        return not value if tree.sign == "!" else combined(0, value, -1)
+
+    def chosen(self, tree: trees.Choice, scope: Scope) -> Value:
+        """The value of the operand that the condition chooses."""
+        return self.value(tree.then if self.value(tree.condition, scope) else tree.other, scope)
+
+    def applied(self, tree: trees.Apply, scope: Scope) -> Value:
+        """The value of a function's body, in which its parameters are bound and constants alone are seen."""
+        function = self.functions[tree.function]
+        given = [self.value(it, scope) for it in tree.arguments]
+        names = dict(zip((name for name, _ in function.parameters), given))
+        return self.value(function.body, Scope(scope.constants, bound=names))
 
     def joined(self, sign: str, left: Expression, right: Expression, scope: Scope) -> Value:
         """The value of two operands with a sign between them."""

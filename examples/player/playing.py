@@ -9,7 +9,7 @@ from player import trees
 from player.meaning import Meaning, Scope
 from player.states import Drawing, Wanted
 from player.trees import Expression, Procedure, Program, Statement, Type, Variable
-from player.values import Value
+from player.values import Map, Value
 
 # a loop's rounds, and an execution's statements, after which it is left
 ROUNDS = 12
@@ -154,7 +154,14 @@ class Execution:
         self.taken = 0
         own = procedure.ins + procedure.outs + procedure.locals
         self.variables = {it.name: it for it in player.program.variables + own}
-        self.trail = [f"entry {shown(scope.constants)} {shown(scope.globals)} {shown(scope.frame)}"]
+        # what was chosen: a word, and values
+        self.trail: list[tuple[str, dict[str, Value]]] = []
+        for word, table in (("constants", scope.constants), ("globals", scope.globals), ("entry", scope.frame)):
+            self.choose(word, table)
+
+    def told(self) -> list[str]:
+        """What was chosen, in lines."""
+        return [f"{word} " + ", ".join(f"{name} = {shown(it)}" for name, it in table.items()) for word, table in self.trail]
 
     def run(self) -> None:
         """Plays the body to its end, and reads what the contract ensures."""
@@ -162,6 +169,10 @@ class Execution:
         for clause in self.procedure.ensures:
             if not clause.free:
                 self.check(clause.condition, clause.place, "ensures")
+
+    def choose(self, word: str, table: dict[str, Value]) -> None:
+        """Notes what was chosen."""
+        self.trail.append((word, dict(table)))
 
     def value(self, tree: Expression) -> Value:
         """The value of an expression now."""
@@ -259,7 +270,7 @@ class Execution:
         wanted.meet(wheres + [(it, self.scope) for it in assumed])
         if not (all(self.player.meaning.read(*it) for it in wheres) or wanted.meet(wheres)):
             raise Ended("no values")
-        self.trail.append("havoc " + shown({name: self.scope.value(name) for name in names}))
+        self.choose("havoc", {name: self.scope.value(name) for name in names})
 
     def scope_of(self, variable: Variable) -> Scope:
         """The scope of a variable's clause."""
@@ -297,7 +308,7 @@ class Execution:
                 conditions.append((out.where, scope))
         if not wanted.meet(conditions + [(clause.condition, scope) for clause in callee.ensures]):
             raise Ended("no values")
-        self.trail.append(f"call {callee.name} {shown(scope.globals)} {shown(scope.frame)}")
+        self.choose(f"call {callee.name}", {name: scope.globals[name] for name in callee.modifies} | scope.frame)
 
 
 def updated(table: Expression, indices: list[Expression], value: Expression) -> Expression:
@@ -318,14 +329,9 @@ def assumed_next(statements: list[Statement], at: int) -> list[Expression]:
     return found
 
 
-def shown(names: dict[str, Value]) -> str:
-    """Values by name, in one line."""
-    return "{" + ", ".join(f"{name} = {shown_value(value)}" for name, value in names.items()) + "}"
-
-
-def shown_value(value: Value) -> str:
+def shown(value: Value) -> str:
     """A value: of a map its table, and behind `else` its default."""
-    if isinstance(value, bool) or not hasattr(value, "table"):
+    if not isinstance(value, Map):
         return str(value).lower()
-    table = "".join(f"{at}: {shown_value(it)}, " for at, it in reversed(value.table))
-    return f"[{table}else {shown_value(value.default)}]"
+    table = "".join(f"{at}: {shown(it)}, " for at, it in reversed(value.table))
+    return f"[{table}else {shown(value.default)}]"
