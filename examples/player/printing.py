@@ -11,6 +11,7 @@ TIGHTNESS = {"<==>": 0, "==>": 1, "&&": 2, "||": 2, "+": 4, "-": 4, "*": 5}
 RELATION = 3
 PREFIX = 6
 INDEXED = 7
+COMMENTS = ["  // assert false;", " /* { */", " /* // */"]
 ATTRIBUTES = ['{:mark "a;b"} ', "{:weight 3, 4} ", "{:hint} "]
 
 
@@ -29,10 +30,10 @@ class Printer:
         program, made = self.program, []
         made += [(self.line, f"type {self.attribute()}{name};") for name in program.types]
         made += [(self.line, f"type {name} = {self.type(it, True)};") for name, it in program.synonyms.items()]
-        made += [(self.constant, it) for it in program.constants]
+        made += [(self.constants, it) for it in self.runs(program.constants)]
         made += [(self.function, it) for it in program.functions]
         made += [(self.axiom, it) for it in program.axioms]
-        made += [(self.line, f"var {self.attribute()}{self.groups([it])};") for it in program.variables]
+        made += [(self.variables, it) for it in self.runs(program.variables)]
         for it in program.procedures:
             made += [(self.procedure, it)] + [(self.implementation, it)] * it.apart
         if self.random.random() < 0.5:
@@ -47,7 +48,8 @@ class Printer:
 
     def line(self, text: str) -> None:
         """Ends a line."""
-        self.lines.append(text)
+        comment = self.random.choice(COMMENTS) if self.random.random() < 0.02 else ""
+        self.lines.append(text + comment)
 
     def place(self, before: str) -> tuple[int, int]:
         """The place, in its declaration, behind what stands in the next line."""
@@ -63,9 +65,26 @@ class Printer:
             return type.spelt
         return type.name if type.range is None else f"[int]{self.type(type.range)}"
 
-    def constant(self, it: trees.Constant) -> None:
-        """A constant's line."""
-        self.line(f"const {self.attribute()}{'unique ' * it.unique}{it.name}: {self.type(it.type)};")
+    def runs(self, declared: list) -> list[list]:
+        """Variables or constants that stand behind one another and are declared alike, together at times."""
+        runs: list[list] = []
+        for it in declared:
+            alike = runs and all(self.kind(other) == self.kind(it) for other in runs[-1])
+            if alike and self.random.random() < 0.5:
+                runs[-1].append(it)
+            else:
+                runs.append([it])
+        return runs
+
+    def kind(self, it: Variable | trees.Constant) -> tuple:
+        """What must be alike in those that are declared together."""
+        unlike = it.where and id(it) if isinstance(it, Variable) else it.unique
+        return it.type, it.type.spelt, unlike
+
+    def constants(self, run: list[trees.Constant]) -> None:
+        """A line of constants."""
+        names = ", ".join(it.name for it in run)
+        self.line(f"const {self.attribute()}{'unique ' * run[0].unique}{names}: {self.type(run[0].type)};")
 
     def function(self, it: trees.Function) -> None:
         """A function's line."""
@@ -78,12 +97,17 @@ class Printer:
         """An axiom's line."""
         self.line(f"axiom {self.attribute()}{self.expression(it)};")
 
+    def variables(self, run: list[Variable]) -> None:
+        """A line of globals."""
+        self.line(f"var {self.attribute()}{self.groups(run)};")
+
     def groups(self, variables: list[Variable], where: bool = True) -> str:
         """Variables with their types and clauses."""
         written = []
-        for it in variables:
-            clause = f" where {self.expression(it.where)}" if where and it.where is not None else ""
-            written.append(f"{it.name}: {self.type(it.type)}{clause}")
+        for run in self.runs(variables):
+            first, names = run[0], ", ".join(it.name for it in run)
+            clause = f" where {self.expression(first.where)}" if where and first.where is not None else ""
+            written.append(f"{names}: {self.type(first.type)}{clause}")
         return ", ".join(written)
 
     def signature(self, it: Procedure, where: bool) -> str:
@@ -117,8 +141,8 @@ class Printer:
     def body(self, it: Procedure) -> None:
         """The locals and statements of a procedure."""
         self.line("{")
-        for variable in it.locals:
-            self.line(f"  var {self.attribute()}{self.groups([variable])};")
+        for run in [it.locals] if it.locals and self.random.random() < 0.2 else self.runs(it.locals):
+            self.line(f"  var {self.attribute()}{self.groups(run)};")
         self.statements(it.body, "  ")
         self.line("}")
 

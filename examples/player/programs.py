@@ -119,9 +119,19 @@ class Programs:
         terms = self.terms({name: type for name, type in names.items() if name != variable.name})
         if variable.type == INT:
             return Binary(self.random.choice(["<=", "<", ">="]), terms.term(INT, 0), Name(variable.name))
-        if variable.type == ROW or not terms.has(variable.type):
-            return terms.about_map(Name(variable.name)) if variable.type == ROW else terms.condition(0)
+        if variable.type == ROW:
+            return terms.about_map(Name(variable.name))
+        if variable.type.range is not None:
+            return self.about_place(Name(variable.name), variable.type, terms)
         return Binary(self.random.choice(["==", "!="]), Name(variable.name), terms.term(variable.type, 0))
+
+    def about_place(self, table: Expression, type: Type, terms: Terms) -> Expression:
+        """A condition on what a map has at some place."""
+        while type.range is not None:
+            table, type = Read(table, Number(self.random.randint(0, 2))), type.range
+        if type == BOOL:
+            return table
+        return Binary("<=", Number(0), table) if type == INT else Binary("!=", table, terms.term(type, 0))
 
     def draw_globals(self) -> None:
         """Globals: clauses name constants and globals."""
