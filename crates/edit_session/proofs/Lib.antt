@@ -17,3 +17,4 @@ mod PlainNames
 mod ReadRevisions
 mod Revised
 mod OnePut
+mod PutAgain

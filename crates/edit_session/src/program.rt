@@ -1,5 +1,5 @@
 // The program that is open, and declarations that are to be.
-ghost use Rattle.std.specs.Prelude.{◌≡◌, ◌<◌, ◌-◌, ◌^◌, [], map, length, slice_set, IfOk, IfSome, IfNone};
+ghost use Rattle.std.specs.Prelude.{◌≡◌, ◌<◌, ◌-◌, ◌^◌, [], map, length, slice_set, IfOk, IfErr, OnErr};
 ghost use Rattle.bpl_goto.specs.Forward.{AllGoForward};
 ghost use Rattle.canonical_text.specs.RoundTrip.{AreWrittenDecls};
 ghost use Rattle.rebuild_laws.specs.Resolved.{IsResolved};
@@ -219,9 +219,23 @@ impl OpenProgram {
         self.built.procs()
     }
 
+    /// Its declarations with others in the places of some of them. It stays as it is.
+    pub fn with_replacements(
+        &self,
+        alloc: Global,
+        replacements: Vec<Replacement>,
+    ) -> Result<Vec<Decl>, AllocError>
+        requires { AreThere self.now.decls replacements.items }
+        ensures { IfOk result (λ v. v.items ≡ with_replacements self.now.decls replacements.items) }
+    {
+        let mut program = self.program.copy(alloc)?;
+        put_decls(&mut program, replacements);
+        Ok(program.decls)
+    }
+
     /// The declarations take the places of those that stand there, if they are revisions of these, and
-    /// the program with them has no fault; the board has the goals of the program then. Else nothing
-    /// changes, and so it is without memory.
+    /// the program with them has no fault; the board has the goals of the program then. Else they are
+    /// given back and nothing changes, and so it is without memory.
     #[tactic(auto, using(crate::proofs::Revised::stays_open, crate::proofs::Revised::opened_by))]
     pub fn revise<B: GoalBoard, L: Ledger>(
         &mut self,
@@ -230,16 +244,17 @@ impl OpenProgram {
         replacements: Vec<Replacement>,
         turns: u64,
         steps: &mut Steps<L>,
-    ) -> Option<Reply>
+    ) -> Result<Reply, Vec<Replacement>>
         requires there { AreThere self.old.decls replacements.items }
         requires short { SourcesAreShort (with_replacements self.old.decls replacements.items) }
         requires written { AreWrittenDecls 0 (with_replacements self.old.decls replacements.items) }
         requires room { B.workers ≡ 0 → (B.state board.old).version < 2 ^ 64 - 1 }
-        ensures decls { IfSome result (λ x. self.new.decls ≡ with_replacements self.old.decls replacements.items) }
-        ensures is_module { IfSome result (λ x. IsModuleOf self.new.decls self.new.typed) }
-        ensures opened { IfSome result (λ x. IsOpened B.workers (B.state board.old) (B.noted board.old) (B.state board.new) (B.noted board.new) turns (rebuilt (built self.old.typed) self.new.typed) self.new.typed (reply_view x)) }
-        ensures same { IfNone result (self.new ≡ self.old) }
-        ensures board { IfNone result (IsUndone B.workers (B.state board.old) (B.noted board.old) (B.state board.new) (B.noted board.new)) }
+        ensures decls { IfOk result (λ x. self.new.decls ≡ with_replacements self.old.decls replacements.items) }
+        ensures is_module { IfOk result (λ x. IsModuleOf self.new.decls self.new.typed) }
+        ensures opened { IfOk result (λ x. IsOpened B.workers (B.state board.old) (B.noted board.old) (B.state board.new) (B.noted board.new) turns (rebuilt (built self.old.typed) self.new.typed) self.new.typed (reply_view x)) }
+        ensures back { IfErr result (λ v. v.items ≡ replacements.items) }
+        ensures same { OnErr result (self.new ≡ self.old) }
+        ensures board { OnErr result (IsUndone B.workers (B.state board.old) (B.noted board.old) (B.state board.new) (B.noted board.new)) }
     {
         match reopen_revised(
             alloc,
@@ -253,12 +268,9 @@ impl OpenProgram {
         ) {
             Some(reply) => {
                 put_decls(&mut self.program, replacements);
-                Some(reply)
+                Ok(reply)
             }
-            None => {
-                drop(replacements);
-                None
-            }
+            None => Err(replacements),
         }
     }
 }

@@ -1,5 +1,5 @@
 // The session.
-ghost use Rattle.std.specs.Prelude.{◌≡◌, ◌<◌, ◌^◌, ◌-◌, length, Result, Ok, Err, IfOk, IfErr, IfSome, IfNone};
+ghost use Rattle.std.specs.Prelude.{◌≡◌, ◌<◌, ◌^◌, ◌-◌, length, Result, Ok, Err, IfOk, IfErr, OnOk, OnErr};
 ghost use Rattle.bpl_model.specs.Module.{Module as typed_module};
 ghost use Rattle.canonical_text.specs.RoundTrip.{AreWrittenDecls};
 ghost use Rattle.vc_build.specs.Rebuild.{built, rebuilt as rebuilt_of};
@@ -141,7 +141,7 @@ impl<B: GoalBoard, L: Ledger> Session<B, L> {
         }
     }
 
-    // An open or an edit: where procedures get other clauses or bodies, the program stays open with them.
+    // An open or an edit. Where its puts take the places of others, they are read once.
     #[tactic(auto, using(crate::proofs::Answering::no_later))]
     fn edit(&mut self, request: &Request) -> Result<Reply, AllocError>
         requires change { IsChange (request_view request.now) }
@@ -152,35 +152,39 @@ impl<B: GoalBoard, L: Ledger> Session<B, L> {
         if !has_short_texts(request) {
             return Err(AllocError);
         }
-        match self.revise(request) {
-            Some(reply) => Ok(reply),
+        let found = replacements_of(self.alloc, self.opened.decls(), request)?;
+        match found {
+            Some(replacements) => self.replace(replacements),
             None => self.edit_any(request),
         }
     }
 
-    // An edit of clauses and bodies of procedures; else nothing changes.
-    fn revise(&mut self, request: &Request) -> Option<Reply>
-        requires short { TextsAreShort (request_view request.now) }
-        requires room { HasRoom self.old }
-        ensures answered { IfSome result (λ x. IsAnswered self.old (Ok (request_view request.now)) (reply_view x) self.new) }
-        ensures later { IfSome result (λ x. IsLater self.old self.new) }
-        ensures same { IfNone result (IsUnchanged self.old self.new) }
-    {
-        match replacements_of(self.alloc, self.opened.decls(), request) {
-            Ok(Some(replacements)) => self.put(replacements),
-            Ok(None) | Err(_) => None,
-        }
-    }
-
-    // The declarations take the places of those that stand there; else nothing changes.
-    fn put(&mut self, replacements: Vec<Replacement>) -> Option<Reply>
+    // The declarations take the places of those that stand there: where they are revisions of these, the
+    // program stays open with them.
+    fn replace(&mut self, replacements: Vec<Replacement>) -> Result<Reply, AllocError>
         requires there { AreThere self.old.state.decls replacements.items }
         requires short { SourcesAreShort (with_replacements self.old.state.decls replacements.items) }
         requires written { AreWrittenDecls 0 (with_replacements self.old.state.decls replacements.items) }
         requires room { HasRoom self.old }
-        ensures answered { IfSome result (λ x. (r : asked.Request) → IsEdited self.old.state.decls r (edited_to (with_replacements self.old.state.decls replacements.items)) → IsAnswered self.old (Ok r) (reply_view x) self.new) }
-        ensures later { IfSome result (λ x. IsLater self.old self.new) }
-        ensures same { IfNone result (IsUnchanged self.old self.new) }
+        ensures answered { (r : asked.Request) → IsEdited self.old.state.decls r (edited_to (with_replacements self.old.state.decls replacements.items)) → IsAnswered self.old (Ok r) (reply_of result) self.new }
+        ensures later { IsLater self.old self.new }
+    {
+        match self.put(replacements) {
+            Ok(reply) => Ok(reply),
+            Err(replacements) => self.take_replaced(replacements),
+        }
+    }
+
+    // Revisions take the places of those that stand there; else nothing changes, and they are given back.
+    fn put(&mut self, replacements: Vec<Replacement>) -> Result<Reply, Vec<Replacement>>
+        requires there { AreThere self.old.state.decls replacements.items }
+        requires short { SourcesAreShort (with_replacements self.old.state.decls replacements.items) }
+        requires written { AreWrittenDecls 0 (with_replacements self.old.state.decls replacements.items) }
+        requires room { HasRoom self.old }
+        ensures answered { IfOk result (λ x. (r : asked.Request) → IsEdited self.old.state.decls r (edited_to (with_replacements self.old.state.decls replacements.items)) → IsAnswered self.old (Ok r) (reply_view x) self.new) }
+        ensures later { OnOk result (IsLater self.old self.new) }
+        ensures back { IfErr result (λ v. v.items ≡ replacements.items) }
+        ensures same { OnErr result (IsUnchanged self.old self.new) }
     {
         self.opened.has_module();
         match self.opened.revise(
@@ -190,15 +194,28 @@ impl<B: GoalBoard, L: Ledger> Session<B, L> {
             self.turns,
             &mut self.steps,
         ) {
-            Some(reply) => {
+            Ok(reply) => {
                 self.version += 1;
-                Some(reply)
+                Ok(reply)
             }
-            None => None,
+            Err(replacements) => Err(replacements),
         }
     }
 
-    // Any open or edit.
+    // Takes the program's declarations with these in their places, where they have no fault.
+    fn take_replaced(&mut self, replacements: Vec<Replacement>) -> Result<Reply, AllocError>
+        requires there { AreThere self.old.state.decls replacements.items }
+        requires short { SourcesAreShort (with_replacements self.old.state.decls replacements.items) }
+        requires written { AreWrittenDecls 0 (with_replacements self.old.state.decls replacements.items) }
+        requires room { HasRoom self.old }
+        ensures answered { (r : asked.Request) → IsEdited self.old.state.decls r (edited_to (with_replacements self.old.state.decls replacements.items)) → IsAnswered self.old (Ok r) (reply_of result) self.new }
+        ensures later { IsLater self.old self.new }
+    {
+        let decls = self.opened.with_replacements(self.alloc, replacements)?;
+        self.take(decls)
+    }
+
+    // Any other open or edit.
     fn edit_any(&mut self, request: &Request) -> Result<Reply, AllocError>
         requires change { IsChange (request_view request.now) }
         requires short { TextsAreShort (request_view request.now) }

@@ -15,24 +15,24 @@ revise-requires-clause-room g c =
 pub invariant_of-self : goal.invariant_of-self
 invariant_of-self g c =
     let i = c.self.inside in
-    opened_ready i.turns _ _ c.revise.new.self i.version _ _ _ _ _ c.self.invariant.version c.in-Some.ensures.opened c.self.invariant.unclosed
+    opened_ready i.turns _ _ c.revise.new.self i.version _ _ _ _ _ c.self.invariant.version c.in-Ok.ensures.opened c.self.invariant.unclosed
 
-pub invariant_of-self-in-None : goal.invariant_of-self-in-None
-invariant_of-self-in-None g c =
+pub invariant_of-self-in-Err : goal.invariant_of-self-in-Err
+invariant_of-self-in-Err g c =
     let i = c.self.inside in
-    unput_ready i.turns _ i.opened c.revise.new.self i.version _ _ _ _ c.self.invariant c.in-None.ensures.same c.in-None.ensures.board
+    unput_ready i.turns _ i.opened c.revise.new.self i.version _ _ _ _ c.self.invariant c.in-Err.ensures.same c.in-Err.ensures.board
 
-pub returns-in-Some-clause-answered : goal.returns-in-Some-clause-answered
-returns-in-Some-clause-answered g c =
+pub returns-in-Ok-clause-answered : goal.returns-in-Ok-clause-answered
+returns-in-Ok-clause-answered g c =
     let i = c.self.inside in
-    rw (← c.self.view_is) (put_goes i.turns _ i.opened c.revise.new.self i.version _ _ _ _ _ (with_replacements i.opened.decls c.args.replacements.items) c.self.invariant.version c.has_module.ensures c.in-Some.ensures.decls c.in-Some.ensures.is_module c.in-Some.ensures.opened)
+    rw (← c.self.view_is) (put_goes i.turns _ i.opened c.revise.new.self i.version _ _ _ _ _ (with_replacements i.opened.decls c.args.replacements.items) c.self.invariant.version c.has_module.ensures c.in-Ok.ensures.decls c.in-Ok.ensures.is_module c.in-Ok.ensures.opened)
 
-pub returns-in-Some-clause-later : goal.returns-in-Some-clause-later
-returns-in-Some-clause-later g c =
+pub returns-in-Ok-clause-later : goal.returns-in-Ok-clause-later
+returns-in-Ok-clause-later g c =
     let i = c.self.inside in
-    rw (← c.self.view_is) (opened_later i.turns _ _ c.revise.new.self i.version _ _ _ _ _ c.self.invariant.version c.in-Some.ensures.opened i.opened.decls)
+    rw (← c.self.view_is) (opened_later i.turns _ _ c.revise.new.self i.version _ _ _ _ _ c.self.invariant.version c.in-Ok.ensures.opened i.opened.decls)
 
-pub returns-in-None-clause-same : goal.returns-in-None-clause-same
-returns-in-None-clause-same g c =
+pub returns-in-Err-clause-same : goal.returns-in-Err-clause-same
+returns-in-Err-clause-same g c =
     let i = c.self.inside in
-    rw (← c.self.view_is) (unput_same i.turns _ i.opened c.revise.new.self i.version _ _ _ _ c.in-None.ensures.same c.in-None.ensures.board)
+    rw (← c.self.view_is) (unput_same i.turns _ i.opened c.revise.new.self i.version _ _ _ _ c.in-Err.ensures.same c.in-Err.ensures.board)
