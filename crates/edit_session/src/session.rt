@@ -141,7 +141,7 @@ impl<B: GoalBoard, L: Ledger> Session<B, L> {
         }
     }
 
-    // An open or an edit. Where its puts take the places of others, they are read once.
+    // An open or an edit. Its puts are read once.
     #[tactic(auto, using(crate::proofs::Answering::no_later))]
     fn edit(&mut self, request: &Request) -> Result<Reply, AllocError>
         requires change { IsChange (request_view request.now) }
@@ -152,10 +152,10 @@ impl<B: GoalBoard, L: Ledger> Session<B, L> {
         if !has_short_texts(request) {
             return Err(AllocError);
         }
-        let found = replacements_of(self.alloc, self.opened.decls(), request)?;
-        match found {
-            Some(replacements) => self.replace(replacements),
-            None => self.edit_any(request),
+        match replacements_of(self.alloc, self.opened.decls(), request) {
+            Ok(Some(replacements)) => self.replace(replacements),
+            Ok(None) => self.edit_any(request),
+            Err(fault) => refusal(fault),
         }
     }
 

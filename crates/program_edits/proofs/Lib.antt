@@ -4,3 +4,4 @@ pub mod Steps
 pub mod Replacing
 pub mod Placed
 mod Leaving
+pub mod Named

@@ -1,5 +1,5 @@
 -- The declarations that take the places of others, where an edit does nothing else.
-use Rattle.std.specs.Prelude.{◌≡◌, ℕ, suc, ◌<◌, ◌||◌, cond, List, [], ◌∷◌, map, length, slice_set, Option, Some, None, option_map, Result, Ok, Err, bytes_eq}
+use Rattle.std.specs.Prelude.{◌≡◌, ℕ, suc, ◌<◌, ◌||◌, ◌&&◌, Bool, true, is_some, cond, List, [], ◌∷◌, map, length, slice_set, Option, Some, None, option_map, Result, Ok, Err, bytes_eq}
 use Rattle.std.specs.List.{AllByRecursion}
 use Rattle.bpl_ast.specs.Statement.{Decl}
 use Rattle.bpl_scopes.specs.Fault.{is_among}
@@ -11,6 +11,11 @@ use Rattle.program_edits.specs.declared.replaced.Replacement.{Replacement}
 abbrev pub only_place : List ℕ → List Decl → Option ℕ
 only_place n [] = None
 only_place n (d ∷ ds) = cond (bytes_eq n d.name) (cond (is_axiom d.body || is_among (names ds) n) None (Some 0)) (option_map suc (only_place n ds))
+
+-- each put's name is that of such a declaration
+abbrev pub are_named : List Decl → List Put → Bool
+are_named old [] = true
+are_named old (p ∷ ps) = is_some (only_place p.name old) && are_named old ps
 
 abbrev pub unless_axiom : Decl → Option Decl
 unless_axiom d = cond (is_axiom d.body) None (Some d)

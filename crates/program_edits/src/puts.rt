@@ -83,9 +83,9 @@ fn faulty_put(alloc: Global, put: &Put, fault: Fault) -> EditFault
     }
 }
 
-/// The declaration that the put's text is.
+// The declaration that the put's text is.
 #[tactic(auto, using(crate::proofs::Steps::put_spelled, crate::proofs::Steps::put_other, crate::proofs::Steps::put_faulty, crate::proofs::Steps::memory_refuses))]
-pub(crate) fn put_decl(alloc: Global, put: &Put) -> Result<Decl, EditFault>
+fn put_decl(alloc: Global, put: &Put) -> Result<Decl, EditFault>
     requires short { length (string_bytes put.now.text) < 2 ^ 32 - 1 }
     ensures ok { IfOk result (λ d. put_as (put_view put.now) (reading (string_bytes put.now.text)) ≡ Ok d) }
     ensures err { IfErr result (RefusedBy (put_as (put_view put.now) (reading (string_bytes put.now.text)))) }

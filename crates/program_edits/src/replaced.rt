@@ -1,16 +1,16 @@
 // The declaration that takes the place of another.
 ghost use Rattle.std.specs.List.{All};
-ghost use Rattle.std.specs.Prelude.{◌≡◌, ◌<◌, ◌-◌, ◌^◌, ◌||◌, cond, length, map, option_map, Some, None, IfOk, IfSome, string_bytes};
+ghost use Rattle.std.specs.Prelude.{◌≡◌, ◌<◌, ◌-◌, ◌^◌, ◌||◌, cond, length, map, option_map, Some, None, IfOk, IfErr, IfSome, string_bytes};
 ghost use Rattle.bpl_scopes.specs.Fault.{is_among};
 ghost use Rattle.fault_text.specs.FaultView.{SourcesAreShort};
 ghost use Rattle.request_text.specs.RequestView.{put_view, request_view};
-ghost use Rattle.program_edits.specs.Edited.{edited, names, is_axiom, put_as, numbered, IsEdited};
-ghost use Rattle.program_edits.specs.Refusals.{TextsAreShort, reading};
-ghost use Rattle.program_edits.specs.Replaced.{only_place, unless_axiom, plain, placed, all_placed, plain_puts, replaced_by, Replaces, with_replacements, AreThere};
+ghost use Rattle.program_edits.specs.Edited.{Edited, edited, names, is_axiom, numbered, puts_of, edited_by, IsEdited};
+ghost use Rattle.program_edits.specs.Refusals.{TextsAreShort, RefusedBy, Tells, IsRefused, reading};
+ghost use Rattle.program_edits.specs.Replaced.{only_place, are_named, unless_axiom, placed, all_placed, plain_puts, replaced_by, Replaces, with_replacements, AreThere};
 
 use crate::fault::EditFault;
 use crate::names::is_axiom;
-use crate::puts::put_decl;
+use crate::puts::put_decls;
 use bpl_ast::Decl;
 use request_text::{Put, Request};
 use std::alloc::{AllocError, Global};
@@ -57,6 +57,18 @@ fn only_place(name: &[u8], decls: &[Decl]) -> Option<usize>
     None
 }
 
+// Whether each put's name is that of exactly one declaration, which is no axiom.
+fn are_named(old: &[Decl], puts: &[Put]) -> bool
+    ensures { result ≡ are_named old.now (map put_view puts.now) }
+{
+    for put in puts {
+        if only_place(put.name.as_bytes(), old).is_none() {
+            return false;
+        }
+    }
+    true
+}
+
 // The declaration in the place of the only one of its name.
 fn placed(old: &[Decl], decl: Decl) -> Option<Replacement>
     ensures { result ≡ placed old.now (Some decl) }
@@ -80,46 +92,28 @@ fn unless_axiom(decl: Decl) -> Option<Decl>
     Some(decl)
 }
 
-// The declaration that is put in, where it is no axiom.
-#[tactic(auto, using(crate::proofs::Placed::plain_refused))]
-fn plain(alloc: Global, put: &Put) -> Result<Option<Decl>, AllocError>
-    requires short { length (string_bytes put.now.text) < 2 ^ 32 - 1 }
-    ensures { IfOk result (λ o. o ≡ plain (put_as (put_view put.now) (reading (string_bytes put.now.text)))) }
+// The declaration, where it is no axiom, in the place of the only one of its name.
+fn plain_placed(old: &[Decl], decl: Decl) -> Option<Replacement>
+    ensures { result ≡ placed old.now (unless_axiom decl) }
 {
-    match put_decl(alloc, put) {
-        Ok(decl) => Ok(unless_axiom(decl)),
-        Err(EditFault::Memory) => Err(AllocError),
-        Err(fault) => {
-            drop(fault);
-            Ok(None)
-        }
+    match unless_axiom(decl) {
+        Some(decl) => placed(old, decl),
+        None => None,
     }
 }
 
-// The put's declaration in the place of the only one of its name.
-fn put_placed(alloc: Global, old: &[Decl], put: &Put) -> Result<Option<Replacement>, AllocError>
-    requires short { length (string_bytes put.now.text) < 2 ^ 32 - 1 }
-    ensures { IfOk result (λ o. o ≡ placed old.now (plain (put_as (put_view put.now) (reading (string_bytes put.now.text))))) }
-{
-    match plain(alloc, put)? {
-        Some(decl) => Ok(placed(old, decl)),
-        None => Ok(None),
-    }
-}
-
-// The declarations of puts, each in the place of the only one of its name.
+// The declarations, each in the place of the only one of its name.
 #[tactic(auto, using(crate::proofs::Replacing::none_behind, crate::proofs::Replacing::one_more))]
 fn all_placed(
     alloc: Global,
     old: &[Decl],
-    puts: &[Put],
+    decls: Vec<Decl>,
 ) -> Result<Option<Vec<Replacement>>, AllocError>
-    requires short { All (λ (p : Put). length (string_bytes p.text) < 2 ^ 32 - 1) puts.now }
-    ensures { IfOk result (λ o. option_map (λ v. v.items) o ≡ all_placed old.now (plain_puts reading (map put_view puts.now))) }
+    ensures { IfOk result (λ o. option_map (λ v. v.items) o ≡ all_placed old.now (map unless_axiom decls.items)) }
 {
     let mut found = Vec::new(alloc);
-    for put in puts {
-        match put_placed(alloc, old, put)? {
+    for decl in decls {
+        match plain_placed(old, decl) {
             Some(replacement) => found.push(replacement)?,
             None => return Ok(None),
         }
@@ -127,18 +121,42 @@ fn all_placed(
     Ok(Some(found))
 }
 
+// The declarations of puts, each in the place of the only one of its name; or the first refusal. Names
+// are looked at before a text is read.
+#[tactic(auto, using(crate::proofs::Named::unnamed_placed, crate::proofs::Named::read_placed, crate::proofs::Steps::memory_refuses))]
+fn replaced_puts(
+    alloc: Global,
+    old: &[Decl],
+    puts: &[Put],
+) -> Result<Option<Vec<Replacement>>, EditFault>
+    requires short { All (λ (p : Put). length (string_bytes p.text) < 2 ^ 32 - 1) puts.now }
+    ensures ok { IfOk result (λ o. option_map (λ v. v.items) o ≡ all_placed old.now (plain_puts reading (map put_view puts.now))) }
+    ensures err { IfErr result (RefusedBy (puts_of reading (map put_view puts.now))) }
+{
+    if !are_named(old, puts) {
+        return Ok(None);
+    }
+    let decls = put_decls(alloc, puts)?;
+    match all_placed(alloc, old, decls) {
+        Ok(found) => Ok(found),
+        Err(AllocError) => Err(EditFault::Memory),
+    }
+}
+
+#[tactic(auto, using(crate::proofs::Named::refused_by_puts))]
 fn replaced_exactly(
     alloc: Global,
     old: &[Decl],
     edit: &Request,
-) -> Result<Option<Vec<Replacement>>, AllocError>
+) -> Result<Option<Vec<Replacement>>, EditFault>
     requires short { TextsAreShort (request_view edit.now) }
-    ensures { IfOk result (λ o. option_map (λ v. v.items) o ≡ replaced_by reading old.now (request_view edit.now)) }
+    ensures ok { IfOk result (λ o. option_map (λ v. v.items) o ≡ replaced_by reading old.now (request_view edit.now)) }
+    ensures err { IfErr result (λ fault. (e : Edited) × (edited_by reading old.now (request_view edit.now) ≡ Some e) × Tells fault e) }
 {
     match edit {
         Request::Edit { put, drop } => {
             if drop.is_empty() {
-                all_placed(alloc, old, put)
+                replaced_puts(alloc, old, put)
             } else {
                 Ok(None)
             }
@@ -154,20 +172,22 @@ fn replaced_exactly(
 
 /// The declarations that an edit puts in the places of others, in the order of its puts, where it does
 /// nothing else: it has no drop, each put's text is one declaration of its name, exactly one old
-/// declaration has that name, and neither is an axiom. Each other request gives `None`, one that is
-/// refused too: `edited` tells why. The old declarations, whose axioms have their numbers, are lent; the
-/// others stay as they are.
+/// declaration has that name, and neither is an axiom. Each other request gives `None`, and no text of
+/// it is read where a put's name is that of no such declaration. Where all names are, the first put that
+/// is refused is told, as `edited` tells it. The old declarations, whose axioms have their numbers, are
+/// lent; the others stay as they are.
 pub fn replacements_of(
     alloc: Global,
     old: &[Decl],
     edit: &Request,
-) -> Result<Option<Vec<Replacement>>, AllocError>
+) -> Result<Option<Vec<Replacement>>, EditFault>
     requires short { TextsAreShort (request_view edit.now) }
     requires numbered { numbered 0 old.now ≡ old.now }
     ensures exact { IfOk result (λ o. Replaces old.now (request_view edit.now) (option_map (λ v. v.items) o)) }
     ensures there { IfOk result (λ o. IfSome o (λ v. AreThere old.now v.items)) }
     ensures edited { IfOk result (λ o. IfSome o (λ v. IsEdited old.now (request_view edit.now) (edited (with_replacements old.now v.items)))) }
     ensures sources { IfOk result (λ o. IfSome o (λ v. SourcesAreShort old.now → SourcesAreShort (with_replacements old.now v.items))) }
+    ensures refused { IfErr result (IsRefused old.now (request_view edit.now)) }
 {
     replaced_exactly(alloc, old, edit)
 }

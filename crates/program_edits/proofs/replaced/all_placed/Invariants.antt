@@ -1,10 +1,12 @@
-use Rattle.std.proofs.Common.{◌≡◌, drop, map}
-use Rattle.request_text.specs.RequestView.{put_view}
-use Rattle.program_edits.specs.Refusals.{reading}
-use Rattle.program_edits.specs.Replaced.{all_placed, plain_puts}
+use Rattle.std.proofs.Common.{◌≡◌, map, length}
+use Rattle.std.specs.Vec.Iter.{into_iter_items, into_iter_len}
+use Rattle.program_edits.specs.Replaced.{unless_axiom, all_placed}
 use Rattle.program_edits.proofs.Replacing.{behind}
 use Rattle.program_edits.proofs.replaced.all_placed.Given as goal
 
 -- those that are found, and what is found of the others
-abbrev pub invariant-loop-put : goal.invariant-loop-put
-invariant-loop-put l = behind l.found.items (all_placed l.old (plain_puts reading (map put_view (drop l.put-index l.puts)))) ≡ all_placed l.old (plain_puts reading (map put_view l.puts))
+abbrev pub invariant-loop-decl : goal.invariant-loop-decl
+invariant-loop-decl l = record {
+  left : behind l.found.items (all_placed l.old (map unless_axiom (into_iter_items l.decl-iterator))) ≡ all_placed l.old (map unless_axiom l.fn.decls.items);
+  counted : into_iter_len l.decl-iterator ≡ length (into_iter_items l.decl-iterator);
+}
