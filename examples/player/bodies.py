@@ -29,7 +29,7 @@ class Body:
         self.procedure = procedure
         self.callees = callees
         self.noise = chance.choice([0.0, 0.0, 0.0, 0.08, 0.25])
-        self.slip = chance.choice([0.0, 0.0, 0.2])
+        self.slip = chance.choice([0.0, 0.0, 0.25])
         self.own = {it.name: it for it in procedure.ins + procedure.outs + procedure.locals}
         self.globals = {it.name: it for it in program.variables if it.name not in self.own}
         names = {it.name: it.type for it in program.constants}
@@ -110,9 +110,12 @@ class Body:
         count = self.random.choice([1, 1, 1, 2, 3])
         names = self.random.sample(self.may, min(count, len(self.may)))
         values = {name: self.right_side(name) for name in names if self.terms.has(self.terms.names[name])}
-        self.facts = assigned(self.facts, values)
         if self.slips():
+            for name, value in values.items():
+                self.facts = assigned(self.facts, {name: value})
             self.facts = without(self.clauses(list(values)) + self.facts, [])
+        else:
+            self.facts = assigned(self.facts, values)
         return [trees.Assign([(name, []) for name in values], list(map(self.claims.with_old, values.values())))]
 
     def right_side(self, name: str) -> Expression:

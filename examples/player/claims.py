@@ -276,6 +276,8 @@ class Claims:
                 return Choice(condition, other, then)
             case Quantified(word, variables, triggers, body):
                 return Quantified("exists" if word == "forall" else "forall", variables, triggers, body)
+            case Write(Write(table, index, value), other, last) if self.random.random() < 0.7:
+                return Write(Write(table, other, last), index, value)
             case Write(table, _, _):
                 return table
         return tree
