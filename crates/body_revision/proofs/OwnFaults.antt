@@ -7,7 +7,8 @@ use Rattle.bpl_ast.specs.Place.{Name}
 use Rattle.bpl_ast.specs.Statement.{Body, DeclBody, procedure, implementation, Decl}
 use Rattle.bpl_scopes.specs.declared.fault.Fault.{Fault}
 use Rattle.bpl_scopes.specs.declared.fault.TypeKind.TheVariants.{Twice as twice}
-use Rattle.bpl_scopes.specs.Fault.{first_fault, again, if_so, is_among}
+use Rattle.bv_base.specs.Text.{is_among}
+use Rattle.bpl_scopes.specs.Fault.{first_fault, again, if_so}
 use Rattle.bpl_scopes.specs.Scopes.{contract_with, Table, table_of, Counts, no_counts, counts_after, entity_of}
 use Rattle.bpl_scopes.specs.TypeFaults.{group_where_faults}
 use Rattle.bpl_scopes.proofs.IsFirst.{no_first-no_fault}

@@ -9,7 +9,8 @@ use Rattle.bpl_ast.specs.Statement.{Argument, Body, Spec, requires, ensures, mod
 use Rattle.bpl_scopes.specs.declared.fault.TypeKind.TheVariants.{Twice as twice, Unknown as unknown, Kind as wrong_kind, Arity as arity, Cycle as cycle, Unbuilt as unbuilt}
 use Rattle.bpl_scopes.specs.declared.fault.Construct.TheVariants.{UniqueWord as unique_word, Uninterpreted as uninterpreted, TypeWord as type_word}
 use Rattle.bpl_scopes.specs.declared.fault.Fault.{Fault}
-use Rattle.bpl_scopes.specs.Fault.{fault, unless, if_so, again, is_among, first_fault}
+use Rattle.bv_base.specs.Text.{is_among}
+use Rattle.bpl_scopes.specs.Fault.{fault, unless, if_so, again, first_fault}
 use Rattle.bpl_scopes.specs.declared.part.Part.TheVariants.{Axiom as in_axiom, Requires as in_requires, Ensures as in_ensures, Body as in_body, ClauseOfGlobal as in_clause_of_global, ClauseOfIn as in_clause_of_in, ClauseOfOut as in_clause_of_out, ClauseOfLocal as in_clause_of_local}
 use Rattle.bpl_scopes.specs.Scopes.{Text, contract_with, Entity, a_constant, a_global, a_function, a_synonym, a_procedure, Table, table_of, Counts, counts_after, no_counts, declared_names, names_of, only_names, texts_of, signature_names, entity_of, Var}
 use Rattle.bpl_scopes.specs.Sorts.{sort_of_type, sorts_of_names}

@@ -1,7 +1,8 @@
 // What goes before a declaration: the names that are declared, and the procedures that have a body.
 ghost use Rattle.std.specs.Prelude.{◌≡◌, ◌++◌, ◌&&◌, cond, [], ◌∷◌, reverse, OnOk};
 ghost use Rattle.bpl_scopes.specs.declared.fault.TypeKind.TheVariants.{Twice as twice};
-ghost use Rattle.bpl_scopes.specs.Fault.{again, if_so, is_among, earlier, first_fault};
+ghost use Rattle.bv_base.specs.Text.{is_among};
+ghost use Rattle.bpl_scopes.specs.Fault.{again, if_so, earlier, first_fault};
 ghost use Rattle.bpl_scopes.specs.Scopes.{texts_of};
 ghost use Rattle.bpl_declaration_faults.specs.DeclFaults.{has_body};
 ghost use Rattle.bpl_faults.specs.Arguments.{names_seen};

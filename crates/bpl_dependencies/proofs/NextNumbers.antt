@@ -6,7 +6,7 @@ use Rattle.bpl_scopes.specs.Scopes.{Text, Table, Entry, entity_of}
 use Rattle.bpl_scopes.specs.KnownSorts.{names_in}
 use Rattle.bpl_scopes.specs.Functions.{next_names, numbered}
 use Rattle.bpl_scopes.proofs.FirstAt.{entity_at, entity_first}
-use Rattle.bpl_scopes.specs.Fault.{is_among}
+use Rattle.bv_base.specs.Text.{is_among}
 use Rattle.bpl_scopes.specs.TableView.{entry_seen, entries_seen}
 use Rattle.bpl_scopes.specs.declared.table.Entry.{Entry as kept}
 use Rattle.bpl_dependencies.specs.NamesAt.{name_at, names_at, looked_name}

@@ -1,7 +1,7 @@
 // The variables that hide names in an expression.
 ghost use Rattle.std.specs.Prelude.{◌≡◌, ◌++◌, IfOk, OnOk};
 ghost use Rattle.bpl_ast.specs.ExprView.{groups_of};
-ghost use Rattle.bpl_scopes.specs.Fault.{is_among};
+ghost use Rattle.bv_base.specs.Text.{is_among};
 ghost use Rattle.bpl_scopes.specs.Scopes.{names_of, only_names, texts_of};
 ghost use Rattle.bpl_scopes.specs.Functions.{argument_names};
 ghost use Rattle.bpl_dependencies.specs.AppliedView.{texts_seen, variables_seen};

@@ -9,7 +9,8 @@ use Rattle.bpl_ast.specs.ExprView.{groups_of}
 use Rattle.bpl_ast.specs.declared.expr.Group.{Group}
 use Rattle.bpl_scopes.specs.declared.fault.TypeKind.{TypeKind}
 use Rattle.bpl_scopes.specs.declared.fault.Fault.{Fault}
-use Rattle.bpl_scopes.specs.Fault.{is_among, again, if_so, earlier, first_fault}
+use Rattle.bv_base.specs.Text.{is_among}
+use Rattle.bpl_scopes.specs.Fault.{again, if_so, earlier, first_fault}
 use Rattle.bpl_scopes.specs.Scopes.{Text, Table, BoundVar, typed_names, names_of, only_names}
 use Rattle.bpl_scopes.specs.Sorts.{sort_of_type}
 use Rattle.bpl_scopes.proofs.FirstFault.{joins}

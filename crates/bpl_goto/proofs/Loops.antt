@@ -8,7 +8,8 @@ use Rattle.bpl_model.specs.Names.{with_name, with_names}
 use Rattle.bpl_model.specs.StmtView.{stmts_of}
 use Rattle.bpl_model.specs.Cut.{append, one}
 use Rattle.bpl_model.proofs.NamesPut.{names_among}
-use Rattle.bpl_goto.specs.Labels.{is_among, labels_in, labels_within, named_in, named_within, longest}
+use Rattle.bv_base.specs.Text.{is_among}
+use Rattle.bpl_goto.specs.Labels.{labels_in, labels_within, named_in, named_within, longest}
 use Rattle.bpl_goto.specs.Removed.{wrapped, wrapped_for, leave, choice, stmt_without, list_without}
 
 -- names that are put in one list after another

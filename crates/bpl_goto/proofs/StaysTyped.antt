@@ -11,7 +11,8 @@ use Rattle.bv_base.specs.declared.place.Place.{Place}
 use Rattle.bpl_model.specs.Module.{Name, Stmt, assert, assume, havoc, assign, call, if_else, while, break, return, goto, labelled, Stmts, no_stmts, stmt, labels_of, is_scope, Proc, Module}
 use Rattle.bpl_model.specs.Typed.{IsTyped, AreTyped, IsTypedProc, IsBody}
 use Rattle.bpl_model.specs.Cut.{append, one}
-use Rattle.bpl_goto.specs.Labels.{is_among, list_labels, named_in, named_within, labels_within, longest}
+use Rattle.bv_base.specs.Text.{is_among}
+use Rattle.bpl_goto.specs.Labels.{list_labels, named_in, named_within, labels_within, longest}
 use Rattle.bpl_goto.specs.Forward.{GoesForward, GoForward, BodyGoesForward}
 use Rattle.bpl_goto.specs.Removed.{wrapper, wrapped, wrapped_for, choice, stmt_without, list_without, body_without, removed, remove_gotos}
 use Rattle.bpl_goto.specs.Kept.{RemoveGotosStaysTyped}

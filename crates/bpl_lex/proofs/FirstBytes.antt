@@ -3,7 +3,8 @@ use Rattle.std.specs.Prelude.{◌≡◌, ℕ, Bool, true, false, ◌&&◌, ◌||
 use Rattle.std.specs.List.{list_any}
 use Rattle.std.proofs.Common.{refl, ap, sym, ◌∙◌, arith}
 use Rattle.std.proofs.lemmas.Bool.Decides.{nat_tests, Decides-eqb}
-use Rattle.bpl_lex.specs.Shape.{among, is_blank_byte, is_letter, is_digit}
+use Rattle.bv_base.specs.Text.{is_among}
+use Rattle.bpl_lex.specs.Shape.{is_blank_byte, is_letter, is_digit}
 
 -- a test is not both true and false
 not_both : {A : Type 0} (x : Bool) → x ≡ true → x ≡ false → A
@@ -40,12 +41,12 @@ first_passes P [] = false
 first_passes P (c ∷ cs) = P c
 
 -- a text is none of these, where their first bytes fail a test that its first byte passes
-pub not_among : (P : ℕ → Bool) (b : ℕ) (bytes : List ℕ) (texts : List (List ℕ)) → P b ≡ true → list_any (first_passes P) texts ≡ false → among texts (b ∷ bytes) ≡ false
+pub not_among : (P : ℕ → Bool) (b : ℕ) (bytes : List ℕ) (texts : List (List ℕ)) → P b ≡ true → list_any (first_passes P) texts ≡ false → is_among texts (b ∷ bytes) ≡ false
 not_among P b bytes [] h i = refl
 not_among P b bytes ([] ∷ texts) h i = not_among P b bytes texts h i
 not_among P b bytes ((c ∷ cs) ∷ texts) h i =
     let parts = or_false (P c) (list_any (first_passes P) texts) i in
-    λ j. differs' P b c h parts.0 j && bytes_eq cs bytes || not_among P b bytes texts h parts.1 j
+    λ j. differs P b c h parts.0 j && bytes_eq bytes cs || not_among P b bytes texts h parts.1 j
 
 -- a digit is no capital letter
 no_upper : (b : ℕ) → is_digit b ≡ true → (nat_le 65 b && nat_le b 90) ≡ false

@@ -9,7 +9,8 @@ use Rattle.std.proofs.lemmas.List.Folds.{length-prefix_len}
 use Rattle.std.proofs.lemmas.List.Sums.{prefix_len-le-length}
 use Rattle.std.specs.Cmp.Lexicographic.{same_text}
 use Rattle.bpl_lex.specs.Token.{id, number, text, sign, word}
-use Rattle.bpl_lex.specs.Shape.{among, words, is_sign, is_blank_byte, is_letter, is_digit, opens_comment, Piece, blank, comment, token, piece_of}
+use Rattle.bv_base.specs.Text.{is_among}
+use Rattle.bpl_lex.specs.Shape.{words, is_sign, is_blank_byte, is_letter, is_digit, opens_comment, Piece, blank, comment, token, piece_of}
 use Rattle.bpl_lex.specs.Lexing.{allowed, front}
 use Rattle.bpl_lex.specs.Front.{comment_end, string_end, IsLongestPassing, NonePasses, BeginsNoOther}
 use Rattle.bpl_lex.proofs.Longest.{front_from, front_none}
@@ -48,13 +49,13 @@ prefix_by bytes t p k n each closed above e =
 
 -- a word or an identifier
 abbrev pub name_kind : List ℕ → ℕ → Piece
-name_kind bytes n = token (if among words (take n bytes) then word else id)
+name_kind bytes n = token (if is_among words (take n bytes) then word else id)
 
 -- a front after a letter is a word or an identifier where its bytes may all stand in one
 name_piece : (b : ℕ) (bytes : List ℕ) → is_letter b ≡ true → (m : ℕ) → 0 < m → piece_of (take m (b ∷ bytes)) ≡ cond (list_all is_name_byte (take m (b ∷ bytes))) (Some (name_kind (b ∷ bytes) m)) None
 name_piece b bytes h zero a = absurd (omega arith)
 name_piece b bytes h (suc m) a =
-    piece_is (b ∷ take m bytes) _ _ _ _ _ _ (reads_name b (take m bytes) _ h refl) ∙ option_map_cond token (list_all is_name_byte (b ∷ take m bytes)) (if among words (b ∷ take m bytes) then word else id)
+    piece_is (b ∷ take m bytes) _ _ _ _ _ _ (reads_name b (take m bytes) _ h refl) ∙ option_map_cond token (list_all is_name_byte (b ∷ take m bytes)) (if is_among words (b ∷ take m bytes) then word else id)
 
 -- after a letter a word or an identifier begins
 pub name_begins : (bytes : List ℕ) (n : ℕ) → is_letter (slice_index bytes 0) ≡ true → n ≡ length (take_while is_name_byte bytes) → front bytes ≡ Some (name_kind bytes n, n)

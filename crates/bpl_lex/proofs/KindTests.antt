@@ -2,7 +2,8 @@
 use Rattle.std.specs.Prelude.{◌≡◌, ℕ, Bool, true, false, cond, List, Option, Some, None}
 use Rattle.std.proofs.Common.{refl}
 use Rattle.bpl_lex.specs.Token.{Kind, id, number, text, sign, word}
-use Rattle.bpl_lex.specs.Shape.{among, words, is_identifier, is_number, is_string, is_sign, kind_of}
+use Rattle.bv_base.specs.Text.{is_among}
+use Rattle.bpl_lex.specs.Shape.{words, is_identifier, is_number, is_string, is_sign, kind_of}
 
 -- the kind, by the tests
 kind_by : Bool → Bool → Bool → Bool → Bool → Option Kind
@@ -59,26 +60,26 @@ by_sign false w false false true h = refl
 by_sign false w false false false h = absurd (cc)
 
 -- an identifier is one, and no word
-pub id_text : (bytes : List ℕ) → kind_of bytes ≡ Some id → (is_identifier bytes ≡ true) × (among words bytes ≡ false)
+pub id_text : (bytes : List ℕ) → kind_of bytes ≡ Some id → (is_identifier bytes ≡ true) × (is_among words bytes ≡ false)
 unfolding kind_by
-id_text bytes h = by_id (is_identifier bytes) (among words bytes) (is_number bytes) (is_string bytes) (is_sign bytes) h
+id_text bytes h = by_id (is_identifier bytes) (is_among words bytes) (is_number bytes) (is_string bytes) (is_sign bytes) h
 
 -- a word is in the table of words
-pub word_text : (bytes : List ℕ) → kind_of bytes ≡ Some word → among words bytes ≡ true
+pub word_text : (bytes : List ℕ) → kind_of bytes ≡ Some word → is_among words bytes ≡ true
 unfolding kind_by
-word_text bytes h = by_word (is_identifier bytes) (among words bytes) (is_number bytes) (is_string bytes) (is_sign bytes) h
+word_text bytes h = by_word (is_identifier bytes) (is_among words bytes) (is_number bytes) (is_string bytes) (is_sign bytes) h
 
 -- a number is digits
 pub number_text : (bytes : List ℕ) → kind_of bytes ≡ Some number → is_number bytes ≡ true
 unfolding kind_by
-number_text bytes h = by_number (is_identifier bytes) (among words bytes) (is_number bytes) (is_string bytes) (is_sign bytes) h
+number_text bytes h = by_number (is_identifier bytes) (is_among words bytes) (is_number bytes) (is_string bytes) (is_sign bytes) h
 
 -- a string is one
 pub string_text : (bytes : List ℕ) → kind_of bytes ≡ Some text → is_string bytes ≡ true
 unfolding kind_by
-string_text bytes h = by_text (is_identifier bytes) (among words bytes) (is_number bytes) (is_string bytes) (is_sign bytes) h
+string_text bytes h = by_text (is_identifier bytes) (is_among words bytes) (is_number bytes) (is_string bytes) (is_sign bytes) h
 
 -- a sign is in the table of signs
 pub sign_text : (bytes : List ℕ) → kind_of bytes ≡ Some sign → is_sign bytes ≡ true
 unfolding kind_by
-sign_text bytes h = by_sign (is_identifier bytes) (among words bytes) (is_number bytes) (is_string bytes) (is_sign bytes) h
+sign_text bytes h = by_sign (is_identifier bytes) (is_among words bytes) (is_number bytes) (is_string bytes) (is_sign bytes) h

@@ -3,7 +3,8 @@ use Rattle.std.specs.Prelude.{◌≡◌, ℕ, Bool, true, false, ◌&&◌, ◌||
 use Rattle.std.specs.List.{list_all, starts_with}
 use Rattle.std.proofs.Common.{refl, sym, ◌∙◌}
 use Rattle.bpl_lex.specs.Token.{id, number, text, sign, word}
-use Rattle.bpl_lex.specs.Shape.{among, words, brackets, signs, is_sign, is_blank_byte, is_letter, is_digit, is_blank, is_line_comment, is_block_comment, opens_comment, ends_comment, ends_string, is_identifier, is_number, is_string, Piece, blank, comment, token, piece_of}
+use Rattle.bv_base.specs.Text.{is_among}
+use Rattle.bpl_lex.specs.Shape.{words, brackets, signs, is_sign, is_blank_byte, is_letter, is_digit, is_blank, is_line_comment, is_block_comment, opens_comment, ends_comment, ends_string, is_identifier, is_number, is_string, Piece, blank, comment, token, piece_of}
 use Rattle.bpl_lex.proofs.FirstBytes.{differs, differs', not_among, digit_no_letter, letter_no_digit, letter_no_blank}
 
 -- what the text is, by its tests
@@ -23,8 +24,8 @@ pub record Reads (bytes : List ℕ) (b c i n s g : Bool) : Type 0 where
   pub signs : is_sign bytes ≡ g
 
 -- the text is what its tests say
-pub piece_is : (bytes : List ℕ) (b c i n s g : Bool) → Reads bytes b c i n s g → piece_of bytes ≡ choice b c i (among words bytes) n s g
-piece_is bytes b c i n s g r = λ j. choice (r.blanks j) (r.comments j) (r.identifiers j) (among words bytes) (r.numbers j) (r.strings j) (r.signs j)
+pub piece_is : (bytes : List ℕ) (b c i n s g : Bool) → Reads bytes b c i n s g → piece_of bytes ≡ choice b c i (is_among words bytes) n s g
+piece_is bytes b c i n s g r = λ j. choice (r.blanks j) (r.comments j) (r.identifiers j) (is_among words bytes) (r.numbers j) (r.strings j) (r.signs j)
 
 -- a byte that may stand in an identifier
 abbrev pub is_name_byte : ℕ → Bool

@@ -6,7 +6,8 @@ use Rattle.std.proofs.lemmas.List.{length-take-le}
 use Rattle.std.proofs.lemmas.Bool.Decides.{nat_tests}
 use Rattle.std.specs.Cmp.Lexicographic.{same_text}
 use Rattle.bpl_lex.proofs.FirstBytes.{false_from}
-use Rattle.bpl_lex.specs.Shape.{among, brackets, signs, is_sign}
+use Rattle.bv_base.specs.Text.{is_among}
+use Rattle.bpl_lex.specs.Shape.{brackets, signs, is_sign}
 
 -- where one test and the other is true, both are
 and_true : (x y : Bool) → (x && y) ≡ true → (x ≡ true) × (y ≡ true)
@@ -18,11 +19,11 @@ shorter : (k m n : ℕ) → k < n → nat_le m k ≡ true → m ≡ n → ⊥
 shorter k m n above h e = grind (arith, nat_tests)
 
 -- a longer text is another
-other : (k : ℕ) (bytes t : List ℕ) → k < length bytes → nat_le (length t) k ≡ true → bytes_eq t bytes ≡ false
-other k bytes t above h = false_from (bytes_eq t bytes) (λ e. shorter k (length t) (length bytes) above h (ap length (same_text t bytes (sym e))))
+other : (k : ℕ) (bytes t : List ℕ) → k < length bytes → nat_le (length t) k ≡ true → bytes_eq bytes t ≡ false
+other k bytes t above h = false_from (bytes_eq bytes t) (λ e. shorter k (length t) (length bytes) above h (sym (ap length (same_text bytes t (sym e)))))
 
 -- a text longer than each of these is none of them
-not_among_shorter : (k : ℕ) (bytes : List ℕ) (texts : List (List ℕ)) → k < length bytes → list_all (λ t. nat_le (length t) k) texts ≡ true → among texts bytes ≡ false
+not_among_shorter : (k : ℕ) (bytes : List ℕ) (texts : List (List ℕ)) → k < length bytes → list_all (λ t. nat_le (length t) k) texts ≡ true → is_among texts bytes ≡ false
 not_among_shorter k bytes [] above h = refl
 not_among_shorter k bytes (t ∷ texts) above h =
     let parts = and_true (nat_le (length t) k) (list_all (λ u. nat_le (length u) k) texts) h in

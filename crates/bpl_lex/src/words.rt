@@ -1,6 +1,7 @@
 // The words of the language.
 ghost use Rattle.std.specs.Prelude.{◌≡◌};
-ghost use Rattle.bpl_lex.specs.Shape.{among, words};
+ghost use Rattle.bv_base.specs.Text.{is_among};
+ghost use Rattle.bpl_lex.specs.Shape.{words};
 
 /// The words of the language. None of them is an identifier. The last four stand in no production
 /// of the grammar.
@@ -46,7 +47,7 @@ pub const WORDS: [&[u8]; 37] = [
 
 /// Whether the bytes are a word of the language.
 pub fn is_word(name: &[u8]) -> bool
-    ensures { result ≡ among words name.now }
+    ensures { result ≡ is_among words name.now }
 {
     WORDS.contains(&name)
 }

@@ -10,7 +10,8 @@ use Rattle.bpl_model.specs.Module.{Proc}
 use Rattle.bpl_model.specs.Numbering.{defs_of, const_sorts, global_sorts, contract_sorts, in_sorts}
 use Rattle.bpl_model.specs.Typed.{HaveClauses, IsSpec}
 use Rattle.bpl_scopes.specs.declared.fault.TypeKind.TheVariants.{Twice as twice}
-use Rattle.bpl_scopes.specs.Fault.{again, is_among, if_so}
+use Rattle.bv_base.specs.Text.{is_among}
+use Rattle.bpl_scopes.specs.Fault.{again, if_so}
 use Rattle.bpl_scopes.specs.declared.part.Part.TheVariants.{Requires as in_requires, Ensures as in_ensures, ClauseOfIn as in_clause_of_in, ClauseOfOut as in_clause_of_out}
 use Rattle.bpl_scopes.specs.declared.part.Role.TheVariants.{In as in_parameter, Out as out_parameter}
 use Rattle.bpl_scopes.specs.Scopes.{Text, Table, Counts, names_of, Var}

@@ -6,7 +6,8 @@ use Rattle.logic_core.proofs.Booleans.{neither as either_false}
 use Rattle.bpl_ast.specs.Place.{Name, Ty}
 use Rattle.bpl_ast.specs.Statement.{DeclBody, constant, function, axiom_of, variables, synonym, procedure, implementation, Decl}
 use Rattle.bpl_scopes.specs.declared.fault.TypeKind.TheVariants.{Twice as twice}
-use Rattle.bpl_scopes.specs.Fault.{again, is_among}
+use Rattle.bv_base.specs.Text.{is_among}
+use Rattle.bpl_scopes.specs.Fault.{again}
 use Rattle.bpl_scopes.specs.Scopes.{Text, contract_with, Entity, a_constant, a_global, a_procedure, Entry, Table, Counts, counts_with, declared_names, typed_names, names_of, only_names, texts_of, entries_from, entries_of, entries_after, entry_of, entity_of}
 use Rattle.bpl_declaration_faults.specs.DeclFaults.{decl_faults, Before, before_with}
 use Rattle.bpl_resolve.proofs.HasSort.{first_empty}

@@ -3,7 +3,7 @@ use Rattle.std.proofs.Common.{◌≡◌, refl, ap, sym, ◌∙◌, inl, inr, ◌
 use Rattle.std.specs.Prelude.{bytes_eq, fold, cond, option_map, slice_get}
 use Rattle.logic_core.proofs.Booleans.{neither}
 use Rattle.logic_laws.proofs.DefinedSorts.{last_or_before}
-use Rattle.bpl_scopes.specs.Fault.{is_among}
+use Rattle.bv_base.specs.Text.{is_among}
 use Rattle.bpl_scopes.specs.Positions.{first_at}
 use Rattle.bpl_scopes.specs.Scopes.{Text, Table, entity_of}
 use Rattle.bpl_scopes.specs.Functions.{leads, leads_to_itself, numbered, function_names, in_number_order}

@@ -6,7 +6,8 @@ use Rattle.bpl_ast.specs.Place.{Name, Ty, Params}
 use Rattle.bpl_ast.specs.Tree.{Expr, Groups, no_groups, group}
 use Rattle.bpl_ast.specs.Statement.{Argument, Signature, DeclBody, constant, function, axiom_of, variables, synonym, procedure, implementation, Decl}
 use Rattle.bpl_scopes.specs.declared.fault.TypeKind.TheVariants.{Twice as twice}
-use Rattle.bpl_scopes.specs.Fault.{again, is_among, if_so, first_fault}
+use Rattle.bv_base.specs.Text.{is_among}
+use Rattle.bpl_scopes.specs.Fault.{again, if_so, first_fault}
 use Rattle.bpl_scopes.specs.Scopes.{Text, Entity, a_constant, a_global, a_function, a_synonym, a_procedure, Entry, Table, table_of, Counts, no_counts, counts_with, counts_after, typed_names, names_of, only_names, texts_of, signature_names, entries_from, entries_of, entries_after, entry_of, entity_of}
 use Rattle.bpl_scopes.specs.Functions.{leads_to_itself, argument_names}
 use Rattle.bpl_scopes.specs.TypeFaults.{type_faults, group_type_faults, params_faults}

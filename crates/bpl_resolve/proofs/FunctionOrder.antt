@@ -1,7 +1,7 @@
 -- The order in which functions are numbered has every function and nothing else, and each stands behind those that it applies, in a program where none leads to itself.
 use Rattle.std.proofs.Common.{◌≡◌, refl, ap, sym, ◌∙◌, inl, inr, ◌⊎◌, subst, ℕ, zero, suc, ◌+◌, ◌≤◌, arith, Bool, true, false, List, [], ◌∷◌, ◌++◌, append_assoc, map, length, Option, Some, None}
 use Rattle.std.specs.Prelude.{⊤, bytes_eq, filter, fold, cond}
-use Rattle.bpl_scopes.specs.Fault.{is_among}
+use Rattle.bv_base.specs.Text.{is_among}
 use Rattle.bpl_scopes.specs.Scopes.{Text, Entity, a_constant, a_global, a_function, a_synonym, a_procedure, Entry, Table, entity_of}
 use Rattle.bpl_scopes.specs.Functions.{is_function, applied_by, next_names, leads, leads_to_itself, numbered, function_names, in_number_order}
 use Rattle.bpl_resolve.proofs.Ways.{Member, any_member, same_text, leads_one, leads_then}

@@ -14,7 +14,8 @@ use Rattle.bpl_goto.specs.Forward.{GoesForward, GoForward, BodyGoesForward, AllG
 use Rattle.bpl_scopes.specs.declared.fault.TypeKind.{TypeKind}
 use Rattle.bpl_scopes.specs.declared.fault.TypeKind.TheVariants.{Twice as twice, Unknown as unknown, GotoHere as goto_here}
 use Rattle.bpl_scopes.specs.declared.fault.Fault.{Fault}
-use Rattle.bpl_scopes.specs.Fault.{fault, unless, if_so, is_among, again, earlier, first_fault}
+use Rattle.bv_base.specs.Text.{is_among}
+use Rattle.bpl_scopes.specs.Fault.{fault, unless, if_so, again, earlier, first_fault}
 use Rattle.bpl_scopes.specs.Scopes.{Text, contract_with, Table, table_of, Counts, no_counts, counts_after, texts_of, entity_of, Scope}
 use Rattle.bpl_statement_faults.specs.StmtFaults.{modified_by, labels_of as labels_of_tree, labels_in as labels_in_tree, inner_labels, branch_labels, many_labels_faults, BodyScope, labels_of_list, Position, label_faults, guard_faults, stmts_faults, stmt_faults, action_faults, branches_faults}
 use Rattle.bpl_scopes.specs.TypeFaults.{group_where_faults}

@@ -4,7 +4,7 @@ use Rattle.std.specs.Prelude.{bytes_eq}
 use Rattle.logic_core.specs.Tree.{Kind}
 use Rattle.bpl_ast.specs.Place.{Name, Ty}
 use Rattle.bpl_ast.specs.Statement.{Argument}
-use Rattle.bpl_scopes.specs.Fault.{is_among}
+use Rattle.bv_base.specs.Text.{is_among}
 use Rattle.bpl_scopes.specs.Scopes.{Text, Heading, Table, only_names, texts_of, BoundVar, Scope, Meaning, bound_to, has_name, meaning, bound_meaning, free_meaning, var_of}
 use Rattle.bpl_scopes.specs.Sorts.{sort_of_type, bounds_of, applied_heading}
 use Rattle.bpl_scopes.specs.Functions.{name_applies, argument_names}

@@ -15,7 +15,8 @@ use Rattle.bpl_model.specs.Module.{Local, Proc}
 use Rattle.bpl_model.specs.Numbering.{sorts_of}
 use Rattle.bpl_model.specs.Typed.{IsBody, HaveClauses}
 use Rattle.bpl_scopes.specs.declared.fault.TypeKind.TheVariants.{Twice as twice, Arity as arity}
-use Rattle.bpl_scopes.specs.Fault.{again, is_among, if_so}
+use Rattle.bv_base.specs.Text.{is_among}
+use Rattle.bpl_scopes.specs.Fault.{again, if_so}
 use Rattle.bpl_scopes.specs.declared.part.Role.{Role}
 use Rattle.bpl_scopes.specs.declared.part.Role.TheVariants.{In as in_parameter, Out as out_parameter, Local as local_variable}
 use Rattle.bpl_scopes.specs.Scopes.{Text, Table, Counts, no_counts, Contract, contract_with, Entity, a_constant, a_global, a_function, a_synonym, a_procedure, entity_of, names_of, texts_of, signature_names, Var}

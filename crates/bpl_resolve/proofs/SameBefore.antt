@@ -8,7 +8,8 @@ use Rattle.bpl_ast.specs.Statement.{Body, Signature, Spec, DeclBody, constant, f
 use Rattle.bpl_scopes.specs.declared.fault.TypeKind.{TypeKind}
 use Rattle.bpl_scopes.specs.declared.fault.TypeKind.TheVariants.{Twice as twice}
 use Rattle.bpl_scopes.specs.declared.fault.Fault.{Fault}
-use Rattle.bpl_scopes.specs.Fault.{again, if_so, is_among, earlier, first_fault}
+use Rattle.bv_base.specs.Text.{is_among}
+use Rattle.bpl_scopes.specs.Fault.{again, if_so, earlier, first_fault}
 use Rattle.bpl_scopes.specs.declared.part.Part.TheVariants.{ClauseOfGlobal as in_clause_of_global}
 use Rattle.bpl_scopes.specs.Scopes.{Text, contract_with, Table, Counts, names_of, only_names, texts_of, declared_names, entity_of}
 use Rattle.bpl_scopes.specs.Functions.{argument_names}

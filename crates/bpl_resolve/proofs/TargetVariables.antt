@@ -19,7 +19,8 @@ use Rattle.bpl_model.specs.Numbering.{defs_of, sorts_of}
 use Rattle.bpl_model.specs.Typed.{HasSort, MayBeSet, AreTargets, Fits as FitsTarget}
 use Rattle.bpl_goto.specs.Labels.{are_distinct}
 use Rattle.bpl_scopes.specs.declared.fault.TypeKind.TheVariants.{TargetTwice as target_twice}
-use Rattle.bpl_scopes.specs.Fault.{again, is_among}
+use Rattle.bv_base.specs.Text.{is_among}
+use Rattle.bpl_scopes.specs.Fault.{again}
 use Rattle.bpl_scopes.specs.Scopes.{Text, texts_of, Scope}
 use Rattle.bpl_scopes.specs.Sorts.{sort_in}
 use Rattle.bpl_faults.specs.NameFaults.{same_sort_faults, map_faults}

@@ -8,7 +8,8 @@ use Rattle.bpl_ast.specs.Place.{Params, Ty, integer, boolean, named, map_type, T
 use Rattle.bpl_scopes.specs.declared.fault.TypeKind.TheVariants.{Kind as wrong_kind, Unbuilt as unbuilt}
 use Rattle.bpl_scopes.specs.declared.fault.Construct.TheVariants.{Domain as domain}
 use Rattle.bpl_scopes.specs.declared.fault.Fault.{Fault}
-use Rattle.bpl_scopes.specs.Fault.{fault, is_among}
+use Rattle.bv_base.specs.Text.{is_among}
+use Rattle.bpl_scopes.specs.Fault.{fault}
 use Rattle.bpl_scopes.specs.Scopes.{Text, Table, Entity, a_constant, a_global, a_function, a_synonym, a_procedure, entity_of}
 use Rattle.bpl_scopes.specs.Sorts.{is_int_alone, map_sort, sort_by, sorts_by, synonym_sort, unless_hidden, sorts_of_types}
 use Rattle.bpl_scopes.specs.Functions.{names_in_type, names_in_types}

@@ -4,7 +4,7 @@ use Rattle.std.specs.Prelude.{bytes_eq, find, filter, cond}
 use Rattle.logic_core.specs.Tree.{Kind}
 use Rattle.logic_core.specs.Wide.{◌>>=◌}
 use Rattle.bpl_ast.specs.Place.{Ty}
-use Rattle.bpl_scopes.specs.Fault.{is_among}
+use Rattle.bv_base.specs.Text.{is_among}
 use Rattle.bpl_scopes.specs.Scopes.{Text, Entry, Table, Entity, a_synonym, entry_of, entity_of}
 use Rattle.bpl_scopes.specs.Sorts.{synonym_in, sort_by, synonym_sort, unless_hidden, sort_of_type}
 use Rattle.bpl_scopes.specs.Functions.{names_in_type, is_synonym, next_names, leads, leads_to_itself}

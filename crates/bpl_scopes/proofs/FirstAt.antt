@@ -4,7 +4,7 @@ use Rattle.std.specs.Map.{lookup}
 use Rattle.std.specs.Borrow.{Bor}
 use Rattle.std.proofs.lemmas.Cmp.{nat_list_eq_equiv}
 use Rattle.std.proofs.lemmas.Slice.Eq.{bytes_eq-Decides}
-use Rattle.bpl_scopes.specs.Fault.{is_among}
+use Rattle.bv_base.specs.Text.{is_among}
 use Rattle.bpl_scopes.specs.Positions.{first_at, beside, at_name, names_seen, HasFirst}
 use Rattle.bpl_scopes.specs.TableView.{entity_seen, entry_seen, entries_seen, looked}
 use Rattle.bpl_scopes.specs.declared.table.Entry.{Entry as kept}

@@ -1,7 +1,7 @@
 -- A name without an entry is no logical function.
 use Rattle.std.proofs.Common.{◌≡◌, refl, sym, ap, ◌∙◌, ℕ, zero, suc, Bool, true, false, cond, length}
 use Rattle.std.specs.List.{list_any}
-use Rattle.bpl_scopes.specs.Fault.{is_among}
+use Rattle.bv_base.specs.Text.{is_among}
 use Rattle.bpl_scopes.specs.Positions.{first_at, beside}
 use Rattle.bpl_scopes.specs.Scopes.{Text, Table}
 use Rattle.bpl_scopes.specs.Functions.{has_quantifier, function_in, next_names, is_logical_within, is_logical}

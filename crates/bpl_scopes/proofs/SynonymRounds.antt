@@ -3,7 +3,7 @@ use Rattle.std.proofs.Common.{◌≡◌, refl, sym, ap, ◌∙◌, ℕ, zero, su
 use Rattle.logic_terms.specs.Tree.{Kind}
 use Rattle.logic_terms.specs.Wide.{◌>>=◌}
 use Rattle.bpl_ast.specs.Place.{Ty, Tys}
-use Rattle.bpl_scopes.specs.Fault.{is_among}
+use Rattle.bv_base.specs.Text.{is_among}
 use Rattle.bpl_scopes.specs.Positions.{first_at}
 use Rattle.bpl_scopes.specs.Scopes.{Text, Table, Entry, entity_of}
 use Rattle.bpl_scopes.specs.Sorts.{synonym_in, sort_by, sorts_by, sort_after, synonym_sort, unless_hidden, sort_of_type, sorts_of_types}

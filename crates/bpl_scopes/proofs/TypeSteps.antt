@@ -6,7 +6,8 @@ use Rattle.bpl_ast.specs.TypeView.{tys_of}
 use Rattle.bpl_ast.specs.ExprView.{groups_of, clause_of}
 use Rattle.bpl_ast.specs.declared.expr.Group.{Group}
 use Rattle.bpl_scopes.specs.declared.fault.Fault.{Fault}
-use Rattle.bpl_scopes.specs.Fault.{earlier, first_fault, is_among}
+use Rattle.bv_base.specs.Text.{is_among}
+use Rattle.bpl_scopes.specs.Fault.{earlier, first_fault}
 use Rattle.bpl_scopes.specs.Scopes.{Text, Table, BoundVar, bound_names}
 use Rattle.bpl_scopes.specs.Sorts.{is_int_alone, sorts_by}
 use Rattle.bpl_scopes.specs.TypeFaults.{type_faults, types_faults, group_type_faults, where_faults, group_where_faults}

@@ -1,6 +1,6 @@
 -- The numbers of the kinds of fault, the faults of a declaration, and the first of them.
-use Rattle.std.specs.Prelude.{ℕ, Bool, true, false, List, [], ◌∷◌, ◌++◌, bytes_eq, Option, Some, None}
-use Rattle.std.specs.List.{list_any}
+use Rattle.std.specs.Prelude.{ℕ, Bool, true, false, List, [], ◌∷◌, ◌++◌, Option, Some, None}
+use Rattle.bv_base.specs.Text.{is_among}
 use Rattle.bv_base.specs.declared.place.Place.{Place}
 use Rattle.std.specs.declared.cmp.Ordering.{Ordering}
 use Rattle.std.specs.declared.cmp.Ordering.TheVariants.{Less, Equal, Greater}
@@ -51,9 +51,6 @@ unless false k p = fault k p
 abbrev pub if_so : Bool → TypeKind → Place → List Fault
 if_so true k p = fault k p
 if_so false k p = []
-
-abbrev pub is_among : List (List ℕ) → List ℕ → Bool
-is_among names n = list_any (bytes_eq n) names
 
 -- the fault at each name that stands before, among these names or earlier in the list
 abbrev pub again : TypeKind → List (List ℕ) → List Name → List Fault

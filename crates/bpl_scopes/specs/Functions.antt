@@ -4,7 +4,7 @@ use Rattle.std.specs.List.{list_any}
 use Rattle.bpl_ast.specs.Place.{Name, Ty, integer, boolean, named, map_type, Tys, no_tys, ty}
 use Rattle.bpl_ast.specs.Tree.{Relation, eq, ne, lt, le, gt, ge, Expr, expr, Node, number, truth, variable, apply, old, choose, quantified, iffs, implies, ands, ors, related, sums, products, negation, minus, indexed, Exprs, no_exprs, item, Terms, no_terms, plus, less, Indices, no_indices, at_index, update, Triggers, no_triggers, trigger, Groups, no_groups, group, Clause, no_clause, clause}
 use Rattle.bpl_ast.specs.Statement.{Argument}
-use Rattle.bpl_scopes.specs.Fault.{is_among}
+use Rattle.bv_base.specs.Text.{is_among}
 use Rattle.bpl_scopes.specs.Scopes.{Text, Heading, Entity, a_function, a_synonym, Entry, Table, names_of, only_names, texts_of, entity_of}
 
 -- the function that a name stands for

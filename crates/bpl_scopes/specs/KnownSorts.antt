@@ -1,7 +1,7 @@
 -- The sorts of synonyms, kept beside the entries of the table, and the names that are no types.
 use Rattle.std.specs.Prelude.{ℕ, List, ◌++◌, map, Option, None, option_map}
 use Rattle.logic_terms.specs.Tree.{Kind}
-use Rattle.bpl_scopes.specs.Fault.{is_among}
+use Rattle.bv_base.specs.Text.{is_among}
 use Rattle.bpl_scopes.specs.Positions.{at_name}
 use Rattle.bpl_scopes.specs.Scopes.{Text, Table, Entry, BoundVar, bound_names}
 pub use Rattle.bpl_scopes.specs.Scopes.{names_in}

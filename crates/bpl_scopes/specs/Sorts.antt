@@ -6,7 +6,7 @@ use Rattle.logic_terms.specs.Sorts.{is, read_sort, write_sort, choice_sort, equa
 use Rattle.bpl_ast.specs.Place.{Name, Params, Ty, integer, boolean as truth_type, named, map_type, Tys, no_tys, ty}
 use Rattle.bpl_ast.specs.Tree.{Relation, eq, ne, lt, le, gt, ge, Expr, expr, Node, number, truth, variable, apply, old, choose, quantified, iffs, implies, ands, ors, related, sums, products, negation, minus, indexed, Exprs, no_exprs, item, Terms, no_terms, plus, less, Indices, no_indices, at_index, update, Triggers, no_triggers, trigger, Groups}
 use Rattle.bpl_ast.specs.Statement.{Argument}
-use Rattle.bpl_scopes.specs.Fault.{is_among}
+use Rattle.bv_base.specs.Text.{is_among}
 use Rattle.bpl_scopes.specs.declared.part.Part.{Part}
 use Rattle.bpl_scopes.specs.declared.part.Part.TheVariants.{Axiom as in_axiom, Function as in_function, Requires as in_requires, Ensures as in_ensures, Body as in_body, ClauseOfGlobal as in_clause_of_global, ClauseOfIn as in_clause_of_in, ClauseOfOut as in_clause_of_out, ClauseOfLocal as in_clause_of_local}
 use Rattle.bpl_scopes.specs.Scopes.{Text, Heading, Entity, a_constant, a_global, a_function, a_synonym, a_procedure, Table, names_of, entity_of, BoundVar, Scope, Meaning, bound_to, stands_for, declared_as, nothing, meaning, hidden_in}

@@ -6,7 +6,8 @@ use Rattle.bpl_ast.specs.Tree.{Clause, no_clause, clause, Groups, no_groups, gro
 use Rattle.bpl_scopes.specs.declared.fault.TypeKind.TheVariants.{Unknown as unknown, Kind as wrong_kind, Unbuilt as unbuilt}
 use Rattle.bpl_scopes.specs.declared.fault.Construct.TheVariants.{Polymorphic as polymorphic, Domain as domain, WhereWord as where_word}
 use Rattle.bpl_scopes.specs.declared.fault.Fault.{Fault}
-use Rattle.bpl_scopes.specs.Fault.{fault, unless, is_among}
+use Rattle.bv_base.specs.Text.{is_among}
+use Rattle.bpl_scopes.specs.Fault.{fault, unless}
 use Rattle.bpl_scopes.specs.Scopes.{Text, Entity, a_constant, a_global, a_function, a_synonym, a_procedure, Table, entity_of}
 use Rattle.bpl_scopes.specs.Sorts.{is_int_alone, sorts_of_types}
 

@@ -1,6 +1,6 @@
 // The variables that hide types of their names.
 ghost use Rattle.std.specs.Prelude.{◌≡◌, [], ◌∷◌};
-ghost use Rattle.bpl_scopes.specs.Fault.{is_among};
+ghost use Rattle.bv_base.specs.Text.{is_among};
 ghost use Rattle.bpl_scopes.specs.Scopes.{bound_names};
 ghost use Rattle.bpl_scopes.specs.KnownSorts.{bound_seen, bounds_seen, hidden_seen};
 

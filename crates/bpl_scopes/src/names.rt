@@ -1,7 +1,7 @@
 // Names as bytes, in an order, and where each stands first.
 ghost use Rattle.std.specs.Prelude.{◌≡◌, ◌<◌, ℕ, List, [], ◌∷◌, ◌++◌, bytes_eq, OnOk, OnErr, None, Some, length};
 ghost use Rattle.indexmap.specs.IndexMap.{spare, get_by};
-ghost use Rattle.bpl_scopes.specs.Fault.{is_among};
+ghost use Rattle.bv_base.specs.Text.{is_among};
 ghost use Rattle.bpl_scopes.specs.Positions.{first_at};
 
 use indexmap::IndexMap;
@@ -17,9 +17,10 @@ pub struct Positions<'a> {
 // Written out: a derived drop is proved again wherever a value is dropped.
 impl<'a> Drop for Positions<'a> {
     fn drop(self) {
-        let Positions { names, first } = self;
-        drop(names);
-        drop(first);
+        let Positions {
+            names: _names,
+            first: _first,
+        } = self;
     }
 }
 

@@ -5,7 +5,7 @@ use Rattle.logic_core.specs.Tree.{Kind, int, boolean, map as map_of}
 use Rattle.logic_core.specs.Wide.{◌>>=◌}
 use Rattle.bpl_ast.specs.Place.{Name, Params, Ty as Written, integer, boolean as truth_type, named, map_type}
 use Rattle.bpl_ast.specs.Statement.{DeclBody, constant, function, axiom_of, variables, synonym, procedure, implementation, Decl}
-use Rattle.bpl_scopes.specs.Fault.{is_among}
+use Rattle.bv_base.specs.Text.{is_among}
 use Rattle.bpl_scopes.specs.Scopes.{Text, Entity, a_constant, a_global, a_function, a_synonym, a_procedure, Entry, Table, table_of, entry_of, entity_of, Counts, no_counts, counts_with, entries_of, entries_from, entries_after}
 use Rattle.bpl_scopes.specs.Sorts.{is_int_alone, map_sort_if, sort_by, sorts_by, synonym_in, synonym_sort, unless_hidden, sort_of_type}
 use Rattle.logic_laws.proofs.Options.{map_some}

@@ -13,7 +13,8 @@ use Rattle.bpl_ast.specs.Statement.{Target, Spec, Signature}
 use Rattle.bpl_ast.specs.declared.expr.Group.{Group}
 use Rattle.bpl_scopes.specs.declared.fault.TypeKind.TheVariants.{Arity as arity}
 use Rattle.bpl_scopes.specs.declared.shape.Shape.{Shape}
-use Rattle.bpl_scopes.specs.Fault.{is_among, unless}
+use Rattle.bv_base.specs.Text.{is_among}
+use Rattle.bpl_scopes.specs.Fault.{unless}
 use Rattle.bpl_scopes.specs.KnownSorts.{shapes_seen}
 use Rattle.bpl_scopes.specs.Scopes.{Text, contract_with, spec_names, Table, typed_names, names_of, only_names, texts_of, signature_names, entity_of}
 use Rattle.bpl_scopes.specs.Sorts.{sort_of_type, sorts_of_names}

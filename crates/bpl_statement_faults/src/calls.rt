@@ -2,7 +2,8 @@
 ghost use Rattle.std.specs.Prelude.{◌≡◌, ◌+◌, ◌++◌, ◌&&◌, map, filter, nat_eq, not, length, IfOk, OnOk};
 ghost use Rattle.std.specs.List.{list_all};
 ghost use Rattle.bpl_ast.specs.ExprView.{exprs_of, groups_of};
-ghost use Rattle.bpl_scopes.specs.Fault.{earlier, first_fault, is_among};
+ghost use Rattle.bv_base.specs.Text.{is_among};
+ghost use Rattle.bpl_scopes.specs.Fault.{earlier, first_fault};
 ghost use Rattle.bpl_scopes.specs.Scopes.{contract_with, spec_names, names_of, texts_of, signature_names, entity_of};
 ghost use Rattle.bpl_scopes.specs.Sorts.{sorts_of_names};
 ghost use Rattle.bpl_scopes.specs.Shape.{kind_seen};

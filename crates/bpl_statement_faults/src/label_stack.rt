@@ -3,7 +3,7 @@ ghost use Rattle.std.specs.Prelude.{◌≡◌, ◌<◌, [], ◌∷◌, ◌++◌,
 ghost use Rattle.indexmap.specs.IndexMap.{spare, get_by, insert_entry};
 ghost use Rattle.std.specs.Map.{lookup};
 ghost use Rattle.bpl_ast.specs.StmtView.{stmts_of};
-ghost use Rattle.bpl_scopes.specs.Fault.{is_among};
+ghost use Rattle.bv_base.specs.Text.{is_among};
 ghost use Rattle.bpl_scopes.specs.Positions.{or_other};
 ghost use Rattle.bpl_scopes.specs.Scopes.{texts_of};
 ghost use Rattle.bpl_statement_faults.specs.StackView.{own_labels};
@@ -15,18 +15,10 @@ use std::alloc::{AllocError, Global};
 use std::marker::Model;
 
 /// Labels, of which the one that was put in last goes first, a label perhaps several times.
+#[derive(Drop)]
 pub struct LabelStack<'a> {
     labels: Vec<&'a [u8]>,
     counts: IndexMap<&'a [u8], usize>,
-}
-
-// Written out: a derived drop is proved again wherever a value is dropped.
-impl<'a> Drop for LabelStack<'a> {
-    fn drop(self) {
-        let LabelStack { labels, counts } = self;
-        drop(labels);
-        drop(counts);
-    }
 }
 
 impl<'a> Model for LabelStack<'a> {

@@ -3,7 +3,8 @@ ghost use Rattle.std.specs.Prelude.{◌≡◌, ◌++◌, [], ◌∷◌, drop, fi
 ghost use Rattle.bpl_ast.specs.Place.{Name as name};
 ghost use Rattle.bpl_ast.specs.Statement.{no_branch};
 ghost use Rattle.bpl_ast.specs.StmtView.{stmts_of, branches_of, last_of};
-ghost use Rattle.bpl_scopes.specs.Fault.{is_among, earlier, first_fault};
+ghost use Rattle.bv_base.specs.Text.{is_among};
+ghost use Rattle.bpl_scopes.specs.Fault.{earlier, first_fault};
 ghost use Rattle.bpl_scopes.specs.Scopes.{texts_of};
 ghost use Rattle.bpl_faults.specs.Arguments.{names_seen};
 ghost use Rattle.bpl_statement_faults.specs.StackView.{let_through};

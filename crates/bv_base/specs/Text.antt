@@ -1,5 +1,6 @@
--- The text of some lines: each is ended by a line feed.
-use Rattle.std.specs.Prelude.{◌≡◌, ◌⊎◌, ℕ, zero, suc, ◌+◌, cond, nat_eq, List, [], ◌∷◌, ◌++◌, flat_map}
+-- The text of some lines: each is ended by a line feed. Whether a text is one of some.
+use Rattle.std.specs.Prelude.{◌≡◌, ◌⊎◌, ℕ, zero, suc, ◌+◌, cond, nat_eq, Bool, List, [], ◌∷◌, ◌++◌, flat_map, bytes_eq}
+use Rattle.std.specs.List.{list_any}
 
 abbrev pub line_feed : ℕ
 line_feed = 10
@@ -29,3 +30,7 @@ pub record HasLine (text line : List ℕ) : Type 0 where
   pub after : List ℕ
   pub starts : IsLineStart before
   pub stands : text ≡ before ++ (ended line ++ after)
+
+-- the text is one of these, byte for byte
+abbrev pub is_among : List (List ℕ) → List ℕ → Bool
+is_among texts text = list_any (bytes_eq text) texts

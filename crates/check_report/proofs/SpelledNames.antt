@@ -6,8 +6,9 @@ use Rattle.std.proofs.lemmas.List.Elements.{recursion_from_All}
 use Rattle.logic_core.proofs.Booleans.{both_true}
 use Rattle.logic_core.proofs.EachOf.{every_append, every_left, every_right}
 use Rattle.bv_base.specs.declared.place.Place.{Place}
+use Rattle.bv_base.specs.Text.{is_among}
 use Rattle.bpl_lex.specs.Token.{Kind, id, number, text, sign, word, Token, text_of}
-use Rattle.bpl_lex.specs.Shape.{is_letter, is_digit, is_identifier, is_number, is_string, is_sign, among, words, kind_of}
+use Rattle.bpl_lex.specs.Shape.{is_letter, is_digit, is_identifier, is_number, is_string, is_sign, words, kind_of}
 use Rattle.bpl_lex.specs.Lexing.{tokens}
 use Rattle.bpl_lex.proofs.FirstBytes.{differs}
 use Rattle.bpl_lex.proofs.Laws.{spelled, each_of_kind}
@@ -62,7 +63,7 @@ named_by_kind true w d s g e = refl
 named_by_kind false w d s g e = absurd (other_kinds w d s g e)
 
 id_is_name : (name : List ℕ) → kind_of name ≡ Some id → IsName name
-id_is_name name e = identifier_is_name name (named_by_kind (is_identifier name) (among words name) (is_number name) (is_string name) (is_sign name) e)
+id_is_name name e = identifier_is_name name (named_by_kind (is_identifier name) (is_among words name) (is_number name) (is_string name) (is_sign name) e)
 
 -- ---- lexemes of their kinds
 

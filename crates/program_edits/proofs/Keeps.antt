@@ -6,7 +6,7 @@ use Rattle.std.proofs.lemmas.Slice.Eq.{bytes_eq-Decides}
 use Rattle.bpl_ast.specs.Statement.{Decl, name_of, axioms_with}
 use Rattle.bpl_grammar.specs.Fault.{Fault}
 use Rattle.bpl_grammar.specs.Programs.{SpellsProgram}
-use Rattle.bpl_scopes.specs.Fault.{is_among}
+use Rattle.bv_base.specs.Text.{is_among}
 use Rattle.bpl_scopes.specs.Positions.{first_at, or_other, beside}
 use Rattle.request_text.specs.Request.{Put, Request, open_text, edit, status, report, sums, proofs, quit}
 use Rattle.program_edits.specs.Edited.{Edited, edited, other_name, IsReadAs, Texts, TellsTexts, is_axiom, is_axiom_name, declares, the_one, put_as, and_then, renamed, numbered, names, in_place, applied, after_puts, opened, puts_of, unless_lacking, edited_by, IsEdited}

@@ -3,7 +3,7 @@ use Rattle.std.proofs.Common.{◌≡◌, ◌∙◌, refl, ap, subst, ℕ, not, L
 use Rattle.bpl_ast.specs.Statement.{Decl}
 use Rattle.bpl_grammar.specs.Fault.{Fault}
 use Rattle.bpl_grammar.specs.Programs.{SpellsProgram}
-use Rattle.bpl_scopes.specs.Fault.{is_among}
+use Rattle.bv_base.specs.Text.{is_among}
 use Rattle.request_text.specs.Request.{Put, Request, open_text, edit, status, report, sums, proofs, quit}
 use Rattle.program_edits.specs.Edited.{Edited, edited, other_name, IsReadAs, Texts, TellsTexts, the_one, put_as, and_then, names, after_puts, opened, puts_of, unless_lacking, IsEdited}
 use Rattle.program_edits.specs.Leaves.{ArePut, Leaves}

@@ -15,7 +15,7 @@ use Rattle.fault_text.proofs.InText.{sources_short}
 use Rattle.request_text.specs.Request.{Put, Request}
 use Rattle.request_text.specs.RequestView.{put_view}
 use Rattle.request_text.specs.declared.request.Put.{Put as SeenPut}
-use Rattle.bpl_scopes.specs.Fault.{is_among}
+use Rattle.bv_base.specs.Text.{is_among}
 use Rattle.std.proofs.lemmas.List.{at_drop_more}
 use Rattle.program_edits.specs.Edited.{Texts, names, in_place, applied, unless_lacking, changed, Edited, edited, faulty, other_name, is_axiom, declares, the_one, put_as, and_then, numbered, renamed, opened, after_puts, puts_of, IsEdited}
 use Rattle.program_edits.specs.Refusals.{IsTold, Tells, RefusedBy, TextsAreShort, texts_of, reading}

@@ -2,7 +2,7 @@
 use Rattle.std.specs.Prelude.{ℕ, nat_eq, nat_le, Bool, true, false, ◌&&◌, not, cond, List, [], ◌∷◌, ◌++◌, map, filter, Option, Some, None, bytes_eq}
 use Rattle.std.specs.List.{list_all}
 use Rattle.bpl_ast.specs.Statement.{DeclBody, axiom_of, Decl, name_of, axioms_with}
-use Rattle.bpl_scopes.specs.Fault.{is_among}
+use Rattle.bv_base.specs.Text.{is_among}
 use Rattle.bpl_scopes.specs.Positions.{at_name}
 
 abbrev pub is_axiom : DeclBody → Bool

@@ -4,7 +4,7 @@ use Rattle.bpl_ast.specs.Statement.{Decl}
 use Rattle.bpl_grammar.specs.Part.{rule, program}
 use Rattle.bpl_grammar.specs.Fault.{Fault, HasFault}
 use Rattle.bpl_grammar.specs.Programs.{SpellsProgram}
-use Rattle.bpl_scopes.specs.Fault.{is_among}
+use Rattle.bv_base.specs.Text.{is_among}
 pub use Rattle.program_edits.specs.Applied.{is_axiom, is_digit, is_count, is_axiom_name, declares, the_one, renamed, numbered, names, in_place, applied}
 use Rattle.request_text.specs.Request.{Put, Request, open_text, edit, status, report, sums, proofs, quit}
 

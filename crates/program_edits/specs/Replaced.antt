@@ -2,7 +2,7 @@
 use Rattle.std.specs.Prelude.{◌≡◌, ℕ, suc, ◌<◌, ◌||◌, ◌&&◌, Bool, true, is_some, cond, List, [], ◌∷◌, map, length, slice_set, Option, Some, None, option_map, Result, Ok, Err, bytes_eq}
 use Rattle.std.specs.List.{AllByRecursion}
 use Rattle.bpl_ast.specs.Statement.{Decl}
-use Rattle.bpl_scopes.specs.Fault.{is_among}
+use Rattle.bv_base.specs.Text.{is_among}
 use Rattle.request_text.specs.Request.{Put, Request, open_text, edit, status, report, sums, proofs, quit}
 use Rattle.program_edits.specs.Edited.{Edited, Texts, TellsTexts, is_axiom, names, put_as}
 use Rattle.program_edits.specs.declared.replaced.Replacement.{Replacement}

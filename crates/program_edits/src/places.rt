@@ -1,7 +1,7 @@
 // Declarations at their places: old ones, and those that are put in.
 ghost use Rattle.std.specs.Prelude.{◌≡◌, ◌<◌, ◌-◌, ◌^◌, ◌++◌, [], ◌∷◌, map, filter, find, not, string_bytes, option_map, IfOk, OnOk};
 ghost use Rattle.bpl_ast.specs.Statement.{axioms_with};
-ghost use Rattle.bpl_scopes.specs.Fault.{is_among};
+ghost use Rattle.bv_base.specs.Text.{is_among};
 ghost use Rattle.program_edits.specs.Edited.{names, in_place, applied, numbered};
 ghost use Rattle.program_edits.specs.Seen.{decls_seen};
 

@@ -1,7 +1,7 @@
 // The declaration that takes the place of another.
 ghost use Rattle.std.specs.List.{All};
 ghost use Rattle.std.specs.Prelude.{◌≡◌, ◌<◌, ◌-◌, ◌^◌, ◌||◌, cond, length, map, option_map, Some, None, IfOk, IfErr, IfSome, string_bytes};
-ghost use Rattle.bpl_scopes.specs.Fault.{is_among};
+ghost use Rattle.bv_base.specs.Text.{is_among};
 ghost use Rattle.fault_text.specs.FaultView.{SourcesAreShort};
 ghost use Rattle.request_text.specs.RequestView.{put_view, request_view};
 ghost use Rattle.program_edits.specs.Edited.{Edited, edited, names, is_axiom, numbered, puts_of, edited_by, IsEdited};

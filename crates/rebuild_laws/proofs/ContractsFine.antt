@@ -3,7 +3,8 @@ use Rattle.std.specs.Prelude.{◌≡◌, ◌&&◌, List, [], ◌∷◌, flat_map
 use Rattle.bpl_ast.specs.Place.{Name, Params}
 use Rattle.bpl_ast.specs.Statement.{Spec, Signature, Body, procedure}
 use Rattle.bpl_scopes.specs.declared.fault.TypeKind.TheVariants.{Twice as twice}
-use Rattle.bpl_scopes.specs.Fault.{again, is_among, if_so}
+use Rattle.bv_base.specs.Text.{is_among}
+use Rattle.bpl_scopes.specs.Fault.{again, if_so}
 use Rattle.bpl_scopes.specs.Scopes.{Table, Counts}
 use Rattle.bpl_declaration_faults.specs.Variables.{names_in_body}
 use Rattle.bpl_declaration_faults.specs.DeclFaults.{Before, signature_faults, parameter_clause_faults, spec_faults, optional_locals, has_body, decl_faults}

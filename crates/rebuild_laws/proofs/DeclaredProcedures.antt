@@ -4,7 +4,7 @@ use Rattle.std.proofs.Common.{refl, ap, sym, ◌∙◌, subst, arith, inl, inr}
 use Rattle.bpl_ast.specs.Place.{Name, Params}
 use Rattle.bpl_ast.specs.Statement.{Spec, Signature, Body, DeclBody, procedure, Decl}
 use Rattle.bpl_model.specs.Module.{Proc}
-use Rattle.bpl_scopes.specs.Fault.{is_among}
+use Rattle.bv_base.specs.Text.{is_among}
 use Rattle.bpl_scopes.specs.Scopes.{Text, Contract, contract_with, a_procedure, Entry, Table, table_of, Counts, no_counts, counts_after, declared_names, texts_of, entries_of, entry_of, entity_of}
 use Rattle.bpl_declaration_faults.specs.DeclFaults.{decl_faults, nothing_before, fault_of}
 use Rattle.bpl_resolve.specs.Elaborate.{Implemented, or_else, own_body, implementation_of, proc_of, module_of}

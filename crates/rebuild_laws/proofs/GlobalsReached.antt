@@ -11,7 +11,8 @@ use Rattle.bpl_model.specs.Module.{Proc, Module, Global, DeclText}
 use Rattle.bpl_model.specs.Reach.{among, decl_at, positions, is_named, leads_to, own_positions, reached_by, globals_among, reached_globals}
 use Rattle.bpl_scopes.specs.declared.fault.TypeKind.TheVariants.{Twice as twice}
 use Rattle.bpl_scopes.specs.declared.part.Part.TheVariants.{ClauseOfGlobal as in_clause_of_global}
-use Rattle.bpl_scopes.specs.Fault.{again, is_among, if_so}
+use Rattle.bv_base.specs.Text.{is_among}
+use Rattle.bpl_scopes.specs.Fault.{again, if_so}
 use Rattle.bpl_scopes.specs.Scopes.{Text, Table, table_of, Counts, no_counts, counts_after, declared_names, names_of, only_names, texts_of, entry_of}
 use Rattle.bpl_declaration_faults.specs.DeclFaults.{decl_faults, Before, before_with, nothing_before, fault_of}
 use Rattle.bpl_declaration_faults.specs.Variables.{scope_of}

@@ -5,7 +5,7 @@ use Rattle.bpl_ast.specs.Place.{Ty}
 use Rattle.bpl_ast.specs.Tree.{Groups, Clause}
 use Rattle.bpl_ast.specs.Statement.{DeclBody, constant, function, axiom_of, variables, synonym, procedure, implementation, Decl}
 use Rattle.bpl_model.specs.Module.{Proc}
-use Rattle.bpl_scopes.specs.Fault.{is_among}
+use Rattle.bv_base.specs.Text.{is_among}
 use Rattle.bpl_scopes.specs.Scopes.{Text, a_global, Entry, Table, table_of, Counts, no_counts, counts_after, declared_names, texts_of, entry_of, entity_of}
 use Rattle.bpl_declaration_faults.specs.DeclFaults.{nothing_before, fault_of}
 use Rattle.canonical_text.specs.Same.{bare_groups, bare_clause}

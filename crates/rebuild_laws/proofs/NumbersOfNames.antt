@@ -4,7 +4,8 @@ use Rattle.std.proofs.Common.{refl, ap, sym, ◌∙◌, subst, arith, inl, inr, 
 use Rattle.bpl_ast.specs.Place.{Name, Ty}
 use Rattle.bpl_ast.specs.Statement.{DeclBody, constant, function, axiom_of, variables, synonym, procedure, implementation, Decl}
 use Rattle.bpl_scopes.specs.declared.fault.TypeKind.TheVariants.{Twice as twice}
-use Rattle.bpl_scopes.specs.Fault.{again, is_among, if_so}
+use Rattle.bv_base.specs.Text.{is_among}
+use Rattle.bpl_scopes.specs.Fault.{again, if_so}
 use Rattle.bpl_scopes.specs.Scopes.{Text, Entity, a_constant, a_global, Entry, Table, table_of, Counts, no_counts, counts_with, counts_after, declared_names, typed_names, names_of, only_names, texts_of, entries_from, entries_of, entries_after, entry_of, entity_of}
 use Rattle.bpl_declaration_faults.specs.DeclFaults.{decl_faults, Before, before_with, nothing_before, fault_of}
 use Rattle.bpl_resolve.proofs.HasSort.{first_empty, second_empty}

@@ -7,7 +7,7 @@ use Rattle.logic_core.proofs.Booleans.{or_second}
 use Rattle.bpl_ast.specs.Statement.{DeclBody, constant, function, axiom_of, variables, synonym, procedure, implementation, Decl}
 use Rattle.bpl_model.specs.Module.{Proc, Module}
 use Rattle.bpl_model.specs.Reach.{among, positions, leads_to, own_positions, reached_by}
-use Rattle.bpl_scopes.specs.Fault.{is_among}
+use Rattle.bv_base.specs.Text.{is_among}
 use Rattle.bpl_scopes.specs.Scopes.{Text, Table, table_of, Counts, no_counts, counts_after, declared_names, only_names, names_of, texts_of, entry_of}
 use Rattle.bpl_declaration_faults.specs.DeclFaults.{nothing_before, fault_of}
 use Rattle.canonical_text.specs.Same.{bare_names, bare_groups}

@@ -7,7 +7,8 @@ use Rattle.bpl_ast.specs.Place.{Name, Params}
 use Rattle.bpl_ast.specs.Tree.{no_groups, group}
 use Rattle.bpl_ast.specs.Statement.{Spec, Body, Signature, DeclBody, constant, function, axiom_of, variables, synonym, procedure, implementation, Decl, name_of, axioms_with}
 use Rattle.bpl_scopes.specs.declared.fault.TypeKind.TheVariants.{Twice as twice}
-use Rattle.bpl_scopes.specs.Fault.{again, is_among, if_so}
+use Rattle.bv_base.specs.Text.{is_among}
+use Rattle.bpl_scopes.specs.Fault.{again, if_so}
 use Rattle.bpl_scopes.specs.Scopes.{Text, Table, Counts, declared_names, texts_of}
 use Rattle.bpl_declaration_faults.specs.DeclFaults.{unique_faults, decl_faults, body_names, Before, before_with}
 use Rattle.canonical_text.specs.WrittenExpression.{IsName}

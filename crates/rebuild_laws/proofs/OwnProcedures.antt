@@ -10,7 +10,8 @@ use Rattle.bpl_ast.specs.Statement.{Spec, Body, Signature, DeclBody, constant, f
 use Rattle.bpl_model.specs.Module.{Proc}
 use Rattle.bpl_model.specs.Reach.{own_positions}
 use Rattle.bpl_scopes.specs.declared.fault.TypeKind.TheVariants.{Twice as twice, Arity as arity}
-use Rattle.bpl_scopes.specs.Fault.{again, is_among, if_so}
+use Rattle.bv_base.specs.Text.{is_among}
+use Rattle.bpl_scopes.specs.Fault.{again, if_so}
 use Rattle.bpl_scopes.specs.Scopes.{Text, contract_with, Entity, a_procedure, Table, table_of, Counts, no_counts, counts_after, names_of, only_names, texts_of, signature_names, entity_of}
 use Rattle.bpl_scopes.specs.TypeFaults.{group_where_faults}
 use Rattle.bpl_statement_faults.specs.StmtFaults.{modified_by}

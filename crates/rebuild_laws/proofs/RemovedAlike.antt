@@ -4,7 +4,8 @@ use Rattle.std.proofs.Common.{ap, sym, subst}
 use Rattle.bv_base.specs.declared.place.Place.{Place}
 use Rattle.bpl_model.specs.Module.{Name, Stmt, Stmts, no_stmts, labels_of}
 use Rattle.bpl_model.specs.Cut.{append, one}
-use Rattle.bpl_goto.specs.Labels.{is_among, labels_in, labels_within, named_in, named_within, longest}
+use Rattle.bv_base.specs.Text.{is_among}
+use Rattle.bpl_goto.specs.Labels.{labels_in, labels_within, named_in, named_within, longest}
 use Rattle.bpl_goto.specs.Removed.{wrapped, wrapped_for, choice, stmt_without, list_without, body_without}
 use Rattle.rebuild_laws.specs.Alike.{free_choice, guarded, AlikeStmt, asserts, assumes, havocs, assigns, branches, loops, breaks, returns, jumps, calls_so, labels, AlikeStmts, none_more, a_stmt}
 

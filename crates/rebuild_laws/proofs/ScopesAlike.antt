@@ -11,7 +11,7 @@ use Rattle.bpl_scopes.specs.declared.part.Part.{Part}
 use Rattle.bpl_scopes.specs.declared.part.Part.TheVariants.{Axiom as in_axiom, Function as in_function, Requires as in_requires, Ensures as in_ensures, Body as in_body, ClauseOfGlobal as in_clause_of_global, ClauseOfIn as in_clause_of_in, ClauseOfOut as in_clause_of_out, ClauseOfLocal as in_clause_of_local}
 use Rattle.bpl_scopes.specs.declared.part.Role.{Role}
 use Rattle.bpl_scopes.specs.declared.part.Role.TheVariants.{In as in_parameter, Out as out_parameter, Local as local_variable}
-use Rattle.bpl_scopes.specs.Fault.{is_among}
+use Rattle.bv_base.specs.Text.{is_among}
 use Rattle.bpl_scopes.specs.Scopes.{Text, Heading, Contract, Entity, a_constant, a_global, a_function, a_synonym, a_procedure, Table, Counts, names_of, typed_names, entity_of, Var, BoundVar, Scope, Meaning, bound_to, stands_for, declared_as, nothing, has_name, unless_out, var_in, var_of, unless_other, entity_in, declared_meaning, free_meaning, bound_meaning, meaning, bound_names, hidden_in}
 use Rattle.bpl_scopes.specs.Sorts.{map_sort, sort_by, sorts_by, synonym_sort, unless_hidden, sort_of_type, applied_heading}
 use Rattle.bpl_scopes.specs.Functions.{names_in_type, names_in_types, function_number}

@@ -16,7 +16,8 @@ use Rattle.bpl_scopes.specs.declared.part.Part.{Part}
 use Rattle.bpl_scopes.specs.declared.part.Part.TheVariants.{Requires as in_requires, Ensures as in_ensures, ClauseOfIn as in_clause_of_in, ClauseOfOut as in_clause_of_out, ClauseOfLocal as in_clause_of_local}
 use Rattle.bpl_scopes.specs.declared.part.Role.{Role}
 use Rattle.bpl_scopes.specs.declared.part.Role.TheVariants.{In as in_parameter, Out as out_parameter, Local as local_variable}
-use Rattle.bpl_scopes.specs.Fault.{fault, is_among}
+use Rattle.bv_base.specs.Text.{is_among}
+use Rattle.bpl_scopes.specs.Fault.{fault}
 use Rattle.bpl_scopes.specs.Scopes.{Text, Entity, Table, Counts, names_of, typed_names, only_names, texts_of, signature_names, entity_of, Var, Scope}
 use Rattle.bpl_scopes.specs.Sorts.{sort_of_type}
 use Rattle.bpl_scopes.specs.Functions.{names_in_type}

@@ -16,7 +16,7 @@ use Rattle.bpl_model.specs.Module.{Stmt, Stmts}
 use Rattle.bpl_scopes.specs.declared.part.Part.{Part}
 use Rattle.bpl_scopes.specs.declared.part.Part.TheVariants.{Body as in_body}
 use Rattle.bpl_scopes.specs.declared.fault.TypeKind.TheVariants.{TargetTwice as target_twice}
-use Rattle.bpl_scopes.specs.Fault.{again, is_among}
+use Rattle.bpl_scopes.specs.Fault.{again}
 use Rattle.bpl_scopes.specs.Scopes.{Text, Contract, Entity, a_constant, a_global, a_function, a_synonym, a_procedure, Table, Counts, texts_of, entity_of, Var, BoundVar, Scope, Meaning, bound_to, stands_for, declared_as, nothing, meaning, declared_meaning, free_meaning, var_of}
 use Rattle.bpl_scopes.specs.Sorts.{sort_in}
 use Rattle.bpl_faults.specs.NameFaults.{same_sort_faults, map_faults}

@@ -10,7 +10,8 @@ use Rattle.bpl_ast.specs.Place.{Name, Ty}
 use Rattle.bpl_ast.specs.Tree.{Relation, eq, ne, lt, le, gt, ge, Quantifier, for_all, exists, Expr, expr, first_place, Node, number, truth, variable, apply, old, choose, quantified, iffs, implies, ands, ors, related, sums, products, negation, minus, indexed, Exprs, no_exprs, item, Terms, no_terms, plus, less, Indices, no_indices, at_index, update, Triggers, no_triggers, trigger, Groups, no_groups, group}
 use Rattle.bpl_scopes.specs.declared.part.Part.{Part}
 use Rattle.bpl_scopes.specs.declared.fault.TypeKind.TheVariants.{Twice as twice, QuantifierHere as quantifier_here, Trigger as bad_trigger, OldHere as old_here}
-use Rattle.bpl_scopes.specs.Fault.{again, unless, is_among}
+use Rattle.bv_base.specs.Text.{is_among}
+use Rattle.bpl_scopes.specs.Fault.{again, unless}
 use Rattle.bpl_scopes.specs.Scopes.{Text, Table, Counts, names_of, only_names, texts_of, typed_names, entity_of, Var, BoundVar, Scope, meaning, bound_names, hidden_in}
 use Rattle.bpl_scopes.specs.Sorts.{sort_in, sorts_of_names, bounds_of, within, applied_heading, sort_of_type}
 use Rattle.bpl_scopes.specs.Functions.{names_in_type, function_number}

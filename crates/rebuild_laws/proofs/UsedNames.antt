@@ -6,7 +6,7 @@ use Rattle.logic_core.proofs.Booleans.{or_first, or_second}
 use Rattle.bpl_ast.specs.Statement.{DeclBody, Decl}
 use Rattle.bpl_model.specs.Module.{Proc, DeclText, Module}
 use Rattle.bpl_model.specs.Reach.{among, decl_at, positions, leads_to, reaches_axiom, own_positions, reached_by}
-use Rattle.bpl_scopes.specs.Fault.{is_among}
+use Rattle.bv_base.specs.Text.{is_among}
 use Rattle.bpl_scopes.specs.Scopes.{Text, Entity, Entry, Table, table_of, counts_after, no_counts, declared_names, texts_of, entries_of, entry_of, entity_of, Counts}
 use Rattle.bpl_texts.specs.Uses.{contract_uses, last_uses, decl_uses, is_declared_at, leads_of}
 use Rattle.bpl_declaration_faults.specs.DeclFaults.{nothing_before, fault_of}

@@ -1,5 +1,5 @@
 use Rattle.std.proofs.Common.{◌≡◌, drop}
-use Rattle.bpl_scopes.specs.Fault.{is_among}
+use Rattle.bv_base.specs.Text.{is_among}
 use Rattle.bpl_dependencies.specs.AppliedView.{texts_seen}
 use Rattle.bpl_dependencies.proofs.variables.is_any_of.Given as goal
 

@@ -1,5 +1,5 @@
 use Rattle.std.proofs.Common.{◌≡◌, drop}
-use Rattle.bpl_scopes.specs.Fault.{is_among}
+use Rattle.bv_base.specs.Text.{is_among}
 use Rattle.bpl_scopes.specs.Scopes.{bound_names}
 use Rattle.bpl_scopes.specs.KnownSorts.{bounds_seen}
 use Rattle.bpl_scopes.proofs.hidden.is_bound.Given as goal

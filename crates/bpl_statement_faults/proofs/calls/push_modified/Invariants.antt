@@ -1,5 +1,5 @@
 use Rattle.std.proofs.Common.{◌≡◌, ◌++◌, ◌&&◌, not, filter, take}
-use Rattle.bpl_scopes.specs.Fault.{is_among}
+use Rattle.bv_base.specs.Text.{is_among}
 use Rattle.bpl_scopes.specs.Scopes.{texts_of, entity_of}
 use Rattle.bpl_statement_faults.specs.StmtFaults.{is_global}
 use Rattle.bpl_statement_faults.proofs.calls.push_modified.Given as goal

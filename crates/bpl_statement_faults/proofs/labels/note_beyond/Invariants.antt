@@ -1,6 +1,6 @@
 use Rattle.std.proofs.Common.{◌≡◌, drop, filter}
 use Rattle.bpl_ast.specs.Place.{Name}
-use Rattle.bpl_scopes.specs.Fault.{is_among}
+use Rattle.bv_base.specs.Text.{is_among}
 use Rattle.bpl_faults.specs.Arguments.{names_seen}
 use Rattle.bpl_statement_faults.specs.Limits.{label_limit}
 use Rattle.bpl_statement_faults.specs.StmtFaults.{first_label_faults}

@@ -1,7 +1,8 @@
 use Rattle.std.proofs.Common.{◌∙◌, ap, ◌++◌, drop, filter}
 use Rattle.bpl_ast.specs.Place.{Name}
 use Rattle.bpl_ast.specs.StmtView.{stmts_of}
-use Rattle.bpl_scopes.specs.Fault.{is_among, earlier, first_fault}
+use Rattle.bv_base.specs.Text.{is_among}
+use Rattle.bpl_scopes.specs.Fault.{earlier, first_fault}
 use Rattle.bpl_statement_faults.specs.Limits.{label_limit}
 use Rattle.bpl_statement_faults.specs.StmtFaults.{goto_labels, first_label_faults}
 use Rattle.bpl_statement_faults.proofs.labels.note_many.Goals as goal

@@ -1,5 +1,5 @@
 use Rattle.std.proofs.Common.{◌≡◌, ◌++◌, not, filter, drop}
-use Rattle.bpl_scopes.specs.Fault.{is_among}
+use Rattle.bv_base.specs.Text.{is_among}
 use Rattle.program_edits.specs.Seen.{decls_seen}
 use Rattle.program_edits.proofs.places.add_new.Given as goal
 

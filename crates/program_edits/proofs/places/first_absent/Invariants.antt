@@ -1,5 +1,5 @@
 use Rattle.std.proofs.Common.{◌≡◌, not, map, drop, find, string_bytes}
-use Rattle.bpl_scopes.specs.Fault.{is_among}
+use Rattle.bv_base.specs.Text.{is_among}
 use Rattle.program_edits.proofs.places.first_absent.Given as goal
 
 abbrev pub invariant-loop-name : goal.invariant-loop-name

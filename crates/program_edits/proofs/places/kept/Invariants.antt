@@ -1,5 +1,5 @@
 use Rattle.std.proofs.Common.{◌≡◌, ◌++◌, not, map, filter, drop}
-use Rattle.bpl_scopes.specs.Fault.{is_among}
+use Rattle.bv_base.specs.Text.{is_among}
 use Rattle.program_edits.specs.Edited.{in_place}
 use Rattle.program_edits.specs.Seen.{decls_seen}
 use Rattle.program_edits.proofs.places.kept.Given as goal

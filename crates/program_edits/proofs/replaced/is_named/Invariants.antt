@@ -1,5 +1,5 @@
 use Rattle.std.proofs.Common.{◌≡◌, drop}
-use Rattle.bpl_scopes.specs.Fault.{is_among}
+use Rattle.bv_base.specs.Text.{is_among}
 use Rattle.program_edits.specs.Edited.{names}
 use Rattle.program_edits.proofs.replaced.is_named.Given as goal
 

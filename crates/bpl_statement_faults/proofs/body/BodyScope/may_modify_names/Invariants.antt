@@ -1,6 +1,6 @@
 use Rattle.std.proofs.Common.{◌≡◌, ◌&&◌, not, filter, drop}
 use Rattle.std.specs.List.{list_all}
-use Rattle.bpl_scopes.specs.Fault.{is_among}
+use Rattle.bv_base.specs.Text.{is_among}
 use Rattle.bpl_scopes.specs.Scopes.{texts_of, entity_of}
 use Rattle.bpl_faults.specs.ScopeView.{scope_seen}
 use Rattle.bpl_statement_faults.specs.BodyView.{body_seen}

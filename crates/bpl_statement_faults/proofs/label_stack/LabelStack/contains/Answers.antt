@@ -1,5 +1,5 @@
 use Rattle.std.proofs.Common.{ap, ◌∙◌, nat_lt}
-use Rattle.bpl_scopes.specs.Fault.{is_among}
+use Rattle.bv_base.specs.Text.{is_among}
 use Rattle.bpl_statement_faults.specs.StackView.{stack_seen}
 use Rattle.bpl_statement_faults.proofs.Counted.{counted_among}
 use Rattle.bpl_statement_faults.proofs.label_stack.LabelStack.contains.Goals as goal
