@@ -11,11 +11,21 @@ use std::mem;
 
 /// Whether each of so many positions has a mark, and which marks are new. The memory is that of the
 /// marks alone.
-#[derive(Drop)]
 pub struct Marking {
     count: u64,
     marked: IndexSet<u64>,
     fresh: Vec<u64>,
+}
+
+// Written out: a derived drop is proved again wherever a value is dropped.
+impl Drop for Marking {
+    fn drop(self) {
+        let Marking {
+            count: _,
+            marked: _marked,
+            fresh: _fresh,
+        } = self;
+    }
 }
 
 impl Model for Marking {

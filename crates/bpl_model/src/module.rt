@@ -44,7 +44,6 @@ pub struct DeclaredProc {
 }
 
 /// The parts of a module, typed or not.
-#[derive(Drop)]
 pub struct Parts {
     pub consts: Vec<Const>,
     pub axioms: Vec<Formula>,
@@ -52,6 +51,26 @@ pub struct Parts {
     pub globals: Vec<Global>,
     pub procs: Vec<Proc>,
     pub texts: Vec<DeclText>,
+}
+
+// Written out: a derived drop is proved again wherever a value is dropped.
+impl Drop for Parts {
+    fn drop(self) {
+        let Parts {
+            consts,
+            axioms,
+            functions,
+            globals,
+            procs,
+            texts,
+        } = self;
+        drop(consts);
+        drop(axioms);
+        drop(functions);
+        drop(globals);
+        drop(procs);
+        drop(texts);
+    }
 }
 
 impl Model for Parts {
@@ -71,9 +90,16 @@ impl Model for Parts {
 /// callee. A contract reads no local, and a `requires` no entry value and no out; a clause reads no
 /// entry value and what is declared before its variable's kind. A `break` leaves a statement around
 /// it. No variable stands for a replaced call.
-#[derive(Drop)]
 pub struct Module {
     parts: Parts,
+}
+
+// Written out: a derived drop is proved again wherever a value is dropped.
+impl Drop for Module {
+    fn drop(self) {
+        let Module { parts } = self;
+        drop(parts);
+    }
 }
 
 impl Model for Module {
@@ -104,7 +130,8 @@ impl Module {
         ensures same { result ≡ self }
         ensures typed { IsTypedModule result }
     {
-        self.parts
+        let Module { parts } = self;
+        parts
     }
 
     /// The parts.

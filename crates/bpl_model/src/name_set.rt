@@ -8,9 +8,15 @@ use std::alloc::{AllocError, Global};
 use std::marker::Model;
 
 /// Names, each once, in the order in which they were put in first.
-#[derive(Drop)]
 pub struct NameSet<'a> {
     keys: IndexSet<&'a [u8]>,
+}
+
+// Written out: a derived drop is proved again wherever a value is dropped.
+impl<'a> Drop for NameSet<'a> {
+    fn drop(self) {
+        let NameSet { keys: _keys } = self;
+    }
 }
 
 impl<'a> Model for NameSet<'a> {
