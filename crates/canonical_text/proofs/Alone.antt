@@ -5,7 +5,8 @@ use Rattle.std.proofs.Common.{refl, ap, sym, ◌∙◌, arith}
 use Rattle.std.proofs.lemmas.List.Folds.{list_all-append}
 use Rattle.bpl_grammar.proofs.Booleans.{no_and_second as and_no, and_parts, or_first}
 use Rattle.bpl_lex.specs.Token.{Kind, id, number as number_kind, text, sign, word as word_kind}
-use Rattle.bpl_lex.specs.Shape.{is_letter, is_digit, is_identifier, is_number, is_string, is_sign, among, words, is_blank, is_line_comment, is_block_comment, opens_comment, kind_of, Piece, token, piece_of}
+use Rattle.bv_base.specs.Text.{is_among}
+use Rattle.bpl_lex.specs.Shape.{is_letter, is_digit, is_identifier, is_number, is_string, is_sign, words, is_blank, is_line_comment, is_block_comment, opens_comment, kind_of, Piece, token, piece_of}
 use Rattle.bpl_lex.proofs.FirstBytes.{differs'}
 use Rattle.bpl_lex.proofs.Shapes.{is_name_byte, piece_is, reads_name, reads_number}
 use Rattle.bpl_grammar.specs.Nesting.{value}
@@ -58,7 +59,7 @@ id_of false false false true w h = absurd (cc)
 id_of false false false false w h = absurd (cc)
 
 pub name_identifier : (w : List ℕ) → kind_of w ≡ Some id → is_identifier w ≡ true
-name_identifier w h = id_of (is_identifier w) (is_number w) (is_string w) (is_sign w) (among words w) h
+name_identifier w h = id_of (is_identifier w) (is_number w) (is_string w) (is_sign w) (is_among words w) h
 
 -- numbers
 
@@ -87,7 +88,7 @@ number_of false false false true w h = absurd (cc)
 number_of false false false false w h = absurd (cc)
 
 pub number_digits : (w : List ℕ) → kind_of w ≡ Some number_kind → is_number w ≡ true
-number_digits w h = number_of (is_identifier w) (is_number w) (is_string w) (is_sign w) (among words w) h
+number_digits w h = number_of (is_identifier w) (is_number w) (is_string w) (is_sign w) (is_among words w) h
 
 -- what ends a token belongs to no name and no number
 

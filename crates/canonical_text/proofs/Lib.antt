@@ -1,5 +1,6 @@
 pub mod Examples
 pub mod WrittenLines
+pub mod PageLines
 pub mod LastOperand
 pub mod PartTokens
 pub mod NoBranch

@@ -4,7 +4,7 @@ use Rattle.std.proofs.Common.{refl, arith}
 use Rattle.bpl_grammar.proofs.Booleans.{and_parts}
 use Rattle.bpl_lex.specs.Token.{id, number as number_kind, sign}
 use Rattle.bpl_lex.specs.Shape.{is_letter, is_digit, is_identifier, is_number, kind_of, piece_of}
-use Rattle.bpl_lex.proofs.FirstBytes.{differs'}
+use Rattle.bpl_lex.proofs.FirstBytes.{differs}
 use Rattle.canonical_text.specs.Glyph.{Glyph, plain, word, opening, closing, prefix, index}
 use Rattle.canonical_text.specs.Lexed.{IsAlone, round, square, comma, semicolon, colon, index as index_end, IsTight, IsNarrow}
 use Rattle.canonical_text.proofs.LexLines.{alone_by}
@@ -126,10 +126,10 @@ pub record IsFirst (g : Glyph) : Type 0 where
   pub spaced : g.tight ≡ false
   pub negated : (after : List ℕ) → IsAlone (codes "!") (g.text ++ after)
 
-pub negated_by : (c : ℕ) (ys : List ℕ) → nat_eq 61 c ≡ false → IsAlone (codes "!") (c ∷ ys)
+pub negated_by : (c : ℕ) (ys : List ℕ) → nat_eq c 61 ≡ false → IsAlone (codes "!") (c ∷ ys)
 negated_by c ys h = alone_by (codes "!") sign c ys (omega arith) refl refl (λ xs. not_unequal c xs h)
   where
-    not_unequal : (c : ℕ) (xs : List ℕ) → nat_eq 61 c ≡ false → piece_of (33 ∷ c ∷ xs) ≡ None
+    not_unequal : (c : ℕ) (xs : List ℕ) → nat_eq c 61 ≡ false → piece_of (33 ∷ c ∷ xs) ≡ None
     not_unequal c xs h = rw h refl
 
 pub bang_space : (after : List ℕ) → IsAlone (codes "!") (32 ∷ after)
@@ -140,11 +140,11 @@ bang_feed after = negated_by 10 after refl
 
 negated_identifier : (w : List ℕ) → is_identifier w ≡ true → (after : List ℕ) → IsAlone (codes "!") (w ++ after)
 negated_identifier [] h after = absurd (cc)
-negated_identifier (b ∷ bytes) h after = negated_by b (bytes ++ after) (differs' is_letter b 61 (and_parts (is_letter b) _ h).0 refl)
+negated_identifier (b ∷ bytes) h after = negated_by b (bytes ++ after) (differs is_letter b 61 (and_parts (is_letter b) _ h).0 refl)
 
 negated_number : (w : List ℕ) → is_number w ≡ true → (after : List ℕ) → IsAlone (codes "!") (w ++ after)
 negated_number [] h after = absurd (cc)
-negated_number (b ∷ bytes) h after = negated_by b (bytes ++ after) (differs' is_digit b 61 (and_parts (is_digit b) _ h).0 refl)
+negated_number (b ∷ bytes) h after = negated_by b (bytes ++ after) (differs is_digit b 61 (and_parts (is_digit b) _ h).0 refl)
 
 pub first_name : (w : List ℕ) (glued : Bool) → kind_of w ≡ Some id → IsFirst (record { text = w; tight = false; glued = glued })
 first_name w b h = record { spaced = refl; negated = negated_identifier w (name_identifier w h) }

@@ -1,7 +1,9 @@
 // The lines of the canonical text as they are written.
-ghost use Rattle.std.specs.Prelude.{◌≡◌, ◌+◌, [], ◌∷◌, ◌++◌, map, OnOk, IfOk};
+#![tactic(auto, using(crate::proofs::PageLines::lines))]
+
+ghost use Rattle.std.specs.Prelude.{◌≡◌, ◌+◌, [], ◌∷◌, ◌++◌, map, Some, OnOk, IfOk, option_map};
 ghost use Rattle.canonical_text.specs.Glyph.{plain, line};
-ghost use Rattle.canonical_text.specs.Written.{begun};
+ghost use Rattle.canonical_text.specs.Written.{Adds, begun};
 
 use crate::line::Line;
 use std::alloc::{AllocError, Global};
@@ -41,27 +43,26 @@ impl Page {
     }
 
     /// A line that begins with so many spaces.
-    pub fn begin(&self, indent: usize) -> Result<Line, AllocError>
-        ensures { IfOk result (λ l. l ≡ begun indent) }
+    pub fn begin(&self, indent: usize) -> Line
+        ensures { Adds (Some (begun indent)) [] result }
     {
         Line::begin(self.alloc, indent)
     }
 
-    /// One more line.
+    /// One more line, if it is not given up.
     pub fn end(&mut self, line: Line) -> Result<(), AllocError>
-        ensures { OnOk result (self.new ≡ self.old ++ line.text ∷ []) }
+        ensures { OnOk result (option_map (λ w. self.old ++ w.text ∷ []) line ≡ Some self.new) }
     {
-        self.lines.push(line.into_text())?;
+        self.lines.push(line.into_text()?)?;
         Ok(())
     }
 
     /// One more line, which has this one token.
-    #[tactic(auto, using(crate::proofs::WrittenLines::line_written))]
     pub fn bare(&mut self, indent: usize, token: &[u8]) -> Result<(), AllocError>
         ensures { OnOk result (self.new ≡ self.old ++ line indent (plain token.now ∷ []) ∷ []) }
     {
-        let mut line = self.begin(indent)?;
-        line.word(token)?;
+        let mut line = self.begin(indent);
+        line.word(token);
         self.end(line)
     }
 }

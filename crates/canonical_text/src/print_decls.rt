@@ -1,4 +1,6 @@
 // The lines of declarations, and the text of programs and of expressions.
+#![tactic(auto, using(crate::proofs::PageLines::lines))]
+
 ghost use Rattle.std.specs.Prelude.{◌≡◌, [], ◌∷◌, ◌++◌, map, OnOk, IfOk};
 ghost use Rattle.bpl_ast.specs.ExprView.{each_groups_of, groups_of};
 ghost use Rattle.bpl_ast.specs.DeclView.{body_of};
@@ -11,8 +13,7 @@ use crate::page::Page;
 use crate::print_actions::{print_claim, print_free, print_named};
 use crate::print_exprs::print_expr;
 use crate::print_heads::{
-    print_const, print_declared, print_ended, print_function, print_result, print_type_name,
-    print_variables,
+    print_const, print_declared, print_ended, print_function, print_type_name, print_variables,
 };
 use crate::print_stmts::print_stmts;
 use bpl_ast::decl::{Body, Decl, DeclBody, Program, Signature, Spec, SpecForm};
@@ -22,26 +23,25 @@ use bv_base::append_lines;
 use std::alloc::{AllocError, Global};
 
 /// The line of a clause of a contract.
-#[tactic(auto, using(crate::proofs::WrittenLines::written_append, crate::proofs::WrittenLines::line_written))]
 fn print_spec(page: &mut Page, spec: &Spec) -> Result<(), AllocError>
     ensures { OnOk result (page.new ≡ page.old ++ spec_line spec.now ∷ []) }
 {
     match &spec.form {
         SpecForm::Requires { free, formula: x } => {
-            let mut line = page.begin(2)?;
-            print_free(&mut line, *free)?;
-            print_claim(&mut line, b"requires", x)?;
+            let mut line = page.begin(2);
+            print_free(&mut line, *free);
+            print_claim(&mut line, b"requires", x);
             page.end(line)
         }
         SpecForm::Ensures { free, formula: x } => {
-            let mut line = page.begin(2)?;
-            print_free(&mut line, *free)?;
-            print_claim(&mut line, b"ensures", x)?;
+            let mut line = page.begin(2);
+            print_free(&mut line, *free);
+            print_claim(&mut line, b"ensures", x);
             page.end(line)
         }
         SpecForm::Modifies(names) => {
-            let mut line = page.begin(2)?;
-            print_named(&mut line, b"modifies", names)?;
+            let mut line = page.begin(2);
+            print_named(&mut line, b"modifies", names);
             page.end(line)
         }
     }
@@ -60,12 +60,11 @@ fn print_specs(page: &mut Page, list: &[Spec]) -> Result<(), AllocError>
 }
 
 /// The line of a `var` of a body.
-#[tactic(auto, using(crate::proofs::WrittenLines::line_written))]
 fn print_local(page: &mut Page, list: &[Group]) -> Result<(), AllocError>
     ensures { OnOk result (page.new ≡ page.old ++ local_line (groups_of list.now) ∷ []) }
 {
-    let mut line = page.begin(2)?;
-    print_variables(&mut line, list)?;
+    let mut line = page.begin(2);
+    print_variables(&mut line, list);
     page.end(line)
 }
 
@@ -92,7 +91,6 @@ fn print_body(page: &mut Page, body: &Body) -> Result<(), AllocError>
 }
 
 /// The line of a procedure.
-#[tactic(auto, using(crate::proofs::WrittenLines::written_append, crate::proofs::WrittenLines::line_written))]
 fn print_procedure(
     page: &mut Page,
     name: &Name,
@@ -102,14 +100,13 @@ fn print_procedure(
 ) -> Result<(), AllocError>
     ensures { OnOk result (page.new ≡ page.old ++ line 0 (word "procedure" ∷ plain name.now.text ∷ (signature generic.now found.now ++ ended body.now)) ∷ []) }
 {
-    let mut line = page.begin(0)?;
-    print_declared(&mut line, b"procedure", name, generic, found)?;
-    print_ended(&mut line, body)?;
+    let mut line = page.begin(0);
+    print_declared(&mut line, b"procedure", name, generic, found);
+    print_ended(&mut line, body);
     page.end(line)
 }
 
 /// The line of an implementation.
-#[tactic(auto, using(crate::proofs::WrittenLines::line_written))]
 fn print_implementation(
     page: &mut Page,
     name: &Name,
@@ -118,20 +115,19 @@ fn print_implementation(
 ) -> Result<(), AllocError>
     ensures { OnOk result (page.new ≡ page.old ++ line 0 (word "implementation" ∷ plain name.now.text ∷ signature generic.now found.now) ∷ []) }
 {
-    let mut line = page.begin(0)?;
-    print_declared(&mut line, b"implementation", name, generic, found)?;
+    let mut line = page.begin(0);
+    print_declared(&mut line, b"implementation", name, generic, found);
     page.end(line)
 }
 
 /// The lines of a declaration but those of its body.
-#[tactic(auto, using(crate::proofs::WrittenLines::written_append, crate::proofs::WrittenLines::line_written))]
 fn print_head(page: &mut Page, body: &DeclBody) -> Result<(), AllocError>
     ensures { OnOk result (page.new ≡ page.old ++ head_lines (body_of body.now)) }
 {
     match body {
         DeclBody::Const { unique, names, of } => {
-            let mut line = page.begin(0)?;
-            print_const(&mut line, unique, names, of)?;
+            let mut line = page.begin(0);
+            print_const(&mut line, unique, names, of);
             page.end(line)
         }
         DeclBody::Function {
@@ -141,24 +137,23 @@ fn print_head(page: &mut Page, body: &DeclBody) -> Result<(), AllocError>
             of,
             value,
         } => {
-            let mut line = page.begin(0)?;
-            print_function(&mut line, name, params, arguments)?;
-            print_result(&mut line, of, value)?;
+            let mut line = page.begin(0);
+            print_function(&mut line, name, params, arguments, of, value);
             page.end(line)
         }
         DeclBody::Axiom(x) => {
-            let mut line = page.begin(0)?;
-            print_claim(&mut line, b"axiom", x)?;
+            let mut line = page.begin(0);
+            print_claim(&mut line, b"axiom", x);
             page.end(line)
         }
         DeclBody::Var(groups) => {
-            let mut line = page.begin(0)?;
-            print_variables(&mut line, groups)?;
+            let mut line = page.begin(0);
+            print_variables(&mut line, groups);
             page.end(line)
         }
         DeclBody::TypeName { name, synonym: of } => {
-            let mut line = page.begin(0)?;
-            print_type_name(&mut line, name, of)?;
+            let mut line = page.begin(0);
+            print_type_name(&mut line, name, of);
             page.end(line)
         }
         DeclBody::Procedure {
@@ -251,11 +246,10 @@ pub fn print(alloc: Global, program: &Program) -> Result<Vec<u8>, AllocError>
 }
 
 /// The canonical text of an expression that stands alone.
-#[tactic(auto, using(crate::proofs::WrittenLines::line_written))]
 pub fn print_expression(alloc: Global, found: &Expr) -> Result<Vec<u8>, AllocError>
     ensures { IfOk result (λ v. v.items ≡ line 0 (expression found.now)) }
 {
-    let mut line = Line::begin(alloc, 0)?;
-    print_expr(&mut line, found)?;
-    Ok(line.into_text())
+    let mut line = Line::begin(alloc, 0);
+    print_expr(&mut line, found);
+    line.into_text()
 }

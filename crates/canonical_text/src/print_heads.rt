@@ -1,10 +1,12 @@
 // The tokens of declarations.
-ghost use Rattle.std.specs.Prelude.{◌≡◌, ◌∷◌, ◌++◌, OnOk};
+#![tactic(auto, using(crate::proofs::WrittenLines::writes))]
+
+ghost use Rattle.std.specs.Prelude.{◌≡◌, ◌∷◌, ◌++◌};
 ghost use Rattle.bpl_ast.specs.ExprView.{groups_of};
 ghost use Rattle.canonical_text.specs.Glyph.{word, plain, prefix, opening, closing};
 ghost use Rattle.canonical_text.specs.Expression.{names, params, type, groups};
 ghost use Rattle.canonical_text.specs.Lines.{semicolon, returned, signature, argument, arguments, more_arguments, value, unique_word, synonym_of, ended};
-ghost use Rattle.canonical_text.specs.Written.{written};
+ghost use Rattle.canonical_text.specs.Written.{Adds};
 
 use crate::line::Line;
 use crate::print_exprs::{print_expr, print_groups};
@@ -14,211 +16,179 @@ use bpl_ast::expr::{Expr, Group};
 use bpl_ast::name::{Name, TypeParams};
 use bpl_ast::types::Type;
 use bv_base::place::Place;
-use std::alloc::AllocError;
 
 /// The results of a procedure, if there are any.
-#[tactic(auto, using(crate::proofs::WrittenLines::written_append))]
-fn print_returned(line: &mut Line, list: &[Group]) -> Result<(), AllocError>
-    ensures { OnOk result (line.new ≡ written line.old (returned (groups_of list.now))) }
+fn print_returned(line: &mut Line, list: &[Group])
+    ensures { Adds line.old (returned (groups_of list.now)) line.new }
 {
-    match list.split_first() {
-        Some(_) => {
-            line.word(b"returns")?;
-            line.opening(b"(")?;
-            print_groups(line, list)?;
-            line.closing(b")")
-        }
-        None => Ok(()),
+    if let Some(_) = list.split_first() {
+        line.word(b"returns");
+        line.opening(b"(");
+        print_groups(line, list);
+        line.closing(b")");
     }
 }
 
 /// The parameters and results of a procedure.
-#[tactic(auto, using(crate::proofs::WrittenLines::written_append))]
-fn print_signature(
-    line: &mut Line,
-    generic: &Option<TypeParams>,
-    found: &Signature,
-) -> Result<(), AllocError>
-    ensures { OnOk result (line.new ≡ written line.old (signature generic.now found.now)) }
+fn print_signature(line: &mut Line, generic: &Option<TypeParams>, found: &Signature)
+    ensures { Adds line.old (signature generic.now found.now) line.new }
 {
-    print_params(line, generic)?;
-    line.opening(b"(")?;
-    print_groups(line, &found.ins)?;
-    line.closing(b")")?;
-    print_returned(line, &found.outs)
+    print_params(line, generic);
+    line.opening(b"(");
+    print_groups(line, &found.ins);
+    line.closing(b")");
+    print_returned(line, &found.outs);
 }
 
 /// A parameter of a function.
-#[tactic(auto, using(crate::proofs::WrittenLines::written_append))]
-fn print_argument(line: &mut Line, found: &Argument) -> Result<(), AllocError>
-    ensures { OnOk result (line.new ≡ written line.old (argument found.now)) }
+fn print_argument(line: &mut Line, found: &Argument)
+    ensures { Adds line.old (argument found.now) line.new }
 {
     match &found.name {
         Some(name) => {
-            line.word(name.text.as_bytes())?;
-            line.closing(b":")?;
-            print_type(line, &found.of)
+            line.word(name.text.as_bytes());
+            line.closing(b":");
+            print_type(line, &found.of);
         }
         None => print_type(line, &found.of),
     }
 }
 
 /// The parameters of a function, with commas between them.
-#[tactic(auto, using(crate::proofs::WrittenLines::written_append))]
-fn print_arguments(line: &mut Line, list: &[Argument]) -> Result<(), AllocError>
-    ensures { OnOk result (line.new ≡ written line.old (arguments list.now)) }
+fn print_arguments(line: &mut Line, list: &[Argument])
+    ensures { Adds line.old (arguments list.now) line.new }
 {
-    match list.split_first() {
-        Some((first, others)) => {
-            print_argument(line, first)?;
-            print_more_arguments(line, others)
-        }
-        None => Ok(()),
+    if let Some((first, others)) = list.split_first() {
+        print_argument(line, first);
+        print_more_arguments(line, others);
     }
 }
 
 /// The parameters behind the first, each behind a comma.
-#[tactic(auto, using(crate::proofs::WrittenLines::written_append))]
-fn print_more_arguments(line: &mut Line, list: &[Argument]) -> Result<(), AllocError>
-    ensures { OnOk result (line.new ≡ written line.old (more_arguments list.now)) }
+fn print_more_arguments(line: &mut Line, list: &[Argument])
+    ensures { Adds line.old (more_arguments list.now) line.new }
 {
     let mut rest = list;
     while let Some((argument, tail)) = rest.split_first() {
-        line.closing(b",")?;
-        print_argument(line, argument)?;
+        line.closing(b",");
+        print_argument(line, argument);
         rest = tail;
     }
-    Ok(())
 }
 
 /// The body of a function in its braces, or a semicolon.
-#[tactic(auto, using(crate::proofs::WrittenLines::written_append))]
-fn print_value(line: &mut Line, found: &Option<Expr>) -> Result<(), AllocError>
-    ensures { OnOk result (line.new ≡ written line.old (value found.now)) }
+fn print_value(line: &mut Line, found: &Option<Expr>)
+    ensures { Adds line.old (value found.now) line.new }
 {
     match found {
         Some(x) => {
-            line.word(b"{")?;
-            print_expr(line, x)?;
-            line.word(b"}")
+            line.word(b"{");
+            print_expr(line, x);
+            line.word(b"}");
         }
         None => line.closing(b";"),
     }
 }
 
 /// The word `unique`, or nothing.
-fn print_unique(line: &mut Line, found: &Option<Place>) -> Result<(), AllocError>
-    ensures { OnOk result (line.new ≡ written line.old (unique_word found.now)) }
+fn print_unique(line: &mut Line, found: &Option<Place>)
+    ensures { Adds line.old (unique_word found.now) line.new }
 {
-    match found {
-        Some(_) => line.word(b"unique"),
-        None => Ok(()),
+    if let Some(_) = found {
+        line.word(b"unique");
     }
 }
 
 /// What a synonym stands for, or nothing.
-#[tactic(auto, using(crate::proofs::WrittenLines::written_append))]
-fn print_synonym(line: &mut Line, found: &Option<Type>) -> Result<(), AllocError>
-    ensures { OnOk result (line.new ≡ written line.old (synonym_of found.now)) }
+fn print_synonym(line: &mut Line, found: &Option<Type>)
+    ensures { Adds line.old (synonym_of found.now) line.new }
 {
-    match found {
-        Some(of) => {
-            line.word(b"=")?;
-            print_type(line, of)
-        }
-        None => Ok(()),
+    if let Some(of) = found {
+        line.word(b"=");
+        print_type(line, of);
     }
 }
 
 /// The semicolon of a procedure without a body.
-pub fn print_ended(line: &mut Line, found: &Option<Body>) -> Result<(), AllocError>
-    ensures { OnOk result (line.new ≡ written line.old (ended found.now)) }
+pub fn print_ended(line: &mut Line, found: &Option<Body>)
+    ensures { Adds line.old (ended found.now) line.new }
 {
-    match found {
-        Some(_) => Ok(()),
-        None => line.closing(b";"),
+    if let None = found {
+        line.closing(b";");
     }
 }
 
 /// Constants.
-#[tactic(auto, using(crate::proofs::WrittenLines::written_append))]
-pub fn print_const(
-    line: &mut Line,
-    unique: &Option<Place>,
-    list: &[Name],
-    of: &Type,
-) -> Result<(), AllocError>
-    ensures { OnOk result (line.new ≡ written line.old (word "const" ∷ (unique_word unique.now ++ (names list.now ++ closing ":" ∷ (type of.now ++ semicolon))))) }
+pub fn print_const(line: &mut Line, unique: &Option<Place>, list: &[Name], of: &Type)
+    ensures { Adds line.old (word "const" ∷ (unique_word unique.now ++ (names list.now ++ closing ":" ∷ (type of.now ++ semicolon)))) line.new }
 {
-    line.word(b"const")?;
-    print_unique(line, unique)?;
-    print_names(line, list)?;
-    line.closing(b":")?;
-    print_type(line, of)?;
-    line.closing(b";")
+    line.word(b"const");
+    print_unique(line, unique);
+    print_names(line, list);
+    line.closing(b":");
+    print_type(line, of);
+    line.closing(b";");
 }
 
 /// The type of a function's values, and its body.
-#[tactic(auto, using(crate::proofs::WrittenLines::written_append))]
-pub fn print_result(line: &mut Line, of: &Type, found: &Option<Expr>) -> Result<(), AllocError>
-    ensures { OnOk result (line.new ≡ written line.old (closing ")" ∷ closing ":" ∷ (type of.now ++ value found.now))) }
+fn print_result(line: &mut Line, of: &Type, found: &Option<Expr>)
+    ensures { Adds line.old (closing ")" ∷ closing ":" ∷ (type of.now ++ value found.now)) line.new }
 {
-    line.closing(b")")?;
-    line.closing(b":")?;
-    print_type(line, of)?;
-    print_value(line, found)
+    line.closing(b")");
+    line.closing(b":");
+    print_type(line, of);
+    print_value(line, found);
 }
 
-/// The name, type parameters and parameters of a function.
-#[tactic(auto, using(crate::proofs::WrittenLines::written_append))]
+/// A function.
 pub fn print_function(
     line: &mut Line,
     name: &Name,
     generic: &Option<TypeParams>,
     list: &[Argument],
-) -> Result<(), AllocError>
-    ensures { OnOk result (line.new ≡ written line.old (word "function" ∷ prefix name.now.text ∷ (params generic.now ++ opening "(" ∷ arguments list.now))) }
+    of: &Type,
+    found: &Option<Expr>,
+)
+    ensures { Adds line.old (word "function" ∷ prefix name.now.text ∷ (params generic.now ++ opening "(" ∷ (arguments list.now ++ closing ")" ∷ closing ":" ∷ (type of.now ++ value found.now)))) line.new }
 {
-    line.word(b"function")?;
-    line.opening(name.text.as_bytes())?;
-    print_params(line, generic)?;
-    line.opening(b"(")?;
-    print_arguments(line, list)
+    line.word(b"function");
+    line.opening(name.text.as_bytes());
+    print_params(line, generic);
+    line.opening(b"(");
+    print_arguments(line, list);
+    print_result(line, of, found);
 }
 
 /// Variables.
-#[tactic(auto, using(crate::proofs::WrittenLines::written_append))]
-pub fn print_variables(line: &mut Line, list: &[Group]) -> Result<(), AllocError>
-    ensures { OnOk result (line.new ≡ written line.old (word "var" ∷ (groups (groups_of list.now) ++ semicolon))) }
+pub fn print_variables(line: &mut Line, list: &[Group])
+    ensures { Adds line.old (word "var" ∷ (groups (groups_of list.now) ++ semicolon)) line.new }
 {
-    line.word(b"var")?;
-    print_groups(line, list)?;
-    line.closing(b";")
+    line.word(b"var");
+    print_groups(line, list);
+    line.closing(b";");
 }
 
 /// A user type, or a synonym.
-#[tactic(auto, using(crate::proofs::WrittenLines::written_append))]
-pub fn print_type_name(line: &mut Line, name: &Name, of: &Option<Type>) -> Result<(), AllocError>
-    ensures { OnOk result (line.new ≡ written line.old (word "type" ∷ plain name.now.text ∷ (synonym_of of.now ++ semicolon))) }
+pub fn print_type_name(line: &mut Line, name: &Name, of: &Option<Type>)
+    ensures { Adds line.old (word "type" ∷ plain name.now.text ∷ (synonym_of of.now ++ semicolon)) line.new }
 {
-    line.word(b"type")?;
-    line.word(name.text.as_bytes())?;
-    print_synonym(line, of)?;
-    line.closing(b";")
+    line.word(b"type");
+    line.word(name.text.as_bytes());
+    print_synonym(line, of);
+    line.closing(b";");
 }
 
 /// A word, a procedure's name and its parameters and results.
-#[tactic(auto, using(crate::proofs::WrittenLines::written_append))]
 pub fn print_declared(
     line: &mut Line,
     token: &[u8],
     name: &Name,
     generic: &Option<TypeParams>,
     found: &Signature,
-) -> Result<(), AllocError>
-    ensures { OnOk result (line.new ≡ written line.old (plain token.now ∷ plain name.now.text ∷ signature generic.now found.now)) }
+)
+    ensures { Adds line.old (plain token.now ∷ plain name.now.text ∷ signature generic.now found.now) line.new }
 {
-    line.word(token)?;
-    line.word(name.text.as_bytes())?;
-    print_signature(line, generic, found)
+    line.word(token);
+    line.word(name.text.as_bytes());
+    print_signature(line, generic, found);
 }

@@ -1,9 +1,11 @@
 // The lines of statements.
-ghost use Rattle.std.specs.Prelude.{◌≡◌, ◌+◌, [], ◌∷◌, ◌++◌, map, OnOk, IfOk};
+#![tactic(auto, using(crate::proofs::PageLines::lines))]
+
+ghost use Rattle.std.specs.Prelude.{◌≡◌, ◌+◌, [], ◌∷◌, ◌++◌, map, Some, OnOk};
 ghost use Rattle.bpl_ast.specs.StmtView.{stmts_of, branches_of, last_of};
 ghost use Rattle.canonical_text.specs.Glyph.{word, plain, line};
 ghost use Rattle.canonical_text.specs.Lines.{guard, labels, invariant_line, statement, chain, others, statements, block};
-ghost use Rattle.canonical_text.specs.Written.{begun, written};
+ghost use Rattle.canonical_text.specs.Written.{Adds, begun};
 
 use crate::line::Line;
 use crate::page::{Page, deeper};
@@ -17,12 +19,11 @@ use bpl_ast::stmt::{Branch, Invariant, Stmt, StmtForm};
 use std::alloc::AllocError;
 
 /// The line of an invariant.
-#[tactic(auto, using(crate::proofs::WrittenLines::line_written))]
 fn print_invariant(page: &mut Page, indent: usize, found: &Invariant) -> Result<(), AllocError>
     ensures { OnOk result (page.new ≡ page.old ++ invariant_line indent found.now ∷ []) }
 {
-    let mut line = page.begin(indent)?;
-    print_kept(&mut line, found)?;
+    let mut line = page.begin(indent);
+    print_kept(&mut line, found);
     page.end(line)
 }
 
@@ -39,16 +40,16 @@ fn print_invariants(page: &mut Page, indent: usize, list: &[Invariant]) -> Resul
 }
 
 /// A line that begins with labels.
-fn begin_labelled(page: &Page, indent: usize, list: &[Name]) -> Result<Line, AllocError>
-    ensures { IfOk result (λ l. l ≡ written (begun indent) (labels list.now)) }
+#[tactic(auto, using(crate::proofs::WrittenLines::writes))]
+fn begin_labelled(page: &Page, indent: usize, list: &[Name]) -> Line
+    ensures { Adds (Some (begun indent)) (labels list.now) result }
 {
-    let mut line = page.begin(indent)?;
-    print_labels(&mut line, list)?;
-    Ok(line)
+    let mut line = page.begin(indent);
+    print_labels(&mut line, list);
+    line
 }
 
 /// The line of a word and a guard behind labels.
-#[tactic(auto, using(crate::proofs::WrittenLines::line_written))]
 fn print_guarded_line(
     page: &mut Page,
     indent: usize,
@@ -58,8 +59,8 @@ fn print_guarded_line(
 ) -> Result<(), AllocError>
     ensures { OnOk result (page.new ≡ page.old ++ line indent (labels before.now ++ plain token.now ∷ guard found.now) ∷ []) }
 {
-    let mut line = page.begin(indent)?;
-    print_guarded(&mut line, before, token, found)?;
+    let mut line = page.begin(indent);
+    print_guarded(&mut line, before, token, found);
     page.end(line)
 }
 
@@ -79,34 +80,33 @@ fn print_loop(
 
 /// The lines of a statement behind its labels.
 #[cycle(print_stmt)]
-#[tactic(auto, using(crate::proofs::WrittenLines::written_append, crate::proofs::WrittenLines::line_written))]
 fn print_stmt(page: &mut Page, indent: usize, stmt: &Stmt) -> Result<(), AllocError>
     ensures { OnOk result (page.new ≡ page.old ++ statement indent stmt.now) }
 {
     match &stmt.form {
         StmtForm::Assert(x) => {
-            let mut line = begin_labelled(page, indent, &stmt.labels)?;
-            print_claim(&mut line, b"assert", x)?;
+            let mut line = begin_labelled(page, indent, &stmt.labels);
+            print_claim(&mut line, b"assert", x);
             page.end(line)
         }
         StmtForm::Assume(x) => {
-            let mut line = begin_labelled(page, indent, &stmt.labels)?;
-            print_claim(&mut line, b"assume", x)?;
+            let mut line = begin_labelled(page, indent, &stmt.labels);
+            print_claim(&mut line, b"assume", x);
             page.end(line)
         }
         StmtForm::Havoc(names) => {
-            let mut line = begin_labelled(page, indent, &stmt.labels)?;
-            print_named(&mut line, b"havoc", names)?;
+            let mut line = begin_labelled(page, indent, &stmt.labels);
+            print_named(&mut line, b"havoc", names);
             page.end(line)
         }
         StmtForm::Assign(targets, values) => {
-            let mut line = begin_labelled(page, indent, &stmt.labels)?;
-            print_assign(&mut line, targets, values)?;
+            let mut line = begin_labelled(page, indent, &stmt.labels);
+            print_assign(&mut line, targets, values);
             page.end(line)
         }
         StmtForm::Call(targets, name, arguments) => {
-            let mut line = begin_labelled(page, indent, &stmt.labels)?;
-            print_call(&mut line, targets, name, arguments)?;
+            let mut line = begin_labelled(page, indent, &stmt.labels);
+            print_call(&mut line, targets, name, arguments);
             page.end(line)
         }
         StmtForm::If(branches, last) => { print_chain(page, indent, &stmt.labels, branches, last) }
@@ -115,19 +115,19 @@ fn print_stmt(page: &mut Page, indent: usize, stmt: &Stmt) -> Result<(), AllocEr
             print_block(page, indent, body)
         }
         StmtForm::Break(name) => {
-            let mut line = begin_labelled(page, indent, &stmt.labels)?;
-            print_break(&mut line, name)?;
+            let mut line = begin_labelled(page, indent, &stmt.labels);
+            print_break(&mut line, name);
             page.end(line)
         }
         StmtForm::Return => {
-            let mut line = begin_labelled(page, indent, &stmt.labels)?;
-            line.word(b"return")?;
-            line.closing(b";")?;
+            let mut line = begin_labelled(page, indent, &stmt.labels);
+            line.word(b"return");
+            line.closing(b";");
             page.end(line)
         }
         StmtForm::Goto(names) => {
-            let mut line = begin_labelled(page, indent, &stmt.labels)?;
-            print_named(&mut line, b"goto", names)?;
+            let mut line = begin_labelled(page, indent, &stmt.labels);
+            print_named(&mut line, b"goto", names);
             page.end(line)
         }
     }

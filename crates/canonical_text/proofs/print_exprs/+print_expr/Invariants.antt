@@ -1,10 +1,10 @@
-use Rattle.std.proofs.Common.{◌≡◌, ◌+◌, ◌*◌, ◌≤◌, length}
+use Rattle.std.proofs.Common.{◌+◌, ◌*◌, ◌≤◌, length}
 use Rattle.bpl_ast.specs.Nodes.{nodes, inner_nodes, exprs_nodes, terms_nodes, indices_nodes, triggers_nodes, groups_nodes, clause_nodes}
 use Rattle.bpl_ast.specs.Tree.{no_terms, no_indices}
 use Rattle.bpl_ast.specs.ExprView.{exprs_of, term_of, terms_of, index_of, indices_of, triggers_of, clause_of, groups_of, node_of}
 use Rattle.canonical_text.specs.Expression.{more_run, more_listed, terms, indices, triggers, more_groups}
 use Rattle.canonical_text.specs.Glyph.{plain}
-use Rattle.canonical_text.specs.Written.{written}
+use Rattle.canonical_text.proofs.WrittenLines.{Leaves}
 use Rattle.canonical_text.proofs.print_exprs.+print_expr.Given as goal
 
 abbrev pub decreases-print_form : goal.decreases-print_form
@@ -57,7 +57,7 @@ decreases-print_more_groups l = 8 * groups_nodes (groups_of l.others.now) + 5
 
 abbrev pub invariant-print_more_run-loop-x : goal.invariant-print_more_run-loop-x
 invariant-print_more_run-loop-x l = record {
-  same : written l.line (more_run l.at l.inner (plain l.sign) l.next (exprs_of l.rest)) ≡ written l.fn.line (more_run l.at l.inner (plain l.sign) l.next (exprs_of l.xs));
+  same : Leaves l.fn.line (more_run l.at l.inner (plain l.sign) l.next (exprs_of l.xs)) l.line (more_run l.at l.inner (plain l.sign) l.next (exprs_of l.rest));
   less : exprs_nodes (exprs_of l.rest) ≤ exprs_nodes (exprs_of l.xs);
 }
 
@@ -66,13 +66,13 @@ decreases-print_more_run-loop-x l = length l.rest
 
 abbrev pub invariant-print_more_listed-loop-x : goal.invariant-print_more_listed-loop-x
 invariant-print_more_listed-loop-x l = record {
-  same : written l.line (more_listed (exprs_of l.rest)) ≡ written l.fn.line (more_listed (exprs_of l.others));
+  same : Leaves l.fn.line (more_listed (exprs_of l.others)) l.line (more_listed (exprs_of l.rest));
   less : exprs_nodes (exprs_of l.rest) ≤ exprs_nodes (exprs_of l.others);
 }
 
 abbrev pub invariant-print_terms-loop-term : goal.invariant-print_terms-loop-term
 invariant-print_terms-loop-term l = record {
-  same : written l.line (terms l.next (terms_of l.rest)) ≡ written l.fn.line (terms l.next (terms_of l.list));
+  same : Leaves l.fn.line (terms l.next (terms_of l.list)) l.line (terms l.next (terms_of l.rest));
   less : terms_nodes (terms_of l.rest) ≤ terms_nodes (terms_of l.list);
 }
 
@@ -81,19 +81,19 @@ decreases-print_terms-loop-term l = length l.rest
 
 abbrev pub invariant-print_indices-loop-index : goal.invariant-print_indices-loop-index
 invariant-print_indices-loop-index l = record {
-  same : written l.line (indices (indices_of l.rest)) ≡ written l.fn.line (indices (indices_of l.list));
+  same : Leaves l.fn.line (indices (indices_of l.list)) l.line (indices (indices_of l.rest));
   less : indices_nodes (indices_of l.rest) ≤ indices_nodes (indices_of l.list);
 }
 
 abbrev pub invariant-print_triggers-loop-trigger : goal.invariant-print_triggers-loop-trigger
 invariant-print_triggers-loop-trigger l = record {
-  same : written l.line (triggers (triggers_of l.rest)) ≡ written l.fn.line (triggers (triggers_of l.list));
+  same : Leaves l.fn.line (triggers (triggers_of l.list)) l.line (triggers (triggers_of l.rest));
   less : triggers_nodes (triggers_of l.rest) ≤ triggers_nodes (triggers_of l.list);
 }
 
 abbrev pub invariant-print_more_groups-loop-group : goal.invariant-print_more_groups-loop-group
 invariant-print_more_groups-loop-group l = record {
-  same : written l.line (more_groups (groups_of l.rest)) ≡ written l.fn.line (more_groups (groups_of l.others));
+  same : Leaves l.fn.line (more_groups (groups_of l.others)) l.line (more_groups (groups_of l.rest));
   less : groups_nodes (groups_of l.rest) ≤ groups_nodes (groups_of l.others);
 }
 

@@ -1,8 +1,8 @@
-use Rattle.std.proofs.Common.{◌≡◌, ◌+◌, ◌*◌, ◌≤◌, length}
+use Rattle.std.proofs.Common.{◌+◌, ◌*◌, ◌≤◌, length}
 use Rattle.bpl_ast.specs.Nodes.{ty_nodes, tys_nodes}
 use Rattle.bpl_ast.specs.TypeView.{tys_of}
 use Rattle.canonical_text.specs.Expression.{more_types}
-use Rattle.canonical_text.specs.Written.{written}
+use Rattle.canonical_text.proofs.WrittenLines.{Leaves}
 use Rattle.canonical_text.proofs.print_types.+print_type.Given as goal
 
 abbrev pub decreases-print_type : goal.decreases-print_type
@@ -16,7 +16,7 @@ decreases-print_more_types l = 4 * tys_nodes (tys_of l.others.now) + 1
 
 abbrev pub invariant-print_more_types-loop-of : goal.invariant-print_more_types-loop-of
 invariant-print_more_types-loop-of l = record {
-  same : written l.line (more_types (tys_of l.rest)) ≡ written l.fn.line (more_types (tys_of l.others));
+  same : Leaves l.fn.line (more_types (tys_of l.others)) l.line (more_types (tys_of l.rest));
   less : tys_nodes (tys_of l.rest) ≤ tys_nodes (tys_of l.others);
 }
 
