@@ -2,7 +2,8 @@
 ghost use Rattle.std.specs.Prelude.{◌≡◌, Some, IfOk};
 ghost use Rattle.proof_core.specs.View.{step_of};
 ghost use Rattle.proof_core.specs.ProofView.{end_of};
-ghost use Rattle.proof_text.specs.States.{at, stepped, next_node, ended, into, term_due, in_term, beyond_space, beyond_step, step};
+ghost use Rattle.proof_text.specs.TermStates.{at_byte};
+ghost use Rattle.proof_text.specs.States.{at, proved, child_moves, stepped, next_node, ended, into, term_due, in_term, beyond_space, beyond_step, step};
 ghost use Rattle.proof_text.specs.declared.node.Beyond.TheVariants as beyond;
 ghost use Rattle.proof_text.specs.declared.node.Argument.TheVariants as argument;
 ghost use Rattle.proof_text.specs.declared.state.Cursor.TheVariants.{NodeDue, NodeOpened, StepDone, FactDue, Number, FactorDue, Minus, Digits, CaseOrTerm, Inside, ChildDue, After};
@@ -17,10 +18,18 @@ use proof_core::proof::{End, Proof, Step};
 use std::alloc::{AllocError, Global};
 
 /// The branch in which the place is.
-#[derive(Drop)]
 pub struct Open {
     pub levels: Stack<Level>,
     pub steps: Steps,
+}
+
+// Written out: a derived drop is proved again wherever a value is dropped.
+impl Drop for Open {
+    fn drop(self) {
+        let Open { levels, steps } = self;
+        drop(levels);
+        drop(steps);
+    }
 }
 
 impl Open {
@@ -28,9 +37,10 @@ impl Open {
     pub fn at(self, cursor: Cursor) -> State
         ensures { result ≡ at self.levels self.steps cursor }
     {
+        let Open { levels, steps } = self;
         State {
-            levels: self.levels,
-            steps: self.steps,
+            levels,
+            steps,
             cursor,
         }
     }
@@ -46,9 +56,10 @@ impl Open {
     fn next_node(self, step: Step) -> Result<State, AllocError>
         ensures { IfOk result (λ s. s ≡ next_node self.levels self.steps (step_of step)) }
     {
-        let steps = self.steps.with(step)?;
+        let Open { levels, steps } = self;
+        let steps = steps.with(step)?;
         Ok(State {
-            levels: self.levels,
+            levels,
             steps,
             cursor: Cursor::NodeDue,
         })
@@ -58,9 +69,10 @@ impl Open {
     pub fn ended(self, alloc: Global, end: End) -> State
         ensures { result ≡ ended self.levels self.steps (end_of end) }
     {
-        let steps = self.steps.into_vec();
+        let Open { levels, steps } = self;
+        let steps = steps.into_vec();
         State {
-            levels: self.levels,
+            levels,
             steps: Steps::new(alloc),
             cursor: Cursor::Ended(Proof { steps, end }),
         }
@@ -70,11 +82,8 @@ impl Open {
     fn into(self, alloc: Global, branch: Branch) -> Result<State, AllocError>
         ensures { IfOk result (λ s. s ≡ into self.levels self.steps branch) }
     {
-        let level = Level {
-            steps: self.steps,
-            branch,
-        };
-        let levels = self.levels.over(level)?;
+        let Open { levels, steps } = self;
+        let levels = levels.over(Level { steps, branch })?;
         Ok(State {
             levels,
             steps: Steps::new(alloc),
@@ -118,7 +127,7 @@ impl Open {
         ensures { IfOk result (λ o. o ≡ step self.levels self.steps (StepDone noted) byte) }
     {
         match byte {
-            b' ' => Ok(Some(self.next_node(noted.step)?)),
+            b' ' => Ok(Some(self.next_node(noted.into_step())?)),
             _ => {
                 drop(noted);
                 Ok(None)
@@ -191,7 +200,10 @@ impl Open {
         match byte {
             b' ' => Ok(self.space(alloc, beyond)),
             b')' => self.close(alloc, beyond),
-            _ => Ok(None),
+            _ => {
+                drop(beyond);
+                Ok(None)
+            }
         }
     }
 
@@ -324,6 +336,44 @@ impl Open {
                 drop(branch);
                 Ok(None)
             }
+        }
+    }
+
+    // The state behind a child of the innermost open node.
+    fn child_ended(
+        levels: Stack<Level>,
+        level: Level,
+        alloc: Global,
+        proof: Proof,
+    ) -> Result<State, AllocError>
+        ensures { IfOk result (λ s. s ≡ at levels level.steps (After (proved level.branch proof))) }
+    {
+        let (steps, beyond) = level.proved(alloc, proof)?;
+        Ok(State {
+            levels,
+            steps,
+            cursor: Cursor::After(beyond),
+        })
+    }
+
+    /// Behind the end of a proof.
+    pub fn behind_proof(
+        self,
+        alloc: Global,
+        proof: Proof,
+        byte: u8,
+    ) -> Result<Option<State>, AllocError>
+        ensures { IfOk result (λ o. o ≡ at_byte byte (child_moves self.levels proof)) }
+    {
+        let Open { levels, steps } = self;
+        drop(steps);
+        let (last, levels) = levels.split();
+        match last {
+            Some(level) => match byte {
+                b']' => Ok(Some(Open::child_ended(levels, level, alloc, proof)?)),
+                _ => Ok(None),
+            },
+            None => Ok(None),
         }
     }
 }

@@ -89,7 +89,7 @@ impl Open {
                 drop(branch);
                 Ok(None)
             }
-            Beyond::Step(noted) => Ok(self.stepped(noted.step)),
+            Beyond::Step(noted) => Ok(self.stepped(noted.into_step())),
             Beyond::Split(f) => Ok(self.stepped(Step::Split(f))),
             Beyond::Instance(fact, terms) => {
                 let terms = terms.into_vec();

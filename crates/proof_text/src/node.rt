@@ -48,7 +48,6 @@ pub enum Ways {
 }
 
 /// Which term a node has here, with what stands before it.
-#[derive(Drop)]
 pub enum Argument {
     Instance(u64, Sequence<Term>),
     Replace { fact: u64, by: u64 },
@@ -56,6 +55,18 @@ pub enum Argument {
     Back(u64),
     Condition(u64),
     Three(Ways),
+}
+
+// Written out: a derived drop is proved again wherever a value is dropped.
+impl Drop for Argument {
+    fn drop(self) {
+        match self {
+            Argument::Instance(_, terms) => drop(terms),
+            Argument::Replace { fact: _, by: _ } => {}
+            Argument::Unfold(_) | Argument::Back(_) | Argument::Condition(_) => {}
+            Argument::Three(_) => {}
+        }
+    }
 }
 
 /// Which child a node has here, with what stands before it.
@@ -88,10 +99,29 @@ pub enum Beyond {
 }
 
 /// A branch whose node is open: its steps, and the node up to the child in which the place is.
-#[derive(Drop)]
 pub struct Level {
     pub steps: Steps,
     pub branch: Branch,
+}
+
+// Written out: a derived drop is proved again wherever a value is dropped.
+impl Drop for Level {
+    fn drop(self) {
+        let Level { steps, branch } = self;
+        drop(steps);
+        drop(branch);
+    }
+}
+
+impl Level {
+    /// The steps before the node, and what stands behind the child.
+    pub fn proved(self, alloc: Global, proof: Proof) -> Result<(Steps, Beyond), AllocError>
+        ensures { IfOk result (λ r. (r.0 ≡ self.steps) × (r.1 ≡ proved self.branch proof)) }
+    {
+        let Level { steps, branch } = self;
+        let beyond = branch.proved(alloc, proof)?;
+        Ok((steps, beyond))
+    }
 }
 
 // Behind the last part of a step.

@@ -10,9 +10,16 @@ use std::alloc::{AllocError, Global};
 use std::marker::Model;
 
 /// The triggers of a quantifier, each a list of terms.
-#[derive(Drop)]
 pub struct Patterns {
     patterns: Vec<Vec<Term>>,
+}
+
+// Written out: a derived drop is proved again wherever a value is dropped.
+impl Drop for Patterns {
+    fn drop(self) {
+        let Patterns { patterns } = self;
+        drop(patterns);
+    }
 }
 
 impl Model for Patterns {
@@ -43,7 +50,7 @@ impl Patterns {
     pub fn with(self, pattern: Sequence<Term>) -> Result<Patterns, AllocError>
         ensures { IfOk result (λ p. p ≡ self ++ pattern ∷ []) }
     {
-        let mut patterns = self.patterns;
+        let Patterns { mut patterns } = self;
         patterns.push(pattern.into_vec())?;
         Ok(Patterns { patterns })
     }
@@ -52,14 +59,22 @@ impl Patterns {
     pub fn into_vec(self) -> Vec<Vec<Term>>
         ensures { each_items result.items ≡ self }
     {
-        self.patterns
+        let Patterns { patterns } = self;
+        patterns
     }
 }
 
 /// A step.
-#[derive(Drop)]
 pub struct Noted {
     pub step: Step,
+}
+
+// Written out: a derived drop is proved again wherever a value is dropped.
+impl Drop for Noted {
+    fn drop(self) {
+        let Noted { step } = self;
+        drop(step);
+    }
 }
 
 impl Model for Noted {
@@ -74,10 +89,27 @@ impl Model for Noted {
     ghost view = { λ a. step_of a.step };
 }
 
+impl Noted {
+    /// The step as it stands in a proof.
+    pub fn into_step(self) -> Step
+        ensures { step_of result ≡ self }
+    {
+        let Noted { step } = self;
+        step
+    }
+}
+
 /// The steps of a branch.
-#[derive(Drop)]
 pub struct Steps {
     steps: Vec<Step>,
+}
+
+// Written out: a derived drop is proved again wherever a value is dropped.
+impl Drop for Steps {
+    fn drop(self) {
+        let Steps { steps } = self;
+        drop(steps);
+    }
 }
 
 impl Model for Steps {
@@ -107,7 +139,7 @@ impl Steps {
     pub fn with(self, step: Step) -> Result<Steps, AllocError>
         ensures { IfOk result (λ s. s ≡ self ++ step_of step ∷ []) }
     {
-        let mut steps = self.steps;
+        let Steps { mut steps } = self;
         steps.push(step)?;
         Ok(Steps { steps })
     }
@@ -116,7 +148,8 @@ impl Steps {
     pub fn into_vec(self) -> Vec<Step>
         ensures { steps_of result.items ≡ self }
     {
-        self.steps
+        let Steps { steps } = self;
+        steps
     }
 }
 

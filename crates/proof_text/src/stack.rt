@@ -6,9 +6,16 @@ use std::alloc::{AllocError, Global};
 use std::marker::Model;
 
 /// A stack of items.
-#[derive(Drop)]
 pub struct Stack<T> {
     items: Vec<T>,
+}
+
+// Written out: a derived drop is proved again wherever a value is dropped.
+impl<T: Drop> Drop for Stack<T> {
+    fn drop(self) {
+        let Stack { items } = self;
+        drop(items);
+    }
 }
 
 impl<T> Model for Stack<T> {
@@ -36,7 +43,7 @@ impl<T: Drop> Stack<T> {
     pub fn over(self, item: T) -> Result<Stack<T>, AllocError>
         ensures { IfOk result (λ s. s ≡ item ∷ self) }
     {
-        let mut items = self.items;
+        let Stack { mut items } = self;
         items.push(item)?;
         Ok(Stack { items })
     }
@@ -52,7 +59,7 @@ impl<T: Drop> Stack<T> {
     pub fn split(self) -> (Option<T>, Stack<T>)
         ensures { MatchOption result.0 ((self ≡ []) × (result.1 ≡ [])) (λ item. self ≡ item ∷ result.1) }
     {
-        let mut items = self.items;
+        let Stack { mut items } = self;
         let last = items.pop();
         (last, Stack { items })
     }

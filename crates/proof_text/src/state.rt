@@ -1,8 +1,6 @@
 // Reading a proof byte by byte.
 ghost use Rattle.std.specs.Prelude.{◌≡◌, IfOk};
-ghost use Rattle.proof_text.specs.TermStates.{at_byte};
-ghost use Rattle.proof_text.specs.States.{at, proved, child_moves, step, start, read_proof};
-ghost use Rattle.proof_text.specs.declared.state.Cursor.TheVariants.{After};
+ghost use Rattle.proof_text.specs.States.{step, start, read_proof};
 
 use crate::branch::Open;
 use crate::node::{Argument, Beyond, Branch, Fact, Factor, Level};
@@ -31,53 +29,23 @@ pub enum Cursor {
 }
 
 /// A proof that has been read in part.
-#[derive(Drop)]
 pub struct State {
     pub levels: Stack<Level>,
     pub steps: Steps,
     pub cursor: Cursor,
 }
 
-// Behind a child.
-fn child_ended(
-    alloc: Global,
-    level: Level,
-    levels: Stack<Level>,
-    proof: Proof,
-) -> Result<State, AllocError>
-    ensures { IfOk result (λ s. s ≡ at levels level.steps (After (proved level.branch proof))) }
-{
-    let Level { steps, branch } = level;
-    let beyond = branch.proved(alloc, proof)?;
-    Ok(State {
-        levels,
-        steps,
-        cursor: Cursor::After(beyond),
-    })
-}
-
-// Behind the end of a proof.
-fn ended(
-    alloc: Global,
-    levels: Stack<Level>,
-    proof: Proof,
-    byte: u8,
-) -> Result<Option<State>, AllocError>
-    ensures { IfOk result (λ o. o ≡ at_byte byte (child_moves levels proof)) }
-{
-    let (last, levels) = levels.split();
-    match last {
-        Some(level) => match byte {
-            b']' => Ok(Some(child_ended(alloc, level, levels, proof)?)),
-            _ => {
-                drop((level, proof));
-                Ok(None)
-            }
-        },
-        None => {
-            drop(proof);
-            Ok(None)
-        }
+// Written out: a derived drop is proved again wherever a value is dropped.
+impl Drop for State {
+    fn drop(self) {
+        let State {
+            levels,
+            steps,
+            cursor,
+        } = self;
+        drop(levels);
+        drop(steps);
+        drop(cursor);
     }
 }
 
@@ -116,7 +84,7 @@ impl State {
             Cursor::Inside(argument, term) => open.inside(alloc, argument, term, byte),
             Cursor::ChildDue(branch) => open.child_due(alloc, branch, byte),
             Cursor::After(beyond) => open.behind(alloc, beyond, byte),
-            Cursor::Ended(proof) => ended(alloc, open.levels, proof, byte),
+            Cursor::Ended(proof) => open.behind_proof(alloc, proof, byte),
         }
     }
 
@@ -124,7 +92,12 @@ impl State {
     pub fn proof(self) -> Option<Proof>
         ensures { result ≡ read_proof self.levels self.cursor }
     {
-        let State { levels, cursor, .. } = self;
+        let State {
+            levels,
+            steps,
+            cursor,
+        } = self;
+        drop(steps);
         if !levels.is_empty() {
             drop(cursor);
             return None;

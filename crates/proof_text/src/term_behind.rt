@@ -1,6 +1,6 @@
 // Where a part of a term ends.
 ghost use Rattle.std.specs.Prelude.{◌≡◌, IfOk};
-ghost use Rattle.proof_text.specs.TermStates.{by_stop, behind_space, behind_close, next_behind, lettered, counted, term_step};
+ghost use Rattle.proof_text.specs.TermStates.{by_stop, behind_space, behind_close, lettered, counted, term_step};
 ghost use Rattle.proof_text.specs.declared.term_state.TermCursor.TheVariants.{Lettered, Digits};
 
 use crate::digit::{more_integer, more_number};
@@ -121,21 +121,6 @@ fn behind_close(
     }
 }
 
-/// Behind a term or a number that ends here.
-pub fn next_behind(
-    alloc: Global,
-    state: TermState,
-    byte: u8,
-) -> Result<Option<TermState>, AllocError>
-    ensures { IfOk result (λ o. o ≡ next_behind state byte) }
-{
-    let TermState { holes, cursor } = state;
-    match cursor {
-        TermCursor::After(part) => behind(alloc, holes, part, byte),
-        _ => Ok(None),
-    }
-}
-
 /// In the digits behind a letter.
 pub fn in_number(
     alloc: Global,
@@ -150,7 +135,7 @@ pub fn in_number(
         Some(more) => Ok(Some(at(holes, TermCursor::Lettered(letter, more)))),
         None => {
             let state = lettered(alloc, holes, letter, number)?;
-            next_behind(alloc, state, byte)
+            state.next_behind(alloc, byte)
         }
     }
 }
@@ -169,7 +154,7 @@ pub fn in_integer(
         Some(more) => Ok(Some(at(holes, TermCursor::Digits(signed, more)))),
         None => {
             let state = counted(holes, signed, number)?;
-            next_behind(alloc, state, byte)
+            state.next_behind(alloc, byte)
         }
     }
 }

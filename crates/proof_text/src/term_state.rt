@@ -1,12 +1,12 @@
 // Reading a term byte by byte.
 ghost use Rattle.std.specs.Prelude.{◌≡◌, [], IfOk};
-ghost use Rattle.proof_text.specs.TermStates.{at, into, completed, term_step, finished, present};
+ghost use Rattle.proof_text.specs.TermStates.{at, into, completed, term_step, next_behind, named, plain, alone, finished, present};
 ghost use Rattle.proof_text.specs.declared.term_state.TermCursor.TheVariants.{Item};
 
 use crate::hole::{Behind, Binder, Hole};
 use crate::quantifier_sorts::in_sorts;
 use crate::stack::Stack;
-use crate::term_behind::{behind, in_integer, in_number, next_behind};
+use crate::term_behind::{behind, in_integer, in_number};
 use crate::term_heads::{due, item, less, minus, opened, signed_due};
 use logic_core::sequence::Sequence;
 use logic_core::sort::Sort;
@@ -45,10 +45,18 @@ pub enum TermCursor {
 }
 
 /// A term that has been read in part.
-#[derive(Drop)]
 pub struct TermState {
     pub holes: Stack<Hole>,
     pub cursor: TermCursor,
+}
+
+// Written out: a derived drop is proved again wherever a value is dropped.
+impl Drop for TermState {
+    fn drop(self) {
+        let TermState { holes, cursor } = self;
+        drop(holes);
+        drop(cursor);
+    }
 }
 
 /// The state at this place.
@@ -89,6 +97,40 @@ pub fn completed(holes: Stack<Hole>, term: Term) -> Result<TermState, AllocError
     }
 }
 
+// The term that a letter and a number are.
+fn named(letter: Letter, number: u64) -> Option<Term>
+    ensures { result ≡ named letter number }
+{
+    match letter {
+        Letter::Free => Some(Term::new(Node::Free(number))),
+        Letter::Bound => Some(Term::new(Node::Bound(number))),
+        Letter::Call => None,
+    }
+}
+
+// The term that a number is, where it is no coefficient.
+fn plain(signed: Signed, number: i128) -> Option<Term>
+    ensures { result ≡ plain signed number }
+{
+    match signed {
+        Signed::Number => Some(Term::new(Node::Num(number))),
+        Signed::Coefficient(parts) => {
+            drop(parts);
+            None
+        }
+    }
+}
+
+// The term, if no hole is open around it.
+fn alone(holes: Stack<Hole>, term: Option<Term>) -> Option<Term>
+    ensures { result ≡ alone holes term }
+{
+    match term {
+        Some(term) => if holes.is_empty() { Some(term) } else { None },
+        None => None,
+    }
+}
+
 impl TermState {
     /// The place where a term begins.
     pub fn start(alloc: Global) -> TermState
@@ -120,7 +162,21 @@ impl TermState {
             TermCursor::After(part) => behind(alloc, holes, part, byte),
             TermCursor::Whole(term) => {
                 let state = completed(holes, term)?;
-                next_behind(alloc, state, byte)
+                state.next_behind(alloc, byte)
+            }
+        }
+    }
+
+    /// Behind a term or a number that ends here.
+    pub fn next_behind(self, alloc: Global, byte: u8) -> Result<Option<TermState>, AllocError>
+        ensures { IfOk result (λ o. o ≡ next_behind self byte) }
+    {
+        let TermState { holes, cursor } = self;
+        match cursor {
+            TermCursor::After(part) => behind(alloc, holes, part, byte),
+            other => {
+                drop(other);
+                Ok(None)
             }
         }
     }
@@ -143,15 +199,23 @@ impl TermState {
         ensures { result ≡ finished self.holes self.cursor }
     {
         let TermState { holes, cursor } = self;
-        if !holes.is_empty() {
-            return None;
-        }
         match cursor {
-            TermCursor::Lettered(Letter::Free, number) => Some(Term::new(Node::Free(number))),
-            TermCursor::Lettered(Letter::Bound, number) => Some(Term::new(Node::Bound(number))),
-            TermCursor::Digits(Signed::Number, number) => Some(Term::new(Node::Num(number))),
-            TermCursor::Whole(term) => Some(term),
-            _ => None,
+            TermCursor::Lettered(letter, number) => alone(holes, named(letter, number)),
+            TermCursor::Digits(signed, number) => alone(holes, plain(signed, number)),
+            TermCursor::Whole(term) => alone(holes, Some(term)),
+            TermCursor::Item | TermCursor::Opened | TermCursor::Less | TermCursor::Due(_) => None,
+            TermCursor::SignedDue(signed) | TermCursor::Minus(signed) => {
+                drop(signed);
+                None
+            }
+            TermCursor::Sorts(_, sorts, _) => {
+                drop(sorts);
+                None
+            }
+            TermCursor::After(behind) => {
+                drop(behind);
+                None
+            }
         }
     }
 }
