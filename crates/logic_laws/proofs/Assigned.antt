@@ -1,6 +1,7 @@
 -- The laws in an assignment over well-sorted definitions, for everything that can be shown by contradiction.
-use Rattle.std.proofs.Common.{◌≡◌, ◌∙◌, ◌↔◌, refl, sym, subst, ℕ, true, false, Some, IsTrue, List, [], ◌++◌, reverse, slice_get, append-nil}
-use Rattle.logic_core.specs.Tree.{Kind, boolean, Tree, call, negation, for_all, exists, Trees, no_trees, Patterns}
+use Rattle.std.proofs.Common.{◌≡◌, ◌∙◌, ◌↔◌, refl, sym, subst, ℕ, true, false, Some, IsTrue, List, [], ◌∷◌, ◌++◌, reverse, slice_get, append-nil}
+use Rattle.std.specs.List.{AllZip}
+use Rattle.logic_core.specs.Tree.{Kind, boolean, Tree, call, negation, for_all, exists, Trees, no_trees, tree, Patterns}
 use Rattle.logic_core.specs.Def.{Def}
 use Rattle.logic_core.specs.Value.{Value, holds, is_of, are_of}
 use Rattle.logic_core.specs.Meaning.{Said, With, WithEach}
@@ -91,6 +92,23 @@ module _ (frees : List Value) (defs : List Def) where
     where
       shared : ((v : Value) → Is t b v → Is u b v → ⊥) → ⊥
       shared go = some_value t b (λ v g. some_value u b (λ w k. go v g (subst (Is u b) (is_value u b w v k ((one v).0 (value_is t b v g))) k)))
+
+  -- where a contradiction is to be shown, terms with these values have them
+  each_value : (ts : Trees) (b vs : List Value) → AllZip (λ t v. ValueIs frees defs t b v) (listed ts) vs → (GivesEach frees (calls_of frees defs) ts b vs → ⊥) → ⊥
+  each_value no_trees b [] h go = go refl
+  each_value (tree t ts) b (v ∷ vs) h go = some_value t b (λ r g. each_value ts b vs h.1 (λ gs. go (v, vs, subst (Is t b) (is_value t b r v g h.0) g, gs, refl)))
+  each_value no_trees b (v ∷ vs) h go = absurd h
+  each_value (tree t ts) b [] h go = absurd h
+
+  -- at the values of the terms the body has the value that it has with the terms
+  pub substituted_value : (vars : List Kind) (ss : List Kind) (body : Tree) (ts : Trees) (vs : List Value) → are vars defs [] ss ts ≡ true → AllZip (λ t v. ValueIs frees defs t [] v) (listed ts) vs → (w : Value) → ValueIs frees defs body (reverse vs) w ↔ ValueIs frees defs (substitute body (listed ts)) [] w
+  substituted_value vars ss body ts vs s values w = (
+    (λ h. kept (substitute body (listed ts)) [] (λ v. v ≡ w) (λ v. value_stable v w) (λ none. each_value ts [] vs values (λ g. none ((put g).0 h)))),
+    (λ h. kept body (reverse vs) (λ v. v ≡ w) (λ v. value_stable v w) (λ none. each_value ts [] vs values (λ g. none ((put g).1 h)))),
+  )
+    where
+      put : GivesEach frees (calls_of frees defs) ts [] vs → ValueIs frees defs body (reverse vs) w ↔ ValueIs frees defs (substitute body (listed ts)) [] w
+      put g = same_substituted vars defs frees (calls_of frees defs) has keep ss ts vs body s g (λ v. v ≡ w) (λ v. value_stable v w)
 
   -- where an Exists holds, its body doesn't fail for all values of its sorts
   pub witness_exists : (ss : List Kind) (ps : Patterns) (body : Tree) → HoldsThere frees defs (exists ss ps body) [] → ((vs : List Value) → are_of ss vs ≡ true → HoldsThere frees defs body (reverse vs) → ⊥) → ⊥

@@ -1,9 +1,14 @@
 // What a binder's body says with closed terms for the binder's variables.
-ghost use Rattle.logic_laws.specs.BinderLaws.{SubstitutingKeepsSorts, InstancesHold, WitnessesExist};
+ghost use Rattle.logic_laws.specs.BinderLaws.{SubstitutingKeepsSorts, SubstitutingKeepsValues, InstancesHold, WitnessesExist};
 
 /// A body keeps its sort with terms of the binder's sorts for its variables.
 pub fn substituting_keeps_sorts()
     ensures { SubstitutingKeepsSorts }
+{}
+
+/// A body with closed terms for the binder's variables has the value that it has where the variables have the values of the terms.
+pub fn substituting_keeps_values()
+    ensures { SubstitutingKeepsValues }
 {}
 
 /// Where a `ForAll` holds, so does its body with terms of its sorts.

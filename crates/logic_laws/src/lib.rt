@@ -1,6 +1,6 @@
-//! Laws of terms: the normal form, replacing, renaming, unfolding and instances keep sorts and
-//! values, and the order is total. The functions do nothing; each one's contract is a law over the
-//! definitions of sorts, values and normal forms.
+//! Laws of terms: the normal form, replacing, substituting, renaming, unfolding and instances keep
+//! sorts and values, and the order is total. The functions do nothing; each one's contract is a law
+//! over the definitions of sorts, values and normal forms.
 #![tactic(auto)]
 
 // Values, and the maps among them.
