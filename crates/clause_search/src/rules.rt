@@ -63,17 +63,12 @@ pub struct Tables {
 impl Drop for Tables {
     fn drop(self) {
         let Tables {
-            apart,
-            shared,
-            instances,
-            leads,
-            places,
+            apart: _apart,
+            shared: _shared,
+            instances: _instances,
+            leads: _leads,
+            places: _places,
         } = self;
-        drop(apart);
-        drop(shared);
-        drop(instances);
-        drop(leads);
-        drop(places);
     }
 }
 

@@ -10,3 +10,4 @@ mod LeftSides
 mod SameSorts
 mod Coefficients
 mod SortsKept
+pub mod Indexes

@@ -6,3 +6,4 @@ pub mod Tightening
 pub mod Inside
 pub mod Saying
 pub mod Sorted
+pub mod Members

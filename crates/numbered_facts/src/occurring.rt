@@ -1,5 +1,5 @@
 // The terms that occur in a term, by number.
-ghost use Rattle.std.specs.Prelude.{◌≡◌, ◌<◌, ◌≤◌, ◌+◌, ◌||◌, Bool, nat_eq, length, IfOk, OnOk};
+ghost use Rattle.std.specs.Prelude.{◌≡◌, ◌<◌, ◌≤◌, ◌+◌, ◌||◌, Bool, nat_eq, length, IfOk, IfSome, OnOk};
 ghost use Rattle.std.specs.List.{list_any, AllByRecursion};
 ghost use Rattle.logic_core.specs.Subterm.{has, occurs, has_quantifier, is_quantifier};
 ghost use Rattle.logic_core.specs.Tree.{Tree};
@@ -7,22 +7,21 @@ ghost use Rattle.term_bank.specs.Numbered.{at};
 ghost use Rattle.numbered_facts.specs.Atoms.{AreOnce};
 ghost use Rattle.numbered_facts.specs.Inside.{picks_one, AreWhole};
 
-use crate::numbers::{add, is_in, list};
+use crate::numbers::{Members, add, is_in};
 use crate::standing::is_quantifier;
-use indexmap::IndexSet;
 use numbered_terms::Terms;
 use numbered_terms::number_set::is_among;
 use numbered_terms::renumber::numbers;
 use std::alloc::AllocError;
-use term_bank::TermId;
+use term_bank::{Node, TermId};
 
 // Finds the terms in a term, and then the term.
 #[cycle(occurring)]
-fn find_in(terms: &Terms, found: &mut IndexSet<usize>, id: TermId) -> Result<(), AllocError>
+fn find_in(terms: &Terms, found: &mut Members, id: TermId) -> Result<(), AllocError>
     requires id { id < length terms.now }
-    requires whole { AreWhole terms.now found.old.keys }
-    ensures whole { OnOk result (AreWhole terms.now found.new.keys) }
-    ensures picks { OnOk result ((p : Tree → Bool) → picks_one p terms.now found.new.keys ≡ (picks_one p terms.now found.old.keys || has p (at terms.now id))) }
+    requires whole { AreWhole terms.now found.old }
+    ensures whole { OnOk result (AreWhole terms.now found.new) }
+    ensures picks { OnOk result ((p : Tree → Bool) → picks_one p terms.now found.new ≡ (picks_one p terms.now found.old || has p (at terms.now id))) }
 {
     if is_in(found, id) {
         return Ok(());
@@ -36,15 +35,15 @@ fn find_in(terms: &Terms, found: &mut IndexSet<usize>, id: TermId) -> Result<(),
 #[cycle(occurring)]
 fn find_each(
     terms: &Terms,
-    found: &mut IndexSet<usize>,
+    found: &mut Members,
     below: usize,
     ids: &[TermId],
 ) -> Result<(), AllocError>
     requires below { below ≤ length terms.now }
     requires lower { AllByRecursion (λ j. j < below) ids.now }
-    requires whole { AreWhole terms.now found.old.keys }
-    ensures whole { OnOk result (AreWhole terms.now found.new.keys) }
-    ensures picks { OnOk result ((p : Tree → Bool) → picks_one p terms.now found.new.keys ≡ (picks_one p terms.now found.old.keys || list_any (λ i. has p (at terms.now i)) ids.now)) }
+    requires whole { AreWhole terms.now found.old }
+    ensures whole { OnOk result (AreWhole terms.now found.new) }
+    ensures picks { OnOk result ((p : Tree → Bool) → picks_one p terms.now found.new ≡ (picks_one p terms.now found.old || list_any (λ i. has p (at terms.now i)) ids.now)) }
 {
     for id in ids {
         find_in(terms, found, *id)?;
@@ -61,9 +60,21 @@ pub(crate) fn occurring(terms: &Terms, id: TermId) -> Result<Vec<TermId>, AllocE
     ensures once { IfOk result (λ v. AreOnce v.items) }
 {
     terms.are_stored();
-    let mut found = IndexSet::new(terms.alloc());
+    let mut found = Members::new(terms.alloc());
     find_in(terms, &mut found, id)?;
-    list(terms.alloc(), found.as_slice())
+    Ok(found.into_list())
+}
+
+// Whether the first term occurs in the second, where that is a variable.
+fn in_variable(terms: &Terms, part: TermId, id: TermId) -> Option<bool>
+    requires part { part < length terms.now }
+    requires id { id < length terms.now }
+    ensures { IfSome result (λ b. b ≡ occurs (at terms.now part) (at terms.now id)) }
+{
+    match terms.node(id) {
+        Node::Free(_) => Some(terms.is_same(part, id)),
+        _ => None,
+    }
 }
 
 /// Whether the first term occurs in the second.
@@ -73,6 +84,9 @@ pub(crate) fn occurs(terms: &Terms, part: TermId, id: TermId) -> Result<bool, Al
     ensures { IfOk result (λ b. b ≡ occurs (at terms.now part) (at terms.now id)) }
 {
     terms.are_stored();
+    if let Some(here) = in_variable(terms, part, id) {
+        return Ok(here);
+    }
     let found = occurring(terms, id)?;
     Ok(is_among(part, &found))
 }

@@ -13,8 +13,7 @@ ghost use Rattle.numbered_facts.specs.Inside.{inner, AreOutside};
 ghost use Rattle.numbered_terms.specs.Slots.{kept_at, AreAlike, IsPut, AreKept};
 ghost use Rattle.numbered_facts.specs.Memos.{IsStanding};
 
-use crate::numbers::{add, is_in, list, push_where};
-use indexmap::IndexSet;
+use crate::numbers::{Members, add, is_in, push_where};
 use numbered_terms::Terms;
 use numbered_terms::renumber::{copy_numbers, numbers};
 use numbered_terms::slots::Slots;
@@ -48,16 +47,16 @@ pub(crate) fn is_quantifier(terms: &Terms, id: TermId) -> bool
 #[cycle(standing)]
 fn stand_in(
     terms: &Terms,
-    done: &mut IndexSet<usize>,
-    found: &mut IndexSet<usize>,
+    done: &mut Members,
+    found: &mut Members,
     id: TermId,
 ) -> Result<(), AllocError>
     requires id { id < length terms.now }
-    requires within { AllByRecursion (λ j. j < length terms.now) found.old.keys }
-    requires whole { AreOutside terms.now done.old.keys found.old.keys }
-    ensures within { OnOk result (AllByRecursion (λ j. j < length terms.now) found.new.keys) }
-    ensures whole { OnOk result (AreOutside terms.now done.new.keys found.new.keys) }
-    ensures found { OnOk result (map (at terms.now) found.new.keys ≡ each_once (map (at terms.now) found.old.keys) (outside (at terms.now id))) }
+    requires within { AllByRecursion (λ j. j < length terms.now) found.old }
+    requires whole { AreOutside terms.now done.old found.old }
+    ensures within { OnOk result (AllByRecursion (λ j. j < length terms.now) found.new) }
+    ensures whole { OnOk result (AreOutside terms.now done.new found.new) }
+    ensures found { OnOk result (map (at terms.now) found.new ≡ each_once (map (at terms.now) found.old) (outside (at terms.now id))) }
 {
     terms.are_stored();
     if is_in(done, id) {
@@ -72,16 +71,16 @@ fn stand_in(
 #[cycle(standing)]
 fn stand_inside(
     terms: &Terms,
-    done: &mut IndexSet<usize>,
-    found: &mut IndexSet<usize>,
+    done: &mut Members,
+    found: &mut Members,
     id: TermId,
 ) -> Result<(), AllocError>
     requires id { id < length terms.now }
-    requires within { AllByRecursion (λ j. j < length terms.now) found.old.keys }
-    requires whole { AreOutside terms.now done.old.keys found.old.keys }
-    ensures within { OnOk result (AllByRecursion (λ j. j < length terms.now) found.new.keys) }
-    ensures whole { OnOk result (AreOutside terms.now done.new.keys found.new.keys) }
-    ensures found { OnOk result (map (at terms.now) found.new.keys ≡ each_once (map (at terms.now) found.old.keys) (inner (at terms.now id))) }
+    requires within { AllByRecursion (λ j. j < length terms.now) found.old }
+    requires whole { AreOutside terms.now done.old found.old }
+    ensures within { OnOk result (AllByRecursion (λ j. j < length terms.now) found.new) }
+    ensures whole { OnOk result (AreOutside terms.now done.new found.new) }
+    ensures found { OnOk result (map (at terms.now) found.new ≡ each_once (map (at terms.now) found.old) (inner (at terms.now id))) }
 {
     if is_quantifier(terms, id) {
         return Ok(());
@@ -94,18 +93,18 @@ fn stand_inside(
 #[cycle(standing)]
 fn stand_each(
     terms: &Terms,
-    done: &mut IndexSet<usize>,
-    found: &mut IndexSet<usize>,
+    done: &mut Members,
+    found: &mut Members,
     below: usize,
     ids: &[TermId],
 ) -> Result<(), AllocError>
     requires below { below ≤ length terms.now }
     requires lower { AllByRecursion (λ j. j < below) ids.now }
-    requires within { AllByRecursion (λ j. j < length terms.now) found.old.keys }
-    requires whole { AreOutside terms.now done.old.keys found.old.keys }
-    ensures within { OnOk result (AllByRecursion (λ j. j < length terms.now) found.new.keys) }
-    ensures whole { OnOk result (AreOutside terms.now done.new.keys found.new.keys) }
-    ensures found { OnOk result (map (at terms.now) found.new.keys ≡ each_once (map (at terms.now) found.old.keys) (flat_map (λ i. outside (at terms.now i)) ids.now)) }
+    requires within { AllByRecursion (λ j. j < length terms.now) found.old }
+    requires whole { AreOutside terms.now done.old found.old }
+    ensures within { OnOk result (AllByRecursion (λ j. j < length terms.now) found.new) }
+    ensures whole { OnOk result (AreOutside terms.now done.new found.new) }
+    ensures found { OnOk result (map (at terms.now) found.new ≡ each_once (map (at terms.now) found.old) (flat_map (λ i. outside (at terms.now i)) ids.now)) }
 {
     for id in ids {
         stand_in(terms, done, found, *id)?;
@@ -118,10 +117,10 @@ fn outside(terms: &Terms, id: TermId) -> Result<Vec<TermId>, AllocError>
     requires { id < length terms.now }
     ensures { IfOk result (λ v. AreAt terms.now v.items (each_once [] (outside (at terms.now id)))) }
 {
-    let mut done = IndexSet::new(terms.alloc());
-    let mut found = IndexSet::new(terms.alloc());
+    let mut done = Members::new(terms.alloc());
+    let mut found = Members::new(terms.alloc());
     stand_in(terms, &mut done, &mut found, id)?;
-    list(terms.alloc(), found.as_slice())
+    Ok(found.into_list())
 }
 
 // Whether the term is a Read or a Call.

@@ -20,12 +20,15 @@ pub struct Shared {
     pub counts: Vec<usize>,
 }
 
-// One more fact.
+// One more fact. Atoms that are kept are counted where they stand.
 fn count_fact(store: &mut Store, counts: &mut Vec<usize>, id: TermId) -> Result<(), AllocError>
     requires { id < length store.old.terms }
     ensures grows { Grows store.old store.new }
     ensures more { OnOk result (IsOneMore store.new.terms id counts.old.items counts.new.items) }
 {
+    if let Some(kept) = store.kept_atoms(id) {
+        return add_each(counts, kept);
+    }
     let atoms = store.atoms(id)?;
     add_each(counts, &atoms)?;
     Ok(())
@@ -37,6 +40,10 @@ fn leave_fact(store: &mut Store, counts: &mut Vec<usize>, id: TermId) -> Result<
     ensures grows { Grows store.old store.new }
     ensures less { OnOk result (IsOneLess store.new.terms id counts.old.items counts.new.items) }
 {
+    if let Some(kept) = store.kept_atoms(id) {
+        take_each(counts, kept);
+        return Ok(());
+    }
     let atoms = store.atoms(id)?;
     take_each(counts, &atoms);
     Ok(())

@@ -11,7 +11,7 @@ use Rattle.numbered_facts.proofs.Occurrences.{found_again, found_picks, found_wh
 use Rattle.numbered_facts.proofs.occurring.+occurring.Goals as goal
 
 pub find_in-returns-then-is_in-clause-picks : goal.find_in-returns-then-is_in-clause-picks
-find_in-returns-then-is_in-clause-picks t c = found_again c.args.terms.now c.args.found.now.keys c.args.id c.requires.whole (sym c.is_in.ensures ∙ c.if-is_in.true)
+find_in-returns-then-is_in-clause-picks t c = found_again c.args.terms.now c.args.found.now c.args.id c.requires.whole (sym c.is_in.ensures ∙ c.if-is_in.true)
 
 pub find_in-find_each-requires : goal.find_in-find_each-requires
 find_in-find_each-requires t c = (
@@ -28,16 +28,16 @@ find_in-find_each-requires t c = (
 
 pub find_in-returns-clause-whole : goal.find_in-returns-clause-whole
 find_in-returns-clause-whole t c = let ts = c.args.terms.now in let ids = c.deref.ensures.value ∙ c.in_ok-parts.ensures in
-    let parts = λ (p : Tree → Bool). c.in_ok-find_each.ensures.picks p ∙ ap (λ is. picks_one p ts c.args.found.now.keys || list_any (λ k. has p (at ts k)) is) ids in
-    on_ok_weaker c.add.result (λ e. found_whole ts c.args.found.now.keys c.find_each.new.found.keys c.args.id c.node.result.now c.requires.id c.node.ensures.node c.in_ok-find_each.ensures.whole parts c.add.new.set.keys e) c.add.ensures
+    let parts = λ (p : Tree → Bool). c.in_ok-find_each.ensures.picks p ∙ ap (λ is. picks_one p ts c.args.found.now || list_any (λ k. has p (at ts k)) is) ids in
+    on_ok_weaker c.add.result (λ e. found_whole ts c.args.found.now c.find_each.new.found c.args.id c.node.result.now c.requires.id c.node.ensures.node c.in_ok-find_each.ensures.whole parts c.add.new.set e) c.add.ensures
 
 pub find_in-returns-clause-picks : goal.find_in-returns-clause-picks
 find_in-returns-clause-picks t c = let ts = c.args.terms.now in let ids = c.deref.ensures.value ∙ c.in_ok-parts.ensures in
-    let parts = λ (p : Tree → Bool). c.in_ok-find_each.ensures.picks p ∙ ap (λ is. picks_one p ts c.args.found.now.keys || list_any (λ k. has p (at ts k)) is) ids in
-    on_ok_weaker c.add.result (λ e. found_picks ts c.args.found.now.keys c.find_each.new.found.keys c.args.id c.node.result.now c.requires.id c.node.ensures.node c.in_ok-find_each.ensures.whole parts c.add.new.set.keys e) c.add.ensures
+    let parts = λ (p : Tree → Bool). c.in_ok-find_each.ensures.picks p ∙ ap (λ is. picks_one p ts c.args.found.now || list_any (λ k. has p (at ts k)) is) ids in
+    on_ok_weaker c.add.result (λ e. found_picks ts c.args.found.now c.find_each.new.found c.args.id c.node.result.now c.requires.id c.node.ensures.node c.in_ok-find_each.ensures.whole parts c.add.new.set e) c.add.ensures
 
 pub find_each-loop-id-init : goal.find_each-loop-id-init
-find_each-loop-id-init t c = record { whole = c.requires.whole; picks = λ p. sym (or_false (picks_one p c.args.terms.now c.args.found.now.keys)) }
+find_each-loop-id-init t c = record { whole = c.requires.whole; picks = λ p. sym (or_false (picks_one p c.args.terms.now c.args.found.now)) }
 
 pub find_each-find_in-requires : goal.find_each-find_in-requires
 find_each-find_in-requires t c =
@@ -47,8 +47,8 @@ find_each-find_in-requires t c =
 pub find_each-loop-id-preserved : goal.find_each-loop-id-preserved
 find_each-loop-id-preserved t c = record {
   whole = c.in_ok-find_in.ensures.whole;
-  picks = λ p. picks_next c.args.terms.now p c.args.found.now.keys c.loop-id.found.keys c.find_in.new.found.keys c.args.ids.now c.loop-id.id-index c.id-item.result c.loop-id-test.true c.id-item.is (c.loop-id.invariant.picks p) (c.in_ok-find_in.ensures.picks p);
+  picks = λ p. picks_next c.args.terms.now p c.args.found.now c.loop-id.found c.find_in.new.found c.args.ids.now c.loop-id.id-index c.id-item.result c.loop-id-test.true c.id-item.is (c.loop-id.invariant.picks p) (c.in_ok-find_in.ensures.picks p);
 }
 
 pub find_each-returns-clause-picks : goal.find_each-returns-clause-picks
-find_each-returns-clause-picks t c = λ p. picks_all c.args.terms.now p c.args.found.now.keys c.loop-id.found.keys c.args.ids.now c.loop-id.id-index (omega (arith, c.loop-id-test.false)) (c.loop-id.invariant.picks p)
+find_each-returns-clause-picks t c = λ p. picks_all c.args.terms.now p c.args.found.now c.loop-id.found c.args.ids.now c.loop-id.id-index (omega (arith, c.loop-id-test.false)) (c.loop-id.invariant.picks p)

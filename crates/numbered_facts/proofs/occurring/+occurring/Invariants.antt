@@ -14,6 +14,6 @@ decreases-find_each l = 2 * l.below
 
 abbrev pub invariant-find_each-loop-id : goal.invariant-find_each-loop-id
 invariant-find_each-loop-id l = record {
-  whole : AreWhole l.terms l.found.keys;
-  picks : (p : Tree → Bool) → picks_one p l.terms l.found.keys ≡ (picks_one p l.terms l.fn.found.keys || list_any (λ i. has p (at l.terms i)) (take l.id-index l.ids));
+  whole : AreWhole l.terms l.found;
+  picks : (p : Tree → Bool) → picks_one p l.terms l.found ≡ (picks_one p l.terms l.fn.found || list_any (λ i. has p (at l.terms i)) (take l.id-index l.ids));
 }

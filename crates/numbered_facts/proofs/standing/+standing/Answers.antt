@@ -8,17 +8,17 @@ use Rattle.numbered_facts.proofs.OutsideWalk.{quantifier_alone, done_again, done
 use Rattle.numbered_facts.proofs.standing.+standing.Goals as goal
 
 pub stand_in-returns-then-is_in-clause-found : goal.stand_in-returns-then-is_in-clause-found
-stand_in-returns-then-is_in-clause-found t c = done_again c.args.terms.now c.args.done.now.keys c.args.found.now.keys c.args.id c.requires.whole (sym c.is_in.ensures ∙ c.if-is_in.true)
+stand_in-returns-then-is_in-clause-found t c = done_again c.args.terms.now c.args.done.now c.args.found.now c.args.id c.requires.whole (sym c.is_in.ensures ∙ c.if-is_in.true)
 
 pub stand_in-stand_inside-requires : goal.stand_in-stand_inside-requires
 stand_in-stand_inside-requires t c =
-    let ts = c.args.terms.now in let found = c.args.found.now.keys in let added = c.add.new.set.keys in let e = c.in_ok-add.ensures in (
+    let ts = c.args.terms.now in let found = c.args.found.now in let added = c.add.new.set in let e = c.in_ok-add.ensures in (
       omega (arith, c.decreases),
       (
         c.requires.id,
         (
           joined_within ts c.are_stored.ensures c.args.id c.requires.id found added c.requires.within e,
-          done_stays ts c.args.done.now.keys found added (at ts c.args.id ∷ []) (joined_once ts c.are_stored.ensures c.args.id c.requires.id found added c.requires.within e) c.requires.whole,
+          done_stays ts c.args.done.now found added (at ts c.args.id ∷ []) (joined_once ts c.are_stored.ensures c.args.id c.requires.id found added c.requires.within e) c.requires.whole,
         ),
       ),
     )
@@ -28,15 +28,15 @@ stand_in-returns-clause-within t c = on_ok_weaker c.add-2.result (λ e. c.in_ok-
 
 pub stand_in-returns-clause-whole : goal.stand_in-returns-clause-whole
 stand_in-returns-clause-whole t c =
-    on_ok_weaker c.add-2.result (λ e. walked_done c.args.terms.now c.are_stored.ensures c.args.id c.requires.id c.args.found.now.keys c.add.new.set.keys c.requires.within c.in_ok-add.ensures c.stand_inside.new.found.keys c.in_ok-stand_inside.ensures.found
-    c.stand_inside.new.done.keys c.add-2.new.set.keys e c.in_ok-stand_inside.ensures.whole) c.add-2.ensures
+    on_ok_weaker c.add-2.result (λ e. walked_done c.args.terms.now c.are_stored.ensures c.args.id c.requires.id c.args.found.now c.add.new.set c.requires.within c.in_ok-add.ensures c.stand_inside.new.found c.in_ok-stand_inside.ensures.found
+    c.stand_inside.new.done c.add-2.new.set e c.in_ok-stand_inside.ensures.whole) c.add-2.ensures
 
 pub stand_in-returns-clause-found : goal.stand_in-returns-clause-found
 stand_in-returns-clause-found t c =
-    on_ok_weaker c.add-2.result (λ e. walked_found c.args.terms.now c.are_stored.ensures c.args.id c.requires.id c.args.found.now.keys c.add.new.set.keys c.requires.within c.in_ok-add.ensures c.stand_inside.new.found.keys c.in_ok-stand_inside.ensures.found) c.add-2.ensures
+    on_ok_weaker c.add-2.result (λ e. walked_found c.args.terms.now c.are_stored.ensures c.args.id c.requires.id c.args.found.now c.add.new.set c.requires.within c.in_ok-add.ensures c.stand_inside.new.found c.in_ok-stand_inside.ensures.found) c.add-2.ensures
 
 pub stand_inside-returns-then-is_quantifier-clause-found : goal.stand_inside-returns-then-is_quantifier-clause-found
-stand_inside-returns-then-is_quantifier-clause-found t c = let seen = map (at c.args.terms.now) c.args.found.now.keys in
+stand_inside-returns-then-is_quantifier-clause-found t c = let seen = map (at c.args.terms.now) c.args.found.now in
     sym (ap (each_once seen) (quantifier_alone (at c.args.terms.now c.args.id) (sym c.is_quantifier.ensures ∙ c.if-is_quantifier.true)))
 
 pub stand_inside-stand_each-requires : goal.stand_inside-stand_each-requires
@@ -54,7 +54,7 @@ stand_inside-stand_each-requires t c = (
 
 pub stand_inside-returns-clause-found : goal.stand_inside-returns-clause-found
 stand_inside-returns-clause-found t c =
-    on_ok_weaker c.stand_each.result (inside_found c.args.terms.now c.args.id c.node.result.now c.deref.result.now c.stand_each.new.found.keys c.args.found.now.keys c.node.ensures.node (c.deref.ensures.value ∙ c.in_ok-parts.ensures) (sym c.is_quantifier.ensures ∙ c.if-is_quantifier.false)) c.stand_each.ensures.found
+    on_ok_weaker c.stand_each.result (inside_found c.args.terms.now c.args.id c.node.result.now c.deref.result.now c.stand_each.new.found c.args.found.now c.node.ensures.node (c.deref.ensures.value ∙ c.in_ok-parts.ensures) (sym c.is_quantifier.ensures ∙ c.if-is_quantifier.false)) c.stand_each.ensures.found
 
 pub stand_each-stand_in-requires : goal.stand_each-stand_in-requires
 stand_each-stand_in-requires t c =
@@ -65,8 +65,8 @@ pub stand_each-loop-id-preserved : goal.stand_each-loop-id-preserved
 stand_each-loop-id-preserved t c = record {
   within = c.in_ok-stand_in.ensures.within;
   whole = c.in_ok-stand_in.ensures.whole;
-  found = found_next c.args.terms.now c.args.found.now.keys c.loop-id.found.keys c.stand_in.new.found.keys c.args.ids.now c.loop-id.id-index c.id-item.result c.loop-id-test.true c.id-item.is c.loop-id.invariant.found c.in_ok-stand_in.ensures.found;
+  found = found_next c.args.terms.now c.args.found.now c.loop-id.found c.stand_in.new.found c.args.ids.now c.loop-id.id-index c.id-item.result c.loop-id-test.true c.id-item.is c.loop-id.invariant.found c.in_ok-stand_in.ensures.found;
 }
 
 pub stand_each-returns-clause-found : goal.stand_each-returns-clause-found
-stand_each-returns-clause-found t c = found_all c.args.terms.now c.args.found.now.keys c.loop-id.found.keys c.args.ids.now c.loop-id.id-index (omega (arith, c.loop-id-test.false)) c.loop-id.invariant.found
+stand_each-returns-clause-found t c = found_all c.args.terms.now c.args.found.now c.loop-id.found c.args.ids.now c.loop-id.id-index (omega (arith, c.loop-id-test.false)) c.loop-id.invariant.found

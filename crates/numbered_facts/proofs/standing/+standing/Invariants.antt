@@ -17,7 +17,7 @@ decreases-stand_each l = 3 * l.below
 
 abbrev pub invariant-stand_each-loop-id : goal.invariant-stand_each-loop-id
 invariant-stand_each-loop-id l = record {
-  within : AllByRecursion (λ j. j < length l.terms) l.found.keys;
-  whole : AreOutside l.terms l.done.keys l.found.keys;
-  found : map (at l.terms) l.found.keys ≡ each_once (map (at l.terms) l.fn.found.keys) (flat_map (λ i. outside (at l.terms i)) (take l.id-index l.ids));
+  within : AllByRecursion (λ j. j < length l.terms) l.found;
+  whole : AreOutside l.terms l.done l.found;
+  found : map (at l.terms) l.found ≡ each_once (map (at l.terms) l.fn.found) (flat_map (λ i. outside (at l.terms i)) (take l.id-index l.ids));
 }
