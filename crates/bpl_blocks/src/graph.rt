@@ -17,7 +17,7 @@ use crate::entry::{push_end_checks, push_entry};
 use crate::scope::Scopes;
 use crate::size::list_size;
 use bpl_model::number::sum;
-use bpl_model::{Links, Local, Parts, Proc, Spec, Stmt};
+use bpl_model::{Links, Local, Module, Parts, Proc, Spec, Stmt};
 use flow_core::{Block, Command, Graph};
 use logic_core::Sequence;
 use std::alloc::{AllocError, Global};
@@ -26,11 +26,24 @@ use std::alloc::{AllocError, Global};
 /// assumes what holds at entry, and the last block asserts each checked `ensures`. A procedure
 /// without a body has no blocks. Each failing execution has a failing run with the same mark and from
 /// the same state; the graph is plain, and each head's targets hold what its loop may set. The time is
-/// linear in the size of the body times the depth of its nesting, but for sorting variables, after one
-/// walk over the module's variables and over what the procedure's names reach.
+/// that of `procedure_graph`, after one walk over all names of the module's declarations.
 ///
 /// An error is want of memory.
-pub fn to_blocks(alloc: Global, links: &Links<'_>, p: &Proc) -> Result<Graph, AllocError>
+pub fn to_blocks(alloc: Global, module: &Module, p: &Proc) -> Result<Graph, AllocError>
+    requires { HasCallsReplaced «module».now p.now }
+    ensures exact { IfOk result (λ g. g ≡ to_blocks «module».now p.now) }
+    ensures kept { IfOk result (λ g. KeepsFailures «module».now p.now g) }
+{
+    let links = Links::of(alloc, module)?;
+    procedure_graph(alloc, &links, p)
+}
+
+/// The graph that `to_blocks` gives, over what is kept of the module's declarations. The time is linear
+/// in the size of the body times the depth of its nesting, but for sorting variables, after one walk
+/// over the module's variables and over what the procedure's names reach.
+///
+/// An error is want of memory.
+pub fn procedure_graph(alloc: Global, links: &Links<'_>, p: &Proc) -> Result<Graph, AllocError>
     requires { HasCallsReplaced links.now p.now }
     ensures exact { IfOk result (λ g. g ≡ to_blocks links.now p.now) }
     ensures kept { IfOk result (λ g. KeepsFailures links.now p.now g) }

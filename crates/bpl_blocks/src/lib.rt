@@ -24,4 +24,4 @@ pub mod graph;
 // What the graph keeps.
 pub mod laws;
 
-pub use graph::to_blocks;
+pub use graph::{procedure_graph, to_blocks};

@@ -1,10 +1,7 @@
 // What the search says of a point.
-ghost use Rattle.std.specs.Prelude.{◌≡◌, Contains, None, Some, IfErr, IfOk, option_map, slice_get};
+ghost use Rattle.std.specs.Prelude.{◌≡◌, None, Some, IfErr, IfOk, slice_get};
 ghost use Rattle.std.specs.List.{list_all};
-ghost use Rattle.bpl_model.specs.Module.{Proc as procedure};
-ghost use Rattle.bpl_model.specs.NoGoto.{BodyHasNoGoto};
 ghost use Rattle.bpl_goto.specs.Forward.{AllGoForward};
-ghost use Rattle.vc_build.specs.Goals.{goals_at, goals_by_passes};
 ghost use Rattle.vc_build.specs.Large.{large};
 ghost use Rattle.vc_build.specs.Exceeds.{IsFaultOf};
 ghost use Rattle.smoke_report.specs.Pointed.{AreOf, with_points};
@@ -12,13 +9,12 @@ ghost use Rattle.smoke_report.specs.Smoke.{is_point, is_mark_of, is_shown, is_sh
 
 use crate::program_point::ProgramPoint;
 use bpl_model::number::sum;
-use bpl_model::{GoalKind, Links, Mark, Module, Parts, Proc};
+use bpl_model::{GoalKind, Links, Mark, Module};
 use clause_search::search::answer;
 use logic_core::Sequence;
 use report_text::is_proof;
 use std::alloc::{AllocError, Global};
-use vc_build::procedure::add_goals;
-use vc_build::tally::Tally;
+use vc_build::procedure::goals_at;
 use vc_build::{BuildFault, Goal};
 
 // Whether it is the kind of the point of this number.
@@ -77,39 +73,6 @@ fn are_shown(
         }
     }
     Ok(true)
-}
-
-// The goals of the procedure, within the limits.
-fn goals_over(alloc: Global, links: &Links<'_>, proc: &Proc) -> Result<Sequence<Goal>, BuildFault>
-    requires there { Contains links.now.procs proc.now }
-    requires no_goto { BodyHasNoGoto proc.now.body }
-    ensures goals { IfOk result (λ gs. gs ≡ goals_by_passes links.now proc.now) }
-    ensures within { IfOk result (λ gs. large gs ≡ None) }
-    ensures fault { IfErr result (IsFaultOf (goals_by_passes links.now proc.now)) }
-{
-    let mut tally = Tally::new(alloc);
-    add_goals(alloc, &mut tally, links, proc)?;
-    Ok(tally.into_goals())
-}
-
-// The procedure of this number, if there is one.
-fn procedure_at(parts: &Parts, p: usize) -> Option<&Proc>
-    ensures { option_map (λ q. q.now) result ≡ slice_get parts.now.procs p }
-{
-    parts.procs.get(p)
-}
-
-// The goals of the procedure of this number, in which no `goto` stands.
-fn goals_at(alloc: Global, links: &Links<'_>, p: usize) -> Result<Sequence<Goal>, BuildFault>
-    requires { (q : procedure) → slice_get links.now.procs p ≡ Some q → BodyHasNoGoto q.body }
-    ensures goals { IfOk result (λ gs. gs ≡ goals_at links.now p) }
-    ensures within { IfOk result (λ gs. large gs ≡ None) }
-    ensures fault { IfErr result (IsFaultOf (goals_at links.now p)) }
-{
-    match procedure_at(links.parts(), p) {
-        Some(proc) => goals_over(alloc, links, proc),
-        None => Ok(Sequence::new(alloc)),
-    }
 }
 
 // The goals of a point's procedure with the point put in: the procedure stands behind those of the

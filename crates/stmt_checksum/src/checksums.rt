@@ -1,5 +1,5 @@
 // The checksums of goals.
-ghost use Rattle.std.specs.Prelude.{◌≡◌, ◌++◌, map, codes, string_bytes, Some, slice_get, option_map, IfOk, OnOk};
+ghost use Rattle.std.specs.Prelude.{◌≡◌, ◌++◌, map, codes, string_bytes, Some, IfOk, OnOk};
 ghost use Rattle.hex.specs.Hex.{encode_lower};
 ghost use Rattle.bpl_scopes.specs.Scopes.{table_of};
 ghost use Rattle.report_text.specs.Report.{head};
@@ -9,11 +9,12 @@ ghost use Rattle.stmt_checksum.specs.SumLines.{sum_lines_of, sum_lines};
 
 use crate::chain::{Link, goal_sum, procedure_chain};
 use crate::lines::Leads;
-use bpl_ast::Decl;
-use bpl_model::{Mark, Module, Parts, Proc};
+use bpl_ast::{Decl, Program};
+use bpl_model::{Mark, Module, Proc};
 use report_text::head;
 use std::alloc::{AllocError, Global};
 use vc_build::marks::marks_of;
+use vc_build::procedure::procedure_at;
 
 // The line of a goal's checksum.
 fn sum_line(alloc: Global, name: &str, mark: &Mark, sum: [u8; 32]) -> Result<Vec<u8>, AllocError>
@@ -111,28 +112,21 @@ fn procedure_sums(
     marked_sums(alloc, &chain, &marks)
 }
 
-// The procedure of this number, if there is one.
-fn procedure_at(parts: &Parts, p: usize) -> Option<&Proc>
-    ensures { option_map (λ q. q.now) result ≡ slice_get parts.now.procs p }
-{
-    parts.procs.get(p)
-}
-
 /// The checksums of the goals of the procedure of this number, in order: of each the chain of SHA-256
-/// after its statement's line. The module is that of these declarations. A procedure without a body has
-/// no goals.
+/// after its statement's line. The module is that of the program. A procedure without a body has no
+/// goals.
 ///
 /// An error is want of memory.
 pub fn sums(
     alloc: Global,
     module: &Module,
-    decls: &[Decl],
+    program: &Program,
     p: usize,
 ) -> Result<Vec<[u8; 32]>, AllocError>
-    ensures { IfOk result (λ v. v.items ≡ sums «module».now decls.now p) }
+    ensures { IfOk result (λ v. v.items ≡ sums «module».now program.now p) }
 {
     match procedure_at(module.parts(), p) {
-        Some(proc) => procedure_sums(alloc, module, decls, proc),
+        Some(proc) => procedure_sums(alloc, module, &program.decls, proc),
         None => Ok(Vec::new(alloc)),
     }
 }

@@ -15,7 +15,7 @@ use crate::goal::Goal;
 use crate::graph::add_graph;
 use crate::laws::{failures_have_goals_by_passes, sequents_are_sorted};
 use crate::tally::Tally;
-use bpl_blocks::to_blocks;
+use bpl_blocks::procedure_graph;
 use bpl_model::{Links, Module, Parts, Proc, Variables};
 use call_cut::cut_calls;
 use logic_core::Sequence;
@@ -30,7 +30,7 @@ pub fn passive_graph(alloc: Global, links: &Links<'_>, proc: &Proc) -> Result<Pa
     ensures { IfOk result (λ g. g ≡ passive_graph links.now proc.now) }
 {
     let proc = cut_calls(alloc, links.module(), proc)?;
-    let graph = cut(alloc, &to_blocks(alloc, links, &proc)?)?;
+    let graph = cut(alloc, &procedure_graph(alloc, links, &proc)?)?;
     let variables = Variables::of(alloc, links.parts(), &proc)?;
     passify(alloc, &graph, variables.sorts.as_slice())
 }
@@ -85,22 +85,27 @@ fn goals_over(alloc: Global, links: &Links<'_>, proc: &Proc) -> Result<Sequence<
     Ok(tally.into_goals())
 }
 
-fn goals_of(alloc: Global, module: &Module, proc: &Proc) -> Result<Sequence<Goal>, BuildFault>
-    requires there { Contains «module».now.procs proc.now }
-    requires no_goto { BodyHasNoGoto proc.now.body }
-    ensures goals { IfOk result (λ gs. gs ≡ goals_by_passes «module».now proc.now) }
-    ensures within { IfOk result (λ gs. large gs ≡ None) }
-    ensures fault { IfErr result (IsFaultOf (goals_by_passes «module».now proc.now)) }
-{
-    let links = Links::of(alloc, module)?;
-    goals_over(alloc, &links, proc)
-}
-
-// The procedure of this number, if there is one.
-fn procedure_at(parts: &Parts, p: usize) -> Option<&Proc>
+/// The procedure of this number, if there is one.
+pub fn procedure_at(parts: &Parts, p: usize) -> Option<&Proc>
     ensures { option_map (λ q. q.now) result ≡ slice_get parts.now.procs p }
 {
     parts.procs.get(p)
+}
+
+/// The goals of the procedure of this number, in which no `goto` stands, as `build` gives them, over
+/// what is kept of the module's declarations: so many procedures of a module need one walk over them.
+pub fn goals_at(alloc: Global, links: &Links<'_>, p: usize) -> Result<Sequence<Goal>, BuildFault>
+    requires { (q : procedure) → slice_get links.now.procs p ≡ Some q → BodyHasNoGoto q.body }
+    ensures goals { IfOk result (λ gs. gs ≡ goals_at links.now p) }
+    ensures failures { IfOk result (λ gs. HaveFailures links.now p gs) }
+    ensures within { IfOk result (λ gs. large gs ≡ None) }
+    ensures fault { IfErr result (IsFaultOf (goals_at links.now p)) }
+{
+    failures_have_goals_by_passes();
+    match procedure_at(links.parts(), p) {
+        Some(proc) => goals_over(alloc, links, proc),
+        None => Ok(Sequence::new(alloc)),
+    }
 }
 
 /// The goals of the procedure of this number, in which no `goto` stands: an obligation for each
@@ -116,9 +121,6 @@ pub fn build(alloc: Global, module: &Module, p: usize) -> Result<Sequence<Goal>,
     ensures within { IfOk result (λ gs. large gs ≡ None) }
     ensures fault { IfErr result (IsFaultOf (goals_at «module».now p)) }
 {
-    failures_have_goals_by_passes();
-    match procedure_at(module.parts(), p) {
-        Some(proc) => goals_of(alloc, module, proc),
-        None => Ok(Sequence::new(alloc)),
-    }
+    let links = Links::of(alloc, module)?;
+    goals_at(alloc, &links, p)
 }

@@ -32,10 +32,17 @@ impl Model for Built {
 }
 
 impl Built {
+    /// Of no program.
+    pub fn empty(alloc: Global) -> Built
+        ensures { result ≡ record { procs = []; rebuilt = 0 } }
+    {
+        Built::asking(alloc, 0)
+    }
+
     /// Of no program. The questions that are made with goals from now on ask for proofs in so many
     /// turns.
     #[tactic(auto, using(crate::proofs::Programs::none_built))]
-    pub fn empty(alloc: Global, turns: u64) -> Built
+    pub fn asking(alloc: Global, turns: u64) -> Built
         ensures { result ≡ record { procs = []; rebuilt = 0 } }
     {
         Built {

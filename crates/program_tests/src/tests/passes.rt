@@ -43,8 +43,7 @@ fn passive_form_of(alloc: Global, module: &Module, proc: &Proc) -> Result<Passiv
     requires no_goto { BodyHasNoGoto proc.now.body }
 {
     let replaced = cut_calls(alloc, module, proc)?;
-    let links = Links::of(alloc, module)?;
-    let graph = cut(alloc, &to_blocks(alloc, &links, &replaced)?)?;
+    let graph = cut(alloc, &to_blocks(alloc, module, &replaced)?)?;
     let variables = Variables::of(alloc, module.parts(), &replaced)?;
     passify(alloc, &graph, variables.sorts.as_slice())
 }
