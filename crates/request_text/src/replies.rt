@@ -2,9 +2,9 @@
 ghost use Rattle.std.specs.Prelude.{◌≡◌, ◌∷◌, [], ◌++◌, false, map, codes, decimal, string_bytes, IfOk};
 ghost use Rattle.serde_json.specs.Data.{string, array, object, boolean, member, no_members};
 ghost use Rattle.serde_json.specs.View.{view, items_view};
-ghost use Rattle.serde_json.specs.Written.{has_float};
+ghost use Rattle.serde_json.specs.Written.{has_float, compact_text};
 ghost use Rattle.request_text.specs.Request.{accepted, counted, ended, fault};
-ghost use Rattle.request_text.specs.Replies.{bad_word, strings, lines_under, error, error_of, members, value_of, reply_text};
+ghost use Rattle.request_text.specs.Replies.{bad_word, count, strings, error, error_of, members, value_of, reply_text};
 ghost use Rattle.request_text.specs.ReplyView.{refusal_view, reply_view};
 
 use crate::reply::Reply;
@@ -24,6 +24,17 @@ fn strings(alloc: Global, lines: &[String]) -> Result<Vec<Value>, AllocError>
     Ok(items)
 }
 
+// The lines as JSON strings, moved.
+fn moved_strings(alloc: Global, lines: Vec<String>) -> Result<Vec<Value>, AllocError>
+    ensures { IfOk result (λ v. items_view v.items ≡ strings (map string_bytes lines.items)) }
+{
+    let mut items = Vec::with_capacity(alloc, lines.len())?;
+    for line in lines {
+        items.push(Value::String(line))?;
+    }
+    Ok(items)
+}
+
 // How many goals the program that was taken has.
 fn accepted(alloc: Global, goals: u64, rebuilt: u64, version: u64) -> Result<Value, AllocError>
     ensures { IfOk result (λ v. view v ≡ value_of (accepted goals rebuilt version)) }
@@ -39,24 +50,24 @@ fn counted(alloc: Global, done: u64, pending: u64, version: u64) -> Result<Value
 }
 
 // Lines under a key.
-fn reported(alloc: Global, lines: &[String], version: u64) -> Result<Value, AllocError>
-    ensures { IfOk result (λ v. view v ≡ object (lines_under (codes "report") (map string_bytes lines.now) version)) }
+fn reported(alloc: Global, lines: Vec<Value>, version: u64) -> Result<Value, AllocError>
+    ensures { IfOk result (λ v. view v ≡ object (member (codes "report") (array (items_view lines.items)) (member (codes "version") (count version) no_members))) }
 {
-    let lines = Value::Array(strings(alloc, lines)?);
+    let lines = Value::Array(lines);
     json!(in alloc; {"report": lines, "version": version})
 }
 
-fn summed(alloc: Global, lines: &[String], version: u64) -> Result<Value, AllocError>
-    ensures { IfOk result (λ v. view v ≡ object (lines_under (codes "sums") (map string_bytes lines.now) version)) }
+fn summed(alloc: Global, lines: Vec<Value>, version: u64) -> Result<Value, AllocError>
+    ensures { IfOk result (λ v. view v ≡ object (member (codes "sums") (array (items_view lines.items)) (member (codes "version") (count version) no_members))) }
 {
-    let lines = Value::Array(strings(alloc, lines)?);
+    let lines = Value::Array(lines);
     json!(in alloc; {"sums": lines, "version": version})
 }
 
-fn proved(alloc: Global, lines: &[String], version: u64) -> Result<Value, AllocError>
-    ensures { IfOk result (λ v. view v ≡ object (lines_under (codes "proofs") (map string_bytes lines.now) version)) }
+fn proved(alloc: Global, lines: Vec<Value>, version: u64) -> Result<Value, AllocError>
+    ensures { IfOk result (λ v. view v ≡ object (member (codes "proofs") (array (items_view lines.items)) (member (codes "version") (count version) no_members))) }
 {
-    let lines = Value::Array(strings(alloc, lines)?);
+    let lines = Value::Array(lines);
     json!(in alloc; {"proofs": lines, "version": version})
 }
 
@@ -116,9 +127,9 @@ fn value_of(alloc: Global, reply: &Reply) -> Result<Value, AllocError>
             pending,
             version,
         } => counted(alloc, *done, *pending, *version),
-        Reply::Report { lines, version } => reported(alloc, lines, *version),
-        Reply::Sums { lines, version } => summed(alloc, lines, *version),
-        Reply::Proofs { lines, version } => proved(alloc, lines, *version),
+        Reply::Report { lines, version } => Ok(reported(alloc, strings(alloc, lines)?, *version)?),
+        Reply::Sums { lines, version } => Ok(summed(alloc, strings(alloc, lines)?, *version)?),
+        Reply::Proofs { lines, version } => Ok(proved(alloc, strings(alloc, lines)?, *version)?),
         Reply::Quit => json!(in alloc; {"ok": true}),
         Reply::Bad(why) => refused(alloc, *why),
         Reply::Memory => error(alloc, "Memory"),
@@ -133,13 +144,57 @@ fn value_of(alloc: Global, reply: &Reply) -> Result<Value, AllocError>
     }
 }
 
+// Lets go of a reply without lines.
+fn discard(_reply: Reply) {}
+
+// The value of a reply whose lines are moved.
+fn moved_value(alloc: Global, reply: Reply) -> Result<Value, AllocError>
+    ensures { IfOk result (λ v. view v ≡ value_of (reply_view reply)) }
+{
+    match reply {
+        Reply::Report { lines, version } => {
+            Ok(reported(alloc, moved_strings(alloc, lines)?, version)?)
+        }
+        Reply::Sums { lines, version } => Ok(summed(alloc, moved_strings(alloc, lines)?, version)?),
+        Reply::Proofs { lines, version } => Ok(proved(
+            alloc,
+            moved_strings(alloc, lines)?,
+            version,
+        )?),
+        other => {
+            let value = value_of(alloc, &other);
+            discard(other);
+            value
+        }
+    }
+}
+
+// The bytes of a value without floats, and a line feed.
+fn line_of(alloc: Global, value: &Value) -> Result<Vec<u8>, AllocError>
+    requires { has_float (view value.now) ≡ false }
+    ensures { IfOk result (λ v. v.items ≡ compact_text (view value.now) ++ 10 ∷ []) }
+{
+    let mut bytes = value.to_vec(alloc)?;
+    bytes.push(b'\n')?;
+    Ok(bytes)
+}
+
 /// The bytes of a reply: one JSON object without blanks, its keys in rising order, and a line feed.
-#[tactic(auto, using(crate::proofs::NoFloats::no_float))]
 pub fn write_reply(alloc: Global, reply: &Reply) -> Result<Vec<u8>, AllocError>
     ensures { IfOk result (λ v. v.items ≡ reply_text (reply_view reply.now)) }
 {
     let value = value_of(alloc, reply)?;
-    let mut bytes = value.to_vec(alloc)?;
-    bytes.push(b'\n')?;
+    let bytes = line_of(alloc, &value)?;
     Ok(bytes)
+}
+
+impl Reply {
+    /// The same bytes, of a reply that is let go of: its lines are moved, not copied.
+    pub fn into_bytes(self, alloc: Global) -> Result<Vec<u8>, AllocError>
+        ensures { IfOk result (λ v. v.items ≡ reply_text (reply_view self)) }
+    {
+        let value = moved_value(alloc, self)?;
+        let bytes = line_of(alloc, &value)?;
+        Ok(bytes)
+    }
 }
