@@ -5,7 +5,8 @@ use Rattle.std.specs.Map.{lookup}
 use Rattle.std.specs.Option.{option_map}
 use Rattle.std.proofs.Common.{ap}
 use mathlib.Core.Path.{subst, sym, ◌∙◌}
-use Rattle.board_core.specs.Kept.{Key, is_among, kept_keys, kept_at}
+use Rattle.bv_base.specs.Text.{is_among}
+use Rattle.board_core.specs.Kept.{Key, kept_keys, kept_at}
 use Rattle.board_core.proofs.Keys.{same_key}
 
 pub composed : {X Y Z : Type 0} (f : X → Y) (g : Y → Z) (r : Option X) → option_map (λ x. g (f x)) r ≡ option_map g (option_map f r)

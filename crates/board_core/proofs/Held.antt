@@ -5,7 +5,7 @@ use Rattle.std.specs.Map.{lookup}
 use Rattle.std.proofs.Common.{ap, arith, get_or}
 use Rattle.std.proofs.lemmas.List.{length-map}
 use mathlib.Core.Path.{subst, sym, ◌∙◌}
-use Rattle.board_core.specs.Kept.{Key, Cached, is_among, kept_keys, has_place, without_key, with_answer}
+use Rattle.board_core.specs.Kept.{Key, Cached, kept_keys, has_place, without_key, with_answer}
 use Rattle.board_core.specs.InsideCache.{IsStored}
 use Rattle.board_core.proofs.Lists.{map-last}
 use Rattle.board_core.proofs.Keys.{same_key, nowhere, taken_out_at, without_absent}

@@ -7,7 +7,8 @@ use Rattle.std.proofs.lemmas.Cmp.{nat_list_eq_equiv}
 use Rattle.std.proofs.lemmas.Slice.Eq.{bytes_eq-Decides}
 use Rattle.std.proofs.lemmas.List.Quantifiers.{position-Some}
 use mathlib.Core.Path.{subst, sym, ◌∙◌}
-use Rattle.board_core.specs.Kept.{Key, is_among, without_key}
+use Rattle.bv_base.specs.Text.{is_among}
+use Rattle.board_core.specs.Kept.{Key, without_key}
 use Rattle.board_core.proofs.Lists.{none_passes, passes_none, weaken, over_map, under_map}
 
 pub same_key : (k j : Key) → bytes_eq k j ≡ true → k ≡ j

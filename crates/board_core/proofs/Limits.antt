@@ -7,7 +7,8 @@ use Rattle.std.proofs.lemmas.List.Sums.{sum_by-cons}
 use Rattle.std.proofs.lemmas.List.Filters.{sum_by-filter_both}
 use mathlib.Core.Path.{sym, ◌∙◌}
 use Rattle.board_core.specs.Limits.{absent_limit}
-use Rattle.board_core.specs.Kept.{Key, is_among, key_bytes, absent_bytes, trimmed}
+use Rattle.bv_base.specs.Text.{is_among}
+use Rattle.board_core.specs.Kept.{Key, key_bytes, absent_bytes, trimmed}
 use Rattle.board_core.proofs.Entries.{shown}
 
 fails_not : (b : Bool) → not b ≡ true → b ≡ false

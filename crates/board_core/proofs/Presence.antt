@@ -6,7 +6,8 @@ use Rattle.std.proofs.Common.{ap, arith, get_or, drop-cons}
 use Rattle.std.proofs.lemmas.List.Folds.{list_any-append}
 use mathlib.Core.Path.{subst, sym, ◌∙◌}
 use Rattle.indexmap.specs.IndexSet.{insert_key}
-use Rattle.board_core.specs.Kept.{Key, is_among}
+use Rattle.bv_base.specs.Text.{is_among}
+use Rattle.board_core.specs.Kept.{Key}
 use Rattle.board_core.specs.Present.{is_present}
 use Rattle.board_core.proofs.Keys.{same_key, key_itself}
 

@@ -4,7 +4,8 @@ use Rattle.std.specs.List.{IsDistinct, AllByRecursion}
 use Rattle.std.proofs.Common.{ap, arith, length-append}
 use mathlib.Core.Path.{subst, sym, ◌∙◌}
 use Rattle.board_core.specs.Limits.{absent_limit}
-use Rattle.board_core.specs.Kept.{Key, Cached, is_among, kept_keys, without_key, absent_bytes, trimmed}
+use Rattle.bv_base.specs.Text.{is_among}
+use Rattle.board_core.specs.Kept.{Key, Cached, kept_keys, without_key, absent_bytes, trimmed}
 use Rattle.board_core.specs.InsideCache.{IsStored}
 use Rattle.board_core.proofs.Lists.{kept_by_filter, with_last, weaken, under_map, over_map, map-last, both, none_passes, passes_none, distinct_filter, distinct_last}
 use Rattle.board_core.proofs.Keys.{same_key, turned}

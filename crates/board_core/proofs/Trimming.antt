@@ -6,7 +6,8 @@ use Rattle.std.proofs.Common.{ap, arith}
 use Rattle.std.proofs.lemmas.List.Sums.{sum_by-cons}
 use mathlib.Core.Path.{subst, sym, ◌∙◌}
 use Rattle.board_core.specs.Limits.{absent_limit}
-use Rattle.board_core.specs.Kept.{Key, Cached, is_among, absent_bytes, trimmed}
+use Rattle.bv_base.specs.Text.{is_among}
+use Rattle.board_core.specs.Kept.{Key, Cached, absent_bytes, trimmed}
 use Rattle.board_core.specs.InsideCache.{IsStored}
 use Rattle.board_core.specs.Present.{is_present, absent_size}
 use Rattle.board_core.proofs.Entries.{shown}

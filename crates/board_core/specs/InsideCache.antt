@@ -3,7 +3,8 @@ use Rattle.std.specs.Prelude.{◌≡◌, ℕ, ◌≤◌, List, map, length, IsFa
 use Rattle.std.specs.Arc.{arc_value}
 use Rattle.std.specs.List.{IsDistinct, AllByRecursion}
 use Rattle.indexmap.specs.IndexMap.{spare}
-use Rattle.board_core.specs.Kept.{Key, Cached, is_among, kept_keys}
+use Rattle.bv_base.specs.Text.{is_among}
+use Rattle.board_core.specs.Kept.{Key, Cached, kept_keys}
 use Rattle.board_core.specs.declared.cache.Cache.TheInside.{Inside}
 
 abbrev pub cached : {A Q : Type 0} → Inside A Q → Cached A

@@ -1,7 +1,8 @@
 -- Answers kept by key, in the order in which they were kept, and the places that wait for an answer.
 use Rattle.std.specs.Prelude.{ℕ, nat_lt, Bool, ◌||◌, not, cond, List, [], ◌∷◌, ◌++◌, map, length, filter, find, Option, bytes_eq}
 use Rattle.std.specs.Option.{option_map}
-use Rattle.std.specs.List.{list_any, sum_by}
+use Rattle.std.specs.List.{sum_by}
+use Rattle.bv_base.specs.Text.{is_among}
 use Rattle.board_core.specs.Limits.{absent_limit}
 
 -- a key is its bytes
@@ -12,10 +13,6 @@ Key = List ℕ
 pub record Cached (A : Type 0) : Type 0 where
   pub kept : List (Key × A)
   pub places : List Key
-
--- the key is one of these, byte for byte
-abbrev pub is_among : List Key → Key → Bool
-is_among ks k = list_any (bytes_eq k) ks
 
 abbrev pub kept_keys : {A : Type 0} → List (Key × A) → List Key
 kept_keys es = map (λ e. e.0) es

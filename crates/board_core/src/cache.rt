@@ -3,7 +3,8 @@ ghost use Rattle.std.specs.Prelude.{◌≡◌, IsTrue, IfSome, OnOk, OnErr, is_s
 ghost use Rattle.std.specs.Arc.{arc_value};
 ghost use Rattle.std.specs.Option.{option_map};
 ghost use Rattle.indexmap.specs.IndexMap.{spare, get_by};
-ghost use Rattle.board_core.specs.Kept.{is_among, kept_keys, kept_at, has_place, with_place, without_key, with_answer, trimmed, key_bytes};
+ghost use Rattle.bv_base.specs.Text.{is_among};
+ghost use Rattle.board_core.specs.Kept.{kept_keys, kept_at, has_place, with_place, without_key, with_answer, trimmed, key_bytes};
 ghost use Rattle.board_core.specs.Limits.{absent_limit};
 
 use crate::present::{is_within_limit, keys_of, trim_entries};

@@ -3,7 +3,7 @@ ghost use Rattle.std.specs.Prelude.{◌≡◌, ℕ, ◌-◌, ◌^◌, ◌≤◌,
 ghost use Rattle.std.specs.List.{sum_by};
 ghost use Rattle.std.specs.Arc.{arc_value};
 ghost use Rattle.indexmap.specs.IndexMap.{spare};
-ghost use Rattle.board_core.specs.Kept.{is_among};
+ghost use Rattle.bv_base.specs.Text.{is_among};
 ghost use Rattle.board_core.specs.Limits.{absent_limit};
 ghost use Rattle.board_core.specs.Present.{is_present, absent_size};
 

@@ -1,12 +1,15 @@
 -- The opener's calls, when a command has run on a board that is shared with workers.
 use Rattle.std.proofs.Common.{◌≡◌, ◌∙◌, refl, sym, ap, subst, ℕ, List, [], ◌∷◌, ◌++◌, map}
 use Rattle.std.proofs.lemmas.List.{map-append}
-use Rattle.turn_lock.specs.Lock.{number, mine}
-use Rattle.board_core.specs.Board.{close, closed_now}
+use Rattle.tableau.specs.Settled.{Settled}
+use Rattle.turn_lock.specs.Lock.{number, seen, mine}
+use Rattle.board_core.specs.Board.{first, close, closed_now}
+use Rattle.obligation_board.specs.Passes.{IsPassOf}
 use Rattle.goal_board.specs.Calls.{BoardCall, made}
-use Rattle.shared_goals.specs.Known.{by_opener, IsLaterPass}
-use Rattle.shared_goals.specs.Opener.{GoalPass}
+use Rattle.shared_goals.specs.Known.{by_opener, board_after, board_of, IsLaterPass}
+use Rattle.shared_goals.specs.Opener.{GoalPass, GoalsShared, IsOpenerOf}
 use Rattle.shared_goals.specs.Beside.{own_calls}
+use Rattle.shared_goals.proofs.Openers.{unused_opener}
 use Rattle.shared_goals.proofs.Besides.{all_own}
 use Rattle.edit_server.specs.Served.{NothingIsServed}
 use Rattle.command_words.specs.declared.command.Command.{Command}
@@ -15,6 +18,15 @@ use Rattle.edit_server.specs.Shared.{IsUnused}
 use Rattle.edit_server.specs.declared.status.Status.{Status}
 use Rattle.edit_server.specs.declared.status.Status.TheVariants.{Memory}
 use Rattle.edit_server.proofs.Runs.{nothing_ran}
+
+-- ---- before the first call
+
+module _ (p : GoalPass) (unused : IsUnused p) where
+  pub is_opener : (b : GoalsShared) → IsPassOf b p → IsOpenerOf b p
+  is_opener b pass = unused_opener b p pass unused.zero unused.none_made
+
+  pub begins_first : board_of p ≡ first Settled
+  begins_first = ap (λ m. board_after m (seen p)) unused.none_made
 
 -- ---- behind the close
 

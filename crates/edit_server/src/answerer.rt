@@ -11,7 +11,7 @@ ghost use Rattle.edit_server.specs.Replying.{RepliesTo, RepliesAs, FailsTo, Fail
 use edit_session::Session;
 use goal_board::GoalBoard;
 use line_server::{Answerer, Reply};
-use request_text::{BadRequest, Request, read_request, write_reply};
+use request_text::{BadRequest, Request, read_request};
 use std::alloc::{AllocError, Global};
 use std::marker::Model;
 use std::sync::ledger::Ledger;
@@ -52,9 +52,6 @@ fn is_quit(reply: &request_text::Reply) -> bool
     }
 }
 
-// Lets go of a reply that is written.
-fn discard(_reply: request_text::Reply) {}
-
 impl<B: GoalBoard, L: Ledger> LineSession<B, L> {
     /// The session, by its lines.
     pub fn new(alloc: Global, session: Session<B, L>) -> LineSession<B, L>
@@ -83,9 +80,7 @@ impl<B: GoalBoard, L: Ledger> LineSession<B, L> {
     {
         let reply = self.session.answer(request);
         let is_last = is_quit(&reply);
-        let written = write_reply(self.alloc, &reply);
-        discard(reply);
-        let text = written?;
+        let text = reply.into_bytes(self.alloc)?;
         Ok(Reply { text, is_last })
     }
 }

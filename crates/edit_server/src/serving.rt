@@ -159,13 +159,14 @@ fn run_in<N: Naming, R: AllocGlobal + Wait, S: Source, K: Sink, G: Gate>(
 }
 
 /// Runs a command that some words are, `serve` or `gen` with workers, on the opener of a board that
-/// others work on. What it does is said of `run`; `Usage` never comes. On the board it makes exactly the
-/// calls of its lines, one line's after another's, and then one close, whatever the status: for an open
-/// or an edit that is accepted the open of its goals; for a status one look, whose numbers are the
-/// reply's; for a report and for proofs claims, each deposited, and looks, and then the gather of whose
-/// answers the reply is made; for a line that is answered with want of memory claims, each deposited or
-/// given back, and looks, and at most a gather; for every other line none. In `gen` they are those of an
-/// open and a report; where the text has a fault, the close alone.
+/// others work on. The opener has made no call; what it has seen makes no difference. What it does is
+/// said of `run`; `Usage` never comes. On the board it makes exactly the calls of its lines, one line's
+/// after another's, and then one close, whatever the status: for an open or an edit that is accepted
+/// the open of its goals; for a status one look, whose numbers are the reply's; for a report and for
+/// proofs claims, each deposited, and looks, and then the gather of whose answers the reply is made;
+/// for a line that is answered with want of memory claims, each deposited or given back, and looks, and
+/// at most a gather; for every other line none. In `gen` they are those of an open and a report; where
+/// the text has a fault, the close alone.
 pub fn serve_on<R: AllocGlobal + Wait, S: Source, K: Sink, G: Gate>(
     rt: &R,
     command: &Command,

@@ -5,7 +5,7 @@ use Rattle.std.proofs.Common.{refl, ap, sym, ◌∙◌, subst}
 use Rattle.bpl_ast.specs.Statement.{DeclBody, constant, function, axiom_of, variables, synonym, procedure, implementation, Decl, name_of, axioms_with}
 use Rattle.bpl_grammar.specs.Fault.{Fault}
 use Rattle.bpl_grammar.specs.Programs.{SpellsProgram}
-use Rattle.bpl_scopes.specs.Fault.{is_among}
+use Rattle.bv_base.specs.Text.{is_among}
 use Rattle.canonical_text.specs.WrittenStatement.{IsWrittenDecl}
 use Rattle.canonical_text.specs.RoundTrip.{AreWrittenDecls}
 use Rattle.canonical_text.proofs.RoundTrips.{programs_written}

@@ -55,7 +55,7 @@ pub fn report_lines(
     let names = names(alloc, procs)?;
     let marks = marks(alloc, procs)?;
     let counts = counts(alloc, procs)?;
-    let found = verdicts(alloc, &counts, answers)?;
+    let found = verdicts(alloc, &counts, &answers)?;
     let lines = report_text::report(alloc, &names, &marks, &found)?;
     texts(alloc, lines)
 }

@@ -155,7 +155,7 @@ impl OpenProgram {
         ensures none { IfOk result (λ p. p.decls ≡ []) }
         ensures is_module { IfOk result (λ p. IsModuleOf [] p.typed) }
     {
-        let nothing = Built::empty(alloc, turns);
+        let nothing = Built::asking(alloc, turns);
         match judge(alloc, &nothing, Vec::new(alloc), steps)? {
             Judged::Taken { program, .. } => Ok(program),
             Judged::Refused(reply) => {

@@ -5,9 +5,7 @@ ghost use Rattle.tableau.specs.RunView.{verdict_of};
 ghost use Rattle.tableau.specs.Settled.{Settled as settled};
 ghost use Rattle.edit_session.specs.Built.{in_parts};
 
-use bv_base::queue::taken;
 use std::alloc::{AllocError, Global};
-use std::collections::VecDeque;
 use std::sync::Arc;
 use tableau::ended::Verdict;
 use tableau::settled::Settled;
@@ -27,16 +25,17 @@ fn verdicts_of(alloc: Global, answers: &[Arc<Settled, Global>]) -> Result<Vec<Ve
 pub fn verdicts(
     alloc: Global,
     counts: &[usize],
-    answers: Vec<Arc<Settled, Global>>,
+    answers: &[Arc<Settled, Global>],
 ) -> Result<Vec<Vec<Verdict>>, AllocError>
-    requires { sum counts.now ≡ length answers.items }
-    ensures { IfOk result (λ v. map (λ vs. map verdict_of vs.items) v.items ≡ map (map (λ a. (arc_value {X = settled} a).verdict)) (in_parts counts.now answers.items)) }
+    requires { sum counts.now ≡ length answers.now }
+    ensures { IfOk result (λ v. map (λ vs. map verdict_of vs.items) v.items ≡ map (map (λ a. (arc_value {X = settled} a).verdict)) (in_parts counts.now answers.now)) }
 {
-    let mut left = VecDeque::from_vec(answers);
-    let mut found = Vec::new(alloc);
+    let mut left = answers;
+    let mut found = Vec::with_capacity(alloc, counts.len())?;
     for count in counts {
-        let own = taken(alloc, &mut left, *count)?;
-        found.push(verdicts_of(alloc, &own)?)?;
+        let (own, behind) = left.split_at(*count);
+        found.push(verdicts_of(alloc, own)?)?;
+        left = behind;
     }
     Ok(found)
 }

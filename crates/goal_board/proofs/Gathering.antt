@@ -5,7 +5,8 @@ use Rattle.std.specs.List.{list_all}
 use Rattle.std.specs.Option.{option_map}
 use Rattle.obligation_text.specs.Asked.{key_of, KeysTellApart}
 use Rattle.tableau.specs.Settled.{Settled, IsRight}
-use Rattle.board_core.specs.Kept.{Key, is_among, kept_keys, kept_at, with_answer}
+use Rattle.bv_base.specs.Text.{is_among}
+use Rattle.board_core.specs.Kept.{Key, kept_keys, kept_at, with_answer}
 use Rattle.board_core.proofs.Lists.{map-last}
 use Rattle.board_core.specs.Board.{Event, open_keys, claim, deposit, give_back, look, gather, close, no_memory, gathered, was_closed, opened, Reply}
 use Rattle.board_core.specs.Step.{step, reply, wanted, with_claim, claim_reply}

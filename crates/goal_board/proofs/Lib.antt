@@ -8,3 +8,4 @@ pub mod Gathering
 pub mod ByItself
 pub mod Making
 pub mod Recalled
+pub mod Standing

@@ -5,7 +5,8 @@ use Rattle.std.specs.Option.{option_map}
 use Rattle.logic_core.proofs.Booleans.{both_true}
 use Rattle.obligation_text.specs.Asked.{Asked, key_of, KeysTellApart}
 use Rattle.tableau.specs.Settled.{Settled, IsRight, settled_by}
-use Rattle.board_core.specs.Kept.{Key, is_among, kept_keys, kept_at}
+use Rattle.bv_base.specs.Text.{is_among}
+use Rattle.board_core.specs.Kept.{Key, kept_keys, kept_at}
 use Rattle.board_core.specs.Board.{gather, gathered}
 use Rattle.board_core.specs.Step.{reply}
 use Rattle.board_core.specs.Laws.{ShowsRight}

@@ -8,3 +8,4 @@ pub mod Working
 pub mod Laws
 pub mod Made
 pub mod Codes
+pub mod Standing

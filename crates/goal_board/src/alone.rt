@@ -11,12 +11,14 @@ ghost use Rattle.goal_board.specs.Calls.{all_kept};
 ghost use Rattle.goal_board.specs.Found.{found};
 ghost use Rattle.goal_board.specs.Rests.{IsAtRest, IsSameProgram};
 ghost use Rattle.goal_board.specs.Made.{AreSettled, AreWork};
+ghost use Rattle.goal_board.specs.Standing.{StillStand};
 
 use crate::goals::GoalBoard;
 use crate::kept::present_answers;
-use crate::recall::{AtHand, recalled};
+use crate::recall::recalled;
 use crate::settling::settle_all;
-use board_core::{Board, Opened, Snapshot};
+use crate::told::{Told, all_told};
+use board_core::{Board, Difference, Opened, Snapshot};
 use obligation_text::Asked;
 use obligation_text::laws::keys_tell_apart;
 use std::alloc::{AllocError, Global};
@@ -25,23 +27,21 @@ use std::sync::Arc;
 use tableau::settled::Settled;
 
 /// A board of the session's own. The answers that were told last are at hand, so that those of goals
-/// that stayed need not be looked up.
+/// that stayed need not be looked up, nor their keys compared.
 #[derive(Drop)]
 pub struct Alone {
     alloc: Global,
     board: Board<Settled>,
-    // of the present goals
-    questions: Vec<Arc<Asked, Global>>,
-    told: Vec<Arc<Settled, Global>>,
+    told: Told,
 }
 
 impl Model for Alone {
-    ghost use Rattle.std.specs.Prelude.{◌≡◌, map};
+    ghost use Rattle.std.specs.Prelude.{map};
     ghost use Rattle.std.specs.Arc.{arc_value};
-    ghost use Rattle.obligation_text.specs.Asked.{key_of};
     ghost use Rattle.goal_board.specs.Calls.{Board as goals};
     ghost use Rattle.goal_board.specs.Codes.{coded_board};
     ghost use Rattle.goal_board.specs.Rests.{IsAtRest};
+    ghost use Rattle.goal_board.specs.Standing.{StillStand};
 
     ghost Value = { goals };
 
@@ -49,73 +49,48 @@ impl Model for Alone {
 
     ghost view = { λ a. a.board };
 
-    ghost invariant = { λ a. IsAtRest a.board × (a.board.present ≡ map key_of (map arc_value a.questions.items)) };
+    ghost invariant = { λ a. IsAtRest a.board × StillStand a.board.present (map arc_value a.told.answers.items) a.told.first a.told.last };
 }
 
-// The questions once more.
-fn share_questions(
-    alloc: Global,
-    questions: &[Arc<Asked, Global>],
-) -> Result<Vec<Arc<Asked, Global>>, AllocError>
-    ensures { IfOk result (λ v. map arc_value v.items ≡ map arc_value questions.now) }
-{
-    let mut all = Vec::with_capacity(alloc, questions.len())?;
-    for question in questions {
-        all.push(Arc::try_clone(question)?)?;
-    }
-    Ok(all)
-}
-
-// The answers once more.
-fn share_answers(
-    alloc: Global,
-    answers: &[Arc<Settled, Global>],
-) -> Result<Vec<Arc<Settled, Global>>, AllocError>
-    ensures { IfOk result (λ v. map arc_value v.items ≡ map arc_value answers.now) }
-{
-    let mut all = Vec::with_capacity(alloc, answers.len())?;
-    for answer in answers {
-        all.push(Arc::try_clone(answer)?)?;
-    }
-    Ok(all)
-}
-
-// The goals of the questions are opened, and the questions noted. Without memory all is as before.
+// The goals of the questions are opened, and it is noted which of the answers told stand. Without memory
+// all is as before.
 fn open_noting(
-    alloc: Global,
     board: &mut Board<Settled>,
-    noted: &mut Vec<Arc<Asked, Global>>,
+    told: &mut Told,
     questions: Vec<Arc<Asked, Global>>,
 ) -> Result<Opened, AllocError>
     requires rests { IsAtRest board.old }
-    requires present { board.old.present ≡ map key_of (map arc_value noted.old.items) }
+    requires stand { StillStand board.old.present (map arc_value told.old.answers.items) told.old.first told.old.last }
     requires version { board.old.version < 2 ^ 64 - 1 }
     ensures step { IfOk result (λ o. Steps board.old (open_keys (map (λ q. key_of (arc_value q)) questions.items)) board.new (open_answer o)) }
     ensures memory { OnErr result (board.new ≡ board.old) }
     ensures rests { IsAtRest board.new }
-    ensures present { board.new.present ≡ map key_of (map arc_value noted.new.items) }
+    ensures stand { StillStand board.new.present (map arc_value told.new.answers.items) told.new.first told.new.last }
 {
-    let shared = share_questions(alloc, &questions)?;
-    let opened = board.open(questions)?;
-    *noted = shared;
+    keys_tell_apart();
+    let before = board.questions();
+    let count = before.len();
+    let at = Difference::between(before, &questions);
+    let opened = board.open_between(questions, &at)?;
+    told.first = told.first.min(at.start);
+    told.last = told.last.min(count.saturating_sub(at.old_end));
     Ok(opened)
 }
 
-// The kept answers of the present goals, which these questions ask: those at hand, or else as the board
-// shows them.
+// The kept answers of the present goals: those at hand, or else as the board shows them.
 fn kept_answers(
     alloc: Global,
     board: &Board<Settled>,
-    questions: &[Arc<Asked, Global>],
-    hand: AtHand<'_>,
+    told: &Told,
+    since: &[Arc<Settled, Global>],
 ) -> Result<Vec<Arc<Settled, Global>>, AllocError>
     requires kept { IsTrue (all_kept board.now) }
-    requires present { board.now.present ≡ map key_of (map arc_value questions.now) }
+    requires stand { StillStand board.now.present (map arc_value told.now.answers.items) told.now.first told.now.last }
     ensures { IfOk result (λ v. map arc_value v.items ≡ found (map (kept_at board.now.kept) board.now.present)) }
 {
     keys_tell_apart();
     board.is_sound();
-    match recalled(alloc, questions, hand)? {
+    match recalled(alloc, board.questions(), told, since)? {
         Some(answers) => Ok(answers),
         None => {
             let shown = board.gather()?;
@@ -124,32 +99,28 @@ fn kept_answers(
     }
 }
 
-// Settles goals, which these questions ask, and gathers their answers; they are at hand from now on.
+// Settles goals, and gathers their answers; they are at hand from now on.
 fn settle(
     alloc: Global,
     board: &mut Board<Settled>,
-    questions: &[Arc<Asked, Global>],
-    told: &mut Vec<Arc<Settled, Global>>,
+    told: &mut Told,
 ) -> Result<Vec<Arc<Settled, Global>>, AllocError>
     requires rests { IsAtRest board.old }
-    requires present { board.old.present ≡ map key_of (map arc_value questions.now) }
+    requires stand { StillStand board.old.present (map arc_value told.old.answers.items) told.old.first told.old.last }
     requires room { board.old.next + length board.old.present < 2 ^ 64 - 1 }
     ensures settled { IfOk result (λ v. AreSettled 0 board.old [] board.new [] (map arc_value v.items)) }
     ensures same { IsSameProgram board.old board.new }
     ensures kept { OnOk result (IsTrue (all_kept board.new)) }
     ensures answers { (qs : List asked) → board.old.present ≡ map key_of qs → IfOk result (λ v. map arc_value v.items ≡ map settled_by qs) }
     ensures memory { OnErr result (AreWork 0 board.old [] board.new []) }
+    ensures stand { StillStand board.new.present (map arc_value told.new.answers.items) told.new.first told.new.last }
 {
     keys_tell_apart();
     board.is_sound();
     let mut since = Vec::new(alloc);
     settle_all(alloc, board, &mut since)?;
-    let hand = AtHand {
-        told: told.as_slice(),
-        since: since.as_slice(),
-    };
-    let answers = kept_answers(alloc, board, questions, hand)?;
-    *told = share_answers(alloc, &answers)?;
+    let answers = kept_answers(alloc, board, told, &since)?;
+    *told = all_told(alloc, &answers)?;
     Ok(answers)
 }
 
@@ -161,8 +132,7 @@ impl Alone {
         Alone {
             alloc,
             board: Board::new(alloc),
-            questions: Vec::new(alloc),
-            told: Vec::new(alloc),
+            told: Told::none(alloc),
         }
     }
 }
@@ -177,7 +147,7 @@ impl GoalBoard for Alone {
     ghost noted = { λ _. [] };
 
     fn open(&mut self, questions: Vec<Arc<Asked, Global>>) -> Result<Opened, AllocError> {
-        open_noting(self.alloc, &mut self.board, &mut self.questions, questions)
+        open_noting(&mut self.board, &mut self.told, questions)
     }
 
     fn look(&mut self) -> Snapshot {
@@ -185,6 +155,6 @@ impl GoalBoard for Alone {
     }
 
     fn settle(&mut self) -> Result<Vec<Arc<Settled, Global>>, AllocError> {
-        settle(self.alloc, &mut self.board, &self.questions, &mut self.told)
+        settle(self.alloc, &mut self.board, &mut self.told)
     }
 }

@@ -1,8 +1,11 @@
 // Answers that are at hand: each is right for its own question, whatever the board keeps.
-ghost use Rattle.std.specs.Prelude.{◌≡◌, [], ◌∷◌, ◌++◌, IsTrue, IfOk, IfSome, map};
+ghost use Rattle.std.specs.Prelude.{◌≡◌, ◌≤◌, ◌-◌, [], ◌∷◌, ◌++◌, IsTrue, IfOk, OnOk, IfSome, map, length, min, take};
 ghost use Rattle.std.specs.Arc.{arc_value};
+ghost use Rattle.obligation_text.specs.Asked.{key_of};
 ghost use Rattle.tableau.specs.Settled.{settled_by};
+ghost use Rattle.goal_board.specs.Standing.{StillStand};
 
+use crate::told::{Told, push_answers};
 use bv_base::{Answered, Question};
 use obligation_text::Asked;
 use obligation_text::laws::keys_tell_apart;
@@ -99,21 +102,91 @@ fn push_answer(
     push_if(all, found, question)
 }
 
-/// The answers to the questions in order, if all of them are at hand.
+// The answers to the questions from one place to another come behind those to the ones before, if all of
+// them are at hand.
+fn push_between(
+    all: &mut Vec<Arc<Settled, Global>>,
+    questions: &[Arc<Asked, Global>],
+    from: usize,
+    to: usize,
+    hand: AtHand<'_>,
+) -> Result<bool, AllocError>
+    requires from { from ≤ to }
+    requires to { to ≤ length questions.now }
+    requires before { map arc_value all.old.items ≡ map settled_by (map arc_value (take from questions.now)) }
+    ensures { IfOk result (λ is. IsTrue is → map arc_value all.new.items ≡ map settled_by (map arc_value (take to questions.now))) }
+{
+    let mut next = 0;
+    for at in from..to {
+        let from_end = questions.len() - at;
+        if !push_answer(all, hand, at, from_end, &mut next, &questions[at])? {
+            return Ok(false);
+        }
+    }
+    Ok(true)
+}
+
+// The answers to the first questions that stand.
+fn first_answers(
+    alloc: Global,
+    questions: &[Arc<Asked, Global>],
+    told: &Told,
+) -> Result<Vec<Arc<Settled, Global>>, AllocError>
+    requires { StillStand (map key_of (map arc_value questions.now)) (map arc_value told.now.answers.items) told.now.first told.now.last }
+    ensures { IfOk result (λ v. map arc_value v.items ≡ map settled_by (map arc_value (take told.now.first questions.now))) }
+{
+    keys_tell_apart();
+    let mut all = Vec::with_capacity(alloc, questions.len())?;
+    push_answers(&mut all, told.first_ones(told.first))?;
+    Ok(all)
+}
+
+// The answers to the questions from a place on, which stand, come behind those to the ones before.
+fn push_last(
+    all: &mut Vec<Arc<Settled, Global>>,
+    questions: &[Arc<Asked, Global>],
+    told: &Told,
+    to: usize,
+) -> Result<(), AllocError>
+    requires stand { StillStand (map key_of (map arc_value questions.now)) (map arc_value told.now.answers.items) told.now.first told.now.last }
+    requires to { to ≤ length questions.now }
+    requires last { length questions.now - to ≤ told.now.last }
+    requires before { map arc_value all.old.items ≡ map settled_by (map arc_value (take to questions.now)) }
+    ensures { OnOk result (map arc_value all.new.items ≡ map settled_by (map arc_value questions.now)) }
+{
+    keys_tell_apart();
+    push_answers(all, told.last_ones(questions.len() - to))?;
+    Ok(())
+}
+
+// Where the answers to so many goals end that are to be looked for: the last ones stand from there on.
+fn end_between(count: usize, told: &Told) -> usize
+    ensures { result ≡ count - min told.now.last (count - told.now.first) }
+{
+    let left = count.saturating_sub(told.first);
+    count.saturating_sub(told.last.min(left))
+}
+
+/// The answers to the questions in order, if all of them are at hand: the first and the last ones that
+/// stand, and between them those that are found by their keys.
 pub(crate) fn recalled(
     alloc: Global,
     questions: &[Arc<Asked, Global>],
-    hand: AtHand<'_>,
+    told: &Told,
+    since: &[Arc<Settled, Global>],
 ) -> Result<Option<Vec<Arc<Settled, Global>>>, AllocError>
+    requires { StillStand (map key_of (map arc_value questions.now)) (map arc_value told.now.answers.items) told.now.first told.now.last }
     ensures { IfOk result (λ o. IfSome o (λ v. map arc_value v.items ≡ map settled_by (map arc_value questions.now))) }
 {
-    let mut all = Vec::with_capacity(alloc, questions.len())?;
-    let mut next = 0;
-    for at in 0..questions.len() {
-        let from_end = questions.len() - at;
-        if !push_answer(&mut all, hand, at, from_end, &mut next, &questions[at])? {
-            return Ok(None);
-        }
+    let mut all = first_answers(alloc, questions, told)?;
+    let to = end_between(questions.len(), told);
+    let hand = AtHand {
+        told: told.answers.as_slice(),
+        since,
+    };
+    if !push_between(&mut all, questions, told.first, to, hand)? {
+        return Ok(None);
     }
+    push_last(&mut all, questions, told, to)?;
     Ok(Some(all))
 }

@@ -6,6 +6,8 @@ use Rattle.tableau.specs.Settled.{Settled, IsRight, settled_by}
 use Rattle.turn_lock.specs.Lock.{number, mine, seen}
 use Rattle.turn_lock.specs.History.{calls_by}
 use Rattle.std.proofs.lemmas.Bool.{eqb-true}
+use Rattle.board_core.specs.History.{replay}
+use Rattle.board_core.specs.Sound.{IsSound}
 use Rattle.board_core.specs.Board.{gather, gathered, no_memory, memory}
 use Rattle.board_core.proofs.Soundness.{histories_sound}
 use Rattle.goal_board.specs.Calls.{BoardCall, made, answer_key, all_kept}
@@ -15,7 +17,7 @@ use Rattle.goal_board.specs.Found.{found}
 use Rattle.goal_board.specs.Made.{AreMade, AreSettled, AreWork}
 use Rattle.goal_board.proofs.Betweens.{effects_are_between}
 use Rattle.goal_board.proofs.Gathering.{gathered_are_the_searchs, kept_stay}
-use Rattle.shared_goals.specs.Known.{GoalEntry, by_opener, board_of, KnowsGoals}
+use Rattle.shared_goals.specs.Known.{GoalEntry, by_opener, board_after, board_of, KnowsOwn}
 use Rattle.shared_goals.specs.Opener.{GoalPass, GoalsShared, IsOpenerOf, StaysOpener, HasSettled, HasWorked}
 use Rattle.shared_goals.specs.Beside.{own_calls}
 use Rattle.shared_goals.proofs.Histories.{passes_are_between}
@@ -34,6 +36,18 @@ module _ (b : GoalsShared) (p q : GoalPass) where
 
   pub work_made : HasWorked b p q → AreWork 1 (board_of p) (own_calls p) (board_of q) (own_calls q)
   work_made h = record { calls = h.calls; are = are_made h.calls h.stays; work = record { before = h.calls; are = h.are; is = inl refl } }
+
+-- the board of an opener is sound
+sound_opener : (p : GoalPass) → KnowsOwn p → IsSound Settled answer_key IsRight (board_of p)
+sound_opener p knows = by_calls (mine p) (elim knows [
+  | inl none ↦ inl none
+  | inr k ↦ inr (histories_sound answer_key IsRight (seen p) k.legal)
+])
+  where
+    by_calls : (m : List GoalEntry) → (m ≡ []) ⊎ IsSound Settled answer_key IsRight (replay (seen p)) → IsSound Settled answer_key IsRight (board_after m (seen p))
+    by_calls [] h = histories_sound answer_key IsRight [] tt
+    by_calls (c ∷ m) (inl none) = absurd (cc)
+    by_calls (c ∷ m) (inr sound) = sound
 
 module _ (b : GoalsShared) (p m q : GoalPass) (h : HasSettled b p m) where
   pub refused_made : StaysOpener b m q (made no_memory memory ∷ []) → AreWork 1 (board_of p) (own_calls p) (board_of q) (own_calls q)
@@ -62,7 +76,7 @@ module _ (b : GoalsShared) (p m q : GoalPass) (h : HasSettled b p m) where
 
     pub answers_made : KeysTellApart → (qs : List Asked) → IsOpenerOf b p → IsTrue (shows_all shown) → (board_of p).present ≡ map key_of qs → found shown ≡ map settled_by qs
     answers_made apart qs o all keys =
-        (gathered_are_the_searchs apart 1 (board_of p) (board_of q) all_calls shown qs (histories_sound answer_key IsRight (seen p) o.knows.legal)
+        (gathered_are_the_searchs apart 1 (board_of p) (board_of q) all_calls shown qs (sound_opener p o.knows)
         (passes_are_between p q all_calls (later_more b p m q h.calls (made gather (gathered shown) ∷ []) h.stays k).later) (is_gathered all) keys).0
 
 -- ---- by the result of a call
@@ -82,7 +96,9 @@ calls_named n (e ∷ es) = by_test (e.0 == n) refl (calls_named n es)
     by_test true is rest = λ i. (eqb-true e.0 n is i, e.1) ∷ rest i
     by_test false is rest = rest
 
-pub all_own : (p : GoalPass) → KnowsGoals p → number p ≡ 0 → mine p ≡ by_opener (own_calls p)
-all_own p knows zero =
-    let is : calls_by 0 (seen p) ≡ mine p = ap (λ n. calls_by n (seen p)) (sym zero) ∙ knows.own_calls in
-    sym is ∙ (calls_named 0 (seen p) ∙ ap (λ m. by_opener (map (λ e. e.1) m)) is)
+pub all_own : (p : GoalPass) → KnowsOwn p → number p ≡ 0 → mine p ≡ by_opener (own_calls p)
+all_own p knows zero = elim knows [
+  | inl none ↦ none ∙ sym (ap (λ m. by_opener (map (λ e. e.1) m)) none)
+  | inr k ↦ (let is : calls_by 0 (seen p) ≡ mine p = ap (λ n. calls_by n (seen p)) (sym zero) ∙ k.own_calls in
+      sym is ∙ (calls_named 0 (seen p) ∙ ap (λ m. by_opener (map (λ e. e.1) m)) is))
+]

@@ -1,18 +1,20 @@
 -- From a legal history to a session's calls, with others' work between them.
-use Rattle.std.proofs.Common.{◌≡◌, ◌⊎◌, ◌∙◌, refl, sym, ap, subst, ℕ, ◌==◌, Bool, true, false, cond, List, [], ◌∷◌, ◌++◌, append_assoc, append-nil, eq-eqb, inl, inr}
+use Rattle.std.proofs.Common.{◌≡◌, ◌⊎◌, ◌∙◌, refl, sym, ap, subst, ℕ, ◌==◌, Bool, true, false, cond, List, [], ◌∷◌, ◌++◌, Option, append_assoc, append-nil, eq-eqb, inl, inr}
 use Rattle.std.specs.List.{list_all}
 use Rattle.tableau.specs.Settled.{Settled, IsRight}
-use Rattle.turn_lock.specs.History.{calls_by}
-use Rattle.turn_lock.specs.Lock.{seen, mine}
-use Rattle.board_core.specs.Board.{Event, open_keys, claim, deposit, give_back, look, gather, close, no_memory}
+use Rattle.atomic_table.specs.declared.shared.Seat.{Seat}
+use Rattle.turn_lock.specs.declared.rule.View.{View}
+use Rattle.turn_lock.specs.History.{StartsWith, calls_by}
+use Rattle.turn_lock.specs.Lock.{number, seen, mine}
+use Rattle.board_core.specs.Board.{first, Call, Event, open_keys, claim, deposit, give_back, look, gather, close, no_memory}
 use Rattle.board_core.specs.Step.{step, reply, MayStand}
 use Rattle.board_core.specs.History.{LegalFrom, MayMake, replay}
 use Rattle.obligation_board.proofs.Growing.{replay_next, calls_append, legal_behind}
 use Rattle.goal_board.specs.Calls.{Board, BoardCall, answer_key}
 use Rattle.goal_board.specs.Between.{nothing, from_own, from_theirs, is_work, Between, is_idle}
 use Rattle.logic_core.proofs.Booleans.{all_true}
-use Rattle.goal_board.proofs.Betweens.{idle_same}
-use Rattle.shared_goals.specs.Known.{GoalEntry, LegalHistory, by_opener, HistoriesAreBetween, board_of, PassesAreBetween}
+use Rattle.goal_board.proofs.Betweens.{idle_same, stays_between}
+use Rattle.shared_goals.specs.Known.{GoalEntry, LegalHistory, by_opener, HistoriesAreBetween, board_after, KnowsGoals, KnowsOwn, board_of, PassesAreBetween}
 
 abbrev LegalOn : List GoalEntry → List GoalEntry → Type 0
 LegalOn h es = LegalFrom Settled answer_key IsRight h es
@@ -67,17 +69,55 @@ histories_are_between h more own legal is = between_from h more own (legal_behin
 
 -- ---- of passes
 
-pub cancel : {A : Type 0} (xs ys zs : List A) → xs ++ ys ≡ xs ++ zs → ys ≡ zs
+cancel : {A : Type 0} (xs ys zs : List A) → xs ++ ys ≡ xs ++ zs → ys ≡ zs
 cancel [] ys zs e = e
 cancel (x ∷ xs) ys zs e = cancel xs ys zs (cc)
 
+no_calls : (own : List BoardCall) → [] ≡ by_opener own → own ≡ []
+no_calls [] e = refl
+no_calls (k ∷ own) e = absurd (cc)
+
+-- behind a call the board is the one at the end of the history
+pub board_now : (m : List GoalEntry) (e : GoalEntry) (h : List GoalEntry) → board_after (m ++ e ∷ []) h ≡ replay h
+board_now [] e h = refl
+board_now (c ∷ m) e h = refl
+
 module _ {S : Type 0} where
+  -- the calls of the opener in what it has seen are its own
+  own_seen : (p : Seat (Option S) (View S (Call Settled))) → number p ≡ 0 → KnowsGoals p → calls_by 0 (seen p) ≡ mine p
+  own_seen p zero knows = ap (λ n. calls_by n (seen p)) (sym zero) ∙ knows.own_calls
+
+  -- behind a call it knows what it made
+  knows_made : (p : Seat (Option S) (View S (Call Settled))) (e : GoalEntry) (m : List GoalEntry) → mine p ≡ e ∷ m → KnowsOwn p → KnowsGoals p
+  knows_made p e m is knows = elim knows [
+    | inl none ↦ (let both : e ∷ m ≡ [] = sym is ∙ none in absurd (cc))
+    | inr k ↦ k
+  ]
+
+  -- from what an opener has seen to a longer history
+  pub between_seen : (p : Seat (Option S) (View S (Call Settled))) → number p ≡ 0 → KnowsOwn p → (h : List GoalEntry) (own : List BoardCall) → StartsWith h (seen p) → LegalHistory h → calls_by 0 h ≡ mine p ++ by_opener own
+      → Between 1 (board_of p) own (replay h)
+  between_seen p zero knows h own saw legal is = by_calls (mine p) refl
+    where
+      by_calls : (m : List GoalEntry) → mine p ≡ m → Between 1 (board_after m (seen p)) own (replay h)
+      by_calls [] none = histories_are_between [] h own legal (is ∙ ap (λ m. m ++ by_opener own) none)
+      by_calls (e ∷ m) some =
+          let more = saw.0 in
+          let before : calls_by 0 (seen p) ≡ mine p = own_seen p zero (knows_made p e m some knows) in
+          let both : mine p ++ calls_by 0 more ≡ mine p ++ by_opener own =
+          ap (λ l. l ++ calls_by 0 more) (sym before) ∙ (sym (calls_append 0 (seen p) more) ∙ (ap (calls_by 0) (sym saw.1) ∙ is)) in
+          let b = histories_are_between (seen p) more own (subst LegalHistory saw.1 legal) (cancel (mine p) (calls_by 0 more) (by_opener own) both) in
+          subst (λ (g : List GoalEntry). Between 1 (replay (seen p)) own (replay g)) (sym saw.1) b
+
   pub passes_are_between : PassesAreBetween S
-  passes_are_between p q own l =
-      let more = l.saw.0 in
-      let p_calls : calls_by 0 (seen p) ≡ mine p = ap (λ n. calls_by n (seen p)) (sym l.opener.0) ∙ l.before.own_calls in
-      let q_calls : calls_by 0 (seen q) ≡ mine q = ap (λ n. calls_by n (seen q)) (sym l.opener.1) ∙ l.after.own_calls in
-      let both : mine p ++ calls_by 0 more ≡ mine p ++ by_opener own =
-      ap (λ m. m ++ calls_by 0 more) (sym p_calls) ∙ (sym (calls_append 0 (seen p) more) ∙ (ap (calls_by 0) (sym l.saw.1) ∙ (q_calls ∙ l.made))) in
-      let b = histories_are_between (seen p) more own (subst LegalHistory l.saw.1 l.after.legal) (cancel (mine p) (calls_by 0 more) (by_opener own) both) in
-      subst (λ (h : List GoalEntry). Between 1 (board_of p) own (replay h)) (sym l.saw.1) b
+  passes_are_between p q own l = by_calls (mine q) refl
+    where
+      none_made : (m : List GoalEntry) → mine p ≡ m → [] ≡ m ++ by_opener own → Between 1 (board_after m (seen p)) own (first Settled)
+      none_made [] none e = subst (λ es. Between 1 (first Settled) es (first Settled)) (sym (no_calls own e)) (stays_between 1 (first Settled))
+      none_made (c ∷ m) some e = absurd (cc)
+
+      by_calls : (n : List GoalEntry) → mine q ≡ n → Between 1 (board_of p) own (board_after n (seen q))
+      by_calls [] none = none_made (mine p) refl (sym none ∙ l.made)
+      by_calls (e ∷ n) some =
+          let k = knows_made q e n some l.after in
+          between_seen p l.opener.0 l.before (seen q) own l.saw k.legal (own_seen q l.opener.1 k ∙ l.made)

@@ -8,12 +8,13 @@ use Rattle.obligation_text.specs.Asked.{Asked}
 use Rattle.tableau.specs.Settled.{Settled, IsRight}
 use Rattle.turn_lock.specs.History.{StartsWith, calls_by}
 use Rattle.turn_lock.specs.Lock.{number, seen, mine}
-use Rattle.board_core.specs.Kept.{Key, is_among, kept_keys, kept_at}
+use Rattle.bv_base.specs.Text.{is_among}
+use Rattle.board_core.specs.Kept.{Key, kept_keys, kept_at}
 use Rattle.board_core.specs.Board.{Event, claim, give_back, look, gather, no_memory, Reply, claimed, given_back, looked, gathered, memory}
 use Rattle.board_core.specs.Step.{reply, done_of}
 use Rattle.board_core.specs.History.{Legal, replay}
 use Rattle.obligation_board.specs.Calls.{IsCall}
-use Rattle.obligation_board.specs.Passes.{StaysPassOf}
+use Rattle.obligation_board.specs.Passes.{IsPassOf, StaysPassOf}
 use Rattle.goal_board.specs.Calls.{Board, BoardCall, made, answer_key, all_kept}
 use Rattle.goal_board.specs.Between.{Between, closed_by}
 use Rattle.goal_board.specs.Working.{Working, Settling, IsGathered, IsWork, shows_all}
@@ -24,11 +25,17 @@ use Rattle.goal_board.proofs.Gathering.{all_kept_shown, kept_stay, never_closed}
 use Rattle.obligation_board.specs.Rounds.{made_by, Round, no_question, answered, calls_of, IsTry, IsEnd}
 use Rattle.obligation_board.specs.declared.worker.Ended.{Ended}
 use Rattle.obligation_board.specs.declared.worker.Ended.TheVariants as end
-use Rattle.shared_goals.specs.Known.{GoalEntry, by_opener, KnowsGoals, board_of, IsLaterPass}
+use Rattle.shared_goals.specs.Known.{GoalEntry, LegalHistory, by_opener, KnowsGoals, board_after, board_of, IsLaterPass}
 use Rattle.shared_goals.specs.Opener.{GoalPass, GoalsShared, IsOpenerOf, StaysOpener, HasSettled, HasWorked}
-use Rattle.obligation_board.proofs.Growing.{replay_next, calls_append, legal_behind, legal_start}
+use Rattle.obligation_board.proofs.Growing.{replay_next, legal_behind, legal_start}
 use Rattle.obligation_board.proofs.Working.{begins_on}
-use Rattle.shared_goals.proofs.Histories.{cancel, passes_are_between, histories_are_between}
+use Rattle.shared_goals.proofs.Histories.{board_now, between_seen, passes_are_between}
+
+-- ---- no call
+
+-- before its first call, whatever it has seen
+pub unused_opener : (b : GoalsShared) (p : GoalPass) → IsPassOf b p → number p ≡ 0 → mine p ≡ [] → IsOpenerOf b p
+unused_opener b p pass zero none = record { pass = pass; zero = zero; knows = inl none; unclosed = ap (λ m. (board_after m (seen p)).closed) none }
 
 -- ---- one call more
 
@@ -40,7 +47,7 @@ module _ (b : GoalsShared) (p q : GoalPass) (e : Event Settled) (place : ℕ) (r
   is_later o c knows stays = record {
     opener = (o.zero, stays.1 ∙ o.zero);
     before = o.knows;
-    after = knows;
+    after = inr knows;
     saw = begins_on (seen p) c.before (seen q) c.after_all_seen ((number p, made e r) ∷ [], c.seen);
     made = c.mine ∙ ap (λ (n : ℕ). mine p ++ (n, made e r) ∷ []) o.zero;
   }
@@ -98,7 +105,9 @@ last_reply h n e r l = (legal_behind answer_key IsRight [] h ((n, made e r) ∷ 
 pub none_pending : (b : GoalsShared) (p q : GoalPass) (place v d pending : ℕ) (c : Bool) → IsCall answer_key IsRight p q look place (looked v d pending c) → pending ≡ 0 → IsTrue (all_kept (board_of q))
 none_pending b p q place v d pending c call none =
     let before = replay call.before in
-    let here : board_of q ≡ before = ap replay call.seen ∙ replay_next call.before (number p, made look (looked v d pending c)) in
+    let entry : GoalEntry = (number p, made look (looked v d pending c)) in
+    let made_now : board_of q ≡ replay (seen q) = ap (λ m. board_after m (seen q)) call.mine ∙ board_now (mine p) entry (seen q) in
+    let here : board_of q ≡ before = made_now ∙ (ap replay call.seen ∙ replay_next call.before entry) in
     let told : looked v d pending c ≡ reply before look = last_reply call.before (number p) look (looked v d pending c) call.legal in
     let many : pending ≡ length before.present - done_of before.present before.kept = cc in
     subst (λ (s : Board). IsTrue (all_kept s)) (sym here) (all_counted (is_among (kept_keys before.kept)) before.present (omega (arith, many, none)))
@@ -107,14 +116,10 @@ none_pending b p q place v d pending c call none =
 
 pub all_shown : (b : GoalsShared) (p q : GoalPass) (place : ℕ) (shown : List (Option Settled)) → IsOpenerOf b p → IsCall answer_key IsRight p q gather place (gathered shown) → IsTrue (all_kept (board_of p)) → IsTrue (shows_all shown)
 all_shown b p q place shown o call all =
-    let more = call.after_all_seen.0 in
-    let none : calls_by 0 more ≡ by_opener [] = cancel (mine p) (calls_by 0 more) [] (
-    ap (λ m. m ++ calls_by 0 more) (sym o.knows.own_calls ∙ ap (λ n. calls_by n (seen p)) o.zero) ∙ (sym (calls_append 0 (seen p) more) ∙ (ap (calls_by 0) (sym call.after_all_seen.1) ∙ (ap (λ n. calls_by n call.before) (sym o.zero) ∙ (call.own_calls ∙ sym (append-nil (mine p))))))
-    ) in
-    let legal : Legal Settled answer_key IsRight (seen p ++ more) = subst (Legal Settled answer_key IsRight) call.after_all_seen.1 (legal_start answer_key IsRight [] call.before ((number p, made gather (gathered shown)) ∷ []) call.legal) in
     let before = replay call.before in
-    let same : replay (seen p ++ more) ≡ before = ap replay (sym call.after_all_seen.1) in
-    let kept : IsTrue (all_kept before) = subst (λ (s : Board). IsTrue (all_kept s)) same (kept_stay 1 (board_of p) (replay (seen p ++ more)) (histories_are_between (seen p) more [] legal none) all) in
+    let legal : LegalHistory call.before = legal_start answer_key IsRight [] call.before ((number p, made gather (gathered shown)) ∷ []) call.legal in
+    let none : calls_by 0 call.before ≡ mine p ++ by_opener [] = ap (λ n. calls_by n call.before) (sym o.zero) ∙ (call.own_calls ∙ sym (append-nil (mine p))) in
+    let kept : IsTrue (all_kept before) = kept_stay 1 (board_of p) before (between_seen p o.zero o.knows call.before [] call.after_all_seen legal none) all in
     let told : gathered shown ≡ reply before gather = last_reply call.before (number p) gather (gathered shown) call.legal in
     let is : shown ≡ map (kept_at before.kept) before.present = cc in
     subst (λ xs. IsTrue (list_all is_some xs)) (sym is) (all_kept_shown before.kept before.present kept)
@@ -126,7 +131,7 @@ module _ (b : GoalsShared) (p q : GoalPass) (cs : List BoardCall) where
   worked_later o stays saw made knows = record {
     opener = (o.zero, stays.1 ∙ o.zero);
     before = o.knows;
-    after = knows;
+    after = inr knows;
     saw = saw;
     made = made ∙ ap (λ n. mine p ++ made_by n cs) o.zero;
   }

@@ -1,11 +1,11 @@
 -- What a pass knows of the history of its board, and what its calls between two moments are.
-use Rattle.std.specs.Prelude.{◌≡◌, List, ◌++◌, map, Option}
+use Rattle.std.specs.Prelude.{◌≡◌, ◌⊎◌, List, [], ◌∷◌, ◌++◌, map, Option}
 use Rattle.tableau.specs.Settled.{Settled, IsRight}
 use Rattle.atomic_table.specs.declared.shared.Seat.{Seat}
 use Rattle.turn_lock.specs.declared.rule.View.{View}
 use Rattle.turn_lock.specs.History.{StartsWith, calls_by}
 use Rattle.turn_lock.specs.Lock.{number, seen, mine, above, splits}
-use Rattle.board_core.specs.Board.{Call}
+use Rattle.board_core.specs.Board.{first, Call}
 use Rattle.board_core.specs.History.{Entry, Legal, replay}
 use Rattle.obligation_board.specs.Calls.{Knows}
 use Rattle.goal_board.specs.Calls.{Board, BoardCall, answer_key}
@@ -25,13 +25,22 @@ by_opener cs = map (λ c. (0, c)) cs
 abbrev pub HistoriesAreBetween : Type 0
 HistoriesAreBetween = (h more : List GoalEntry) (own : List BoardCall) → LegalHistory (h ++ more) → calls_by 0 more ≡ by_opener own → Between 1 (replay h) own (replay (h ++ more))
 
+-- the board at the end of a history; where the opener made no call it is the first one, whatever others did
+abbrev pub board_after : List GoalEntry → List GoalEntry → Board
+board_after [] history = first Settled
+board_after (c ∷ own) history = replay history
+
 module _ {S : Type 0} where
   abbrev pub KnowsGoals : Seat (Option S) (View S (Call Settled)) → Type 0
   KnowsGoals p = Knows answer_key IsRight p
 
-  -- the board as the pass has seen it last
+  -- it made no call, or knows what it made
+  abbrev pub KnowsOwn : Seat (Option S) (View S (Call Settled)) → Type 0
+  KnowsOwn p = (mine p ≡ []) ⊎ KnowsGoals p
+
+  -- the board as the opener has seen it last
   abbrev pub board_of : Seat (Option S) (View S (Call Settled)) → Board
-  board_of p = replay (seen p)
+  board_of p = board_after (mine p) (seen p)
 
   -- no pass was made of it, and it heard of none
   abbrev pub MakesNoPass : Seat (Option S) (View S (Call Settled)) → Seat (Option S) (View S (Call Settled)) → Type 0
@@ -40,8 +49,8 @@ module _ {S : Type 0} where
   -- the opener, some calls of its own later
   pub record IsLaterPass (p q : Seat (Option S) (View S (Call Settled))) (own : List BoardCall) : Type 0 where
     pub opener : (number p ≡ 0) × (number q ≡ 0)
-    pub before : KnowsGoals p
-    pub after : KnowsGoals q
+    pub before : KnowsOwn p
+    pub after : KnowsOwn q
     pub saw : StartsWith (seen q) (seen p)
     pub made : mine q ≡ mine p ++ by_opener own
 

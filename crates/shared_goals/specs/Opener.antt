@@ -11,7 +11,7 @@ use Rattle.obligation_board.specs.declared.shared.SharedBoard.{SharedBoard}
 use Rattle.obligation_board.specs.Passes.{IsPassOf}
 use Rattle.goal_board.specs.Calls.{BoardCall}
 use Rattle.goal_board.specs.Working.{Settling, Working}
-use Rattle.shared_goals.specs.Known.{KnowsGoals, board_of, IsLaterPass}
+use Rattle.shared_goals.specs.Known.{KnowsOwn, board_of, IsLaterPass}
 
 abbrev pub GoalPass : Type 0
 GoalPass = Seat (Option (Posted Settled Asked)) (View (Posted Settled Asked) (Call Settled))
@@ -19,11 +19,11 @@ GoalPass = Seat (Option (Posted Settled Asked)) (View (Posted Settled Asked) (Ca
 abbrev pub GoalsShared : Type 0
 GoalsShared = SharedBoard Settled Asked
 
--- it is this board's, has the number 0, knows what it made, and has not closed the board
+-- it is this board's, has the number 0, knows the calls that it made, and has not closed the board
 pub record IsOpenerOf (b : GoalsShared) (p : GoalPass) : Type 0 where
   pub pass : IsPassOf b p
   pub zero : number p ≡ 0
-  pub knows : KnowsGoals p
+  pub knows : KnowsOwn p
   pub unclosed : (board_of p).closed ≡ false
 
 -- and so it is still, these calls later

@@ -1,6 +1,7 @@
 use Rattle.std.proofs.Common.{◌≡◌, ◌||◌, ℕ, List, map, drop}
 use Rattle.std.specs.Arc.{arc_value}
-use Rattle.board_core.specs.Kept.{Key, is_among}
+use Rattle.bv_base.specs.Text.{is_among}
+use Rattle.board_core.specs.Kept.{Key}
 use Rattle.board_core.specs.Present.{is_present}
 use Rattle.board_core.proofs.present.keys_of.Given as goal
 

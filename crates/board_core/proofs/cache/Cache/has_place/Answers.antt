@@ -1,7 +1,7 @@
 use Rattle.std.proofs.Common.{ap, true, false, ◌||◌, is_some, position, bytes_eq}
 use mathlib.Core.Path.{sym, ◌∙◌}
 use Rattle.std.specs.Arc.{arc_value}
-use Rattle.board_core.specs.Kept.{is_among, kept_keys}
+use Rattle.board_core.specs.Kept.{kept_keys}
 use Rattle.board_core.proofs.Entries.{is_there}
 use Rattle.board_core.proofs.Keys.{found}
 use Rattle.board_core.proofs.cache.Cache.has_place.Goals as goal

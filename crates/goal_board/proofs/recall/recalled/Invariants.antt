@@ -1,7 +1,0 @@
-use Rattle.std.proofs.Common.{◌≡◌, map, take}
-use Rattle.std.specs.Arc.{arc_value}
-use Rattle.tableau.specs.Settled.{settled_by}
-use Rattle.goal_board.proofs.recall.recalled.Given as goal
-
-abbrev pub invariant-loop-at : goal.invariant-loop-at
-invariant-loop-at l = map arc_value l.all.items ≡ map settled_by (map arc_value (take l.at l.questions))
