@@ -21,8 +21,9 @@ NAME = "bplserve"
 PROGRAM = os.path.join(TOP, "crates", NAME, "out", NAME)
 BUILD_FAILED = 70
 USUAL_COST = "0.6", "1500"  # processor minutes and megabytes of a crate that bench/costs.txt doesn't have
-MEMORY, MEMORY_EACH = 8000, 2000  # megabytes for all proofs, or for each processor where that is more
+MEMORY, MEMORY_EACH = 8000, 2500  # megabytes for all proofs, or for each processor where that is more and so much is free
 LONG = 3  # a proof of so many minutes gets several processors where all else would wait for it
+MOST = 4  # jobs of a proof, which is as many as rt starts
 DISK = 12000  # megabytes of free disk, below which the kit may not keep all
 
 
@@ -72,44 +73,58 @@ class Build:
         for name in reversed(self.crates):
             above = [self.chain[c] for c in self.crates if name in self.stands_on[c]]
             self.chain[name] = self.minutes[name] + max(above, default=0)
-        self.processors = len(os.sched_getaffinity(0))
+        self.processors = os.sched_getaffinity(0)
         free = int(re.search(r"MemAvailable:\s+(\d+)", Path("/proc/meminfo").read_text())[1]) >> 10
-        self.memory = min(0.85 * free, max(MEMORY, MEMORY_EACH * self.processors))
+        self.memory = min(0.85 * free, max(MEMORY, MEMORY_EACH * len(self.processors)))
         self.is_kept = is_kept  # where the kit keeps nothing, one run proves all
         self.waiting = sorted(self.crates, key=lambda c: -self.chain[c]) if is_kept else [NAME]
-        self.proved, self.running, self.jobs = set(), {}, []
+        self.proved, self.jobs = set(), []
+        self.running = {}  # by its job each proof that runs: its crate, its processors, when it began
         self.planned = self.spent = 0.0  # minutes of the crates that this run proved, by plan and by the clock
+
+    def slowness(self):
+        """How many times as long as usually proofs take on these processors."""
+        return self.spent / self.planned if self.planned > 1 else 1
+
+    def planned_left(self):
+        """The minutes of the plan that are left."""
+        minute = 60 * self.slowness()
+        lacking = [c for c in self.crates if c not in self.proved]
+        done = {c: len(on) * (time.monotonic() - begun) / minute for c, on, begun in list(self.running.values())}
+        costs = sum(max(0, self.minutes[c] - done.get(c, 0)) for c in lacking)
+        return max([costs / len(self.processors)] + [self.chain[c] - done.get(c, 0) for c in lacking])
 
     def left(self):
         """The minutes that are left, as the crates usually cost, on processors as quick as these were."""
-        lacking = [c for c in self.crates if c not in self.proved]
-        slow = self.spent / self.planned if self.planned > 1 else 1
-        done = {c: width * (time.monotonic() - begun) / 60 / slow for c, width, begun in list(self.running.values())}
-        costs = sum(max(0, self.minutes[c] - done.get(c, 0)) for c in lacking)
-        return slow * max([1, costs / self.processors] + [self.chain[c] - done.get(c, 0) for c in lacking])
+        return max(1, self.slowness() * self.planned_left())
 
     def next_crate(self):
         """The crate to begin now, with the longest chain of others above, and its processors, if any."""
         self.waiting = [c for c in self.waiting if c not in self.proved]
-        needs = lambda c, width: self.megabytes[c] * (1 + 0.6 * (width - 1))
-        idle = self.processors - sum(width for _, width, _ in self.running.values())
-        room = self.memory - sum(needs(c, width) for c, width, _ in self.running.values())
+        needs = lambda c, jobs: self.megabytes[c] * (1 + 0.6 * (jobs - 1))
+        idle = sorted(self.processors.difference(*(on for _, on, _ in self.running.values())))
+        room = self.memory - sum(needs(c, len(on)) for c, on, _ in self.running.values())
         if not self.is_kept:
-            return (NAME, max(1, min(idle, int(room // MEMORY_EACH)))) if self.waiting else None
+            return (NAME, idle[: max(1, int(room // MEMORY_EACH))]) if self.waiting else None
         fits = [c for c in self.waiting if not self.running or needs(c, 1) <= room]
-        name = next((c for c in fits if self.proved.issuperset(self.stands_on[c])), None)
-        if name is None or idle <= 0:
+        ready = [c for c in fits if self.proved.issuperset(self.stands_on[c])]
+        if not ready or not idle:
             return None
-        half = min(4, self.processors // 2)  # what rt takes where it may choose
-        is_last = self.minutes[name] >= LONG and self.chain[name] > 0.9 * self.left()
-        return name, half if is_last and 1 < half <= idle and needs(name, half) <= room else 1
+        name, jobs = ready[0], 1
+        if self.minutes[name] >= LONG and self.chain[name] > 0.9 * self.planned_left():
+            half = len(self.processors) // 2
+            jobs = min(MOST, max(half if half <= len(idle) else 1, len(idle) // len(ready)))
+        return name, idle[: max(it for it in range(1, jobs + 1) if it == 1 or needs(name, it) <= room)]
 
-    def prove(self, name, width):
-        """Proves a crate; where that fails, the crate that isn't proved and what was said."""
+    def prove(self, name, on):
+        """Proves a crate on these processors; where that fails, the crate that isn't proved and what was said."""
         temporary = os.path.join(self.folder, "tmp")
-        environment = {**os.environ, "TMPDIR": temporary, "RT_JOBS": str(width), "CI": ""}
-        if width > 1 and self.is_kept:
-            del environment["RT_JOBS"]
+        environment = {**os.environ, "TMPDIR": temporary, "RT_JOBS": str(len(on)), "CI": ""}
+        is_wide = len(on) > 1 and self.is_kept
+        # (of this thread, and so of what it starts)
+        os.sched_setaffinity(0, on if is_wide else self.processors)
+        if is_wide:
+            del environment["RT_JOBS"]  # as many crates at a time; without it a crate gets a job for each processor
         said, told, begun = [], None, time.monotonic()
         words = ["rt", "ci", name] if self.is_kept else ["rt", "ci"]
         with subprocess.Popen(words, cwd=self.folder, env=environment, stdin=subprocess.DEVNULL,
@@ -126,7 +141,7 @@ class Build:
                             self.take([it for place in places for it in glob.glob(f"{place}/crates/{NAME}/out/{NAME}")][0])
                         if told[1] == name and told[2] == "proved":
                             self.planned += self.minutes[name]
-                            self.spent += width * (time.monotonic() - begun) / 60
+                            self.spent += len(on) * (time.monotonic() - begun) / 60
                         self.note(told[1])
                     if told and (told[1] == name or told[2] == "NOT PROVED"):
                         break
@@ -150,9 +165,9 @@ class Build:
 
     def go_on(self, pool):
         """Begins what can begin, and waits until a proof ends, or for a minute."""
-        for name, width in iter(self.next_crate, None):
+        for name, on in iter(self.next_crate, None):
             self.waiting.remove(name)
-            self.running[pool.submit(self.prove, name, width)] = name, width, time.monotonic()
+            self.running[pool.submit(self.prove, name, on)] = name, on, time.monotonic()
         done = wait(self.running, timeout=60, return_when=FIRST_COMPLETED).done
         if not done:
             tell(f"proving {', '.join(c for c, _, _ in self.running.values())}, about {self.left():.0f} minutes left")
@@ -162,14 +177,14 @@ class Build:
                 fail(*job.result())
 
     def run(self):
-        on = f"about {self.left():.0f} minutes on {self.processors} processors"
+        on = f"about {self.left():.0f} minutes on {len(self.processors)} processors"
         tell(f"proving and building it, once: {len(self.crates)} crates, {on}")
         for name in self.crates:
             copy_crate(name, os.path.join(self.folder, "crates", name))
         Path(self.folder, "crates.txt").write_text("".join(self.lines[name] + "\n" for name in self.crates))
         shutil.copy(os.path.join(TOP, "HANDLES"), self.folder)
         os.mkdir(os.path.join(self.folder, "tmp"))
-        with ThreadPoolExecutor(self.processors) as pool:
+        with ThreadPoolExecutor(len(self.processors)) as pool:
             try:
                 while NAME not in self.proved:
                     self.go_on(pool)
