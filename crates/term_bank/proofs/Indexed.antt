@@ -1,5 +1,5 @@
 -- One more number at the end of an indexed list.
-use Rattle.std.proofs.Common.{◌≡◌, refl, sym, ap, ◌∙◌, true≢false, ℕ, zero, suc, ◌+◌, ◌<◌, ◌≤◌, nat_eq, Bool, true, false, cond, List, [], ◌∷◌, ◌++◌, length, take, get_or, Option, Some, None, arith}
+use Rattle.std.proofs.Common.{◌≡◌, refl, sym, ap, ◌∙◌, true≢false, ℕ, zero, suc, ◌+◌, ◌<◌, ◌≤◌, nat_eq, Bool, true, false, cond, List, [], ◌∷◌, ◌++◌, length, take, get_or, Option, Some, None, IsSome, is_some, take-take, ◌-◌, arith}
 use mathlib.Core.Logic.{◌⊎◌, inl, inr}
 use Rattle.std.specs.Map.{lookup}
 use Rattle.std.proofs.lemmas.Bool.{eqb-true, eq-eqb, cases_lt}
@@ -60,6 +60,44 @@ indexed_push ns la ea n h = record {
 pub indexed_next : (ns ms : List ℕ) (la lb : List (ℕ × ℕ)) (ea eb : List (Option ℕ)) (n p : ℕ) (before : Option ℕ) → IsIndexed ns la ea
     → ms ≡ ns ++ n ∷ [] → before ≡ lookup (nat_eq n) la → eb ≡ ea ++ before ∷ [] → p ≡ length ns → lb ≡ insert_entry nat_eq la n p → IsIndexed ms lb eb
 indexed_next ns ms la lb ea eb n p before h em eq ee ep el = rw (em, el, ee, eq, ep) (indexed_push ns la ea n h)
+
+-- the last number stands somewhere
+pub last_there : (ns ms : List ℕ) (la : List (ℕ × ℕ)) (ea : List (Option ℕ)) (m : ℕ) → IsIndexed ns la ea → ns ≡ ms ++ m ∷ [] → IsSome (lookup (nat_eq m) la)
+last_there ns ms la ea m h en = ap is_some (h.last m ∙ ap (λ xs. last_at xs m) en ∙ last_push ms m m ∙ ap (λ b. cond b (Some (length ms)) (last_at ms m)) (eq-eqb m m refl))
+
+-- the last number goes, and its last place is again the one before
+module _ (ns ms : List ℕ) (la lb : List (ℕ × ℕ)) (ea fa : List (Option ℕ)) (m : ℕ) (before : Option ℕ) (h : IsIndexed ns la ea) (en : ns ≡ ms ++ m ∷ []) where
+  pub indexed_pop : ea ≡ fa ++ before ∷ [] → ((n : ℕ) → lookup (nat_eq n) lb ≡ cond (nat_eq m n) before (lookup (nat_eq n) la)) → IsIndexed ms lb fa
+  indexed_pop ee back = record {
+    last = λ n. back n ∙ by n (nat_eq m n) refl;
+    as_many = as_many;
+    before = λ i l. sym (get_or_append_left fa (before ∷ []) None i (omega (arith, l, as_many))) ∙ ap (λ xs. get_or xs i None) (sym ee) ∙ h.before i (omega (arith, l, longer))
+        ∙ (λ j. last_at (take i (en j)) (get_or (en j) i 0))
+        ∙ (λ j. last_at (take-append-le i ms (m ∷ []) (omega (arith, l)) j) (get_or_append_left ms (m ∷ []) 0 i l j));
+  }
+    where
+      longer : length ns ≡ length ms + 1
+      longer = omega (arith, ap length en, length_push ms m)
+
+      as_many : length fa ≡ length ms
+      as_many = omega (arith, longer, h.as_many, ap length ee, length_push fa before)
+
+      here : before ≡ last_at ms m
+      here = sym (get_or_push fa before None (length ms) as_many) ∙ ap (λ xs. get_or xs (length ms) None) (sym ee) ∙ h.before (length ms) (omega (arith, longer))
+          ∙ (λ j. last_at (take (length ms) (en j)) (get_or (en j) (length ms) 0))
+          ∙ (λ j. last_at (take_at ms (m ∷ []) (length ms) refl j) (get_or_push ms m 0 (length ms) refl j))
+
+      other : (n : ℕ) (b : Bool) → nat_eq n m ≡ b → nat_eq m n ≡ false → b ≡ false
+      other n false q e = refl
+      other n true q e = absurd (true≢false (sym (eq-eqb m n (sym (eqb-true n m q))) ∙ e))
+
+      by : (n : ℕ) (b : Bool) → nat_eq m n ≡ b → cond b before (lookup (nat_eq n) la) ≡ last_at ms n
+      by n true e = here ∙ ap (last_at ms) (eqb-true m n e)
+      by n false e = h.last n ∙ ap (λ xs. last_at xs n) en ∙ last_push ms n m ∙ ap (λ b. cond b (Some (length ms)) (last_at ms n)) (other n (nat_eq n m) refl e)
+
+-- as the last of more numbers goes, those that are to stay do
+pub still_there : (xs ys zs : List ℕ) (n : ℕ) → n < length ys → zs ≡ take (length ys - 1) ys → take n ys ≡ take n xs → take n zs ≡ take n xs
+still_there xs ys zs n l e h = ap (take n) e ∙ take-take n (length ys - 1) ys (omega (arith, l)) ∙ h
 
 -- the last place is a place of the number, and no place of it comes later
 pub record IsLast (ns : List ℕ) (n i : ℕ) : Type 0 where

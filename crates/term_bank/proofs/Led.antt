@@ -1,6 +1,6 @@
 -- Where steps lead, and the parts of a term in code and in contracts.
-use Rattle.std.proofs.Common.{◌≡◌, refl, sym, ap, subst, ◌∙◌, ℕ, zero, suc, ◌+◌, ◌<◌, ◌≤◌, ℤ, Vec, true, List, [], ◌∷◌, ◌++◌, map, length, get_or, Option, Some, None, arith}
-use Rattle.std.proofs.lemmas.List.{length-map, length_push, append_assoc, get_or_append_left, get_or_at, append-nil}
+use Rattle.std.proofs.Common.{◌≡◌, refl, sym, ap, subst, ◌∙◌, ℕ, zero, suc, ◌+◌, ◌<◌, ◌≤◌, ℤ, Vec, true, List, [], ◌∷◌, ◌++◌, map, length, take, get_or, Option, Some, None, arith}
+use Rattle.std.proofs.lemmas.List.{length-map, length_push, append_assoc, get_or_append_left, get_or_at, append-nil, take_at, take_all}
 use Rattle.std.specs.declared.alloc.Global.{Global}
 use Rattle.logic_core.specs.Tree.{Tree, truth}
 use Rattle.logic_core.specs.View.{trees_of, parts_of, patterns_of, each_items}
@@ -91,6 +91,24 @@ behind_next ss rr s h b e = rw e (behind_push 0 ss s h b)
 
 pub led_next : (ss rr : List Step) (s : Step) (ts : List Tree) → all_led ss ≡ ts → rr ≡ ss ++ s ∷ [] → all_led rr ≡ ts ++ led ts s ∷ []
 led_next ss rr s ts v e = ap all_led e ∙ led_push [] ss s ∙ ap (λ us. us ++ led us s ∷ []) v
+
+-- the first steps lead to the first terms
+pub behind_take : (n k : ℕ) (ss : List Step) → AreBehind n ss → AreBehind n (take k ss)
+behind_take n zero ss h = tt
+behind_take n (suc k) [] h = tt
+behind_take n (suc k) (s ∷ ss) h = (h.0, behind_take (n + 1) k ss h.1)
+
+led_take : (ts : List Tree) (k : ℕ) (ss : List Step) → led_from ts (take k ss) ≡ take (length ts + k) (led_from ts ss)
+led_take ts zero ss = let f = led_front ts ss in sym (ap (take (length ts + 0)) f.1 ∙ take_at ts f.0 (length ts + 0) (omega arith))
+led_take ts (suc k) [] = sym (take_all (length ts + suc k) ts (omega arith))
+led_take ts (suc k) (s ∷ ss) = led_take (ts ++ led ts s ∷ []) k ss
+    ∙ ap (λ n. take n (led_from (ts ++ led ts s ∷ []) ss)) (omega (arith, length_push ts (led ts s)))
+
+pub led_fewer : (ss rr : List Step) (k : ℕ) (ts : List Tree) → all_led ss ≡ ts → rr ≡ take k ss → all_led rr ≡ take k ts
+led_fewer ss rr k ts v e = ap all_led e ∙ led_take [] k ss ∙ ap (λ n. take n (all_led ss)) (none_before k) ∙ ap (take k) v
+  where
+    none_before : (n : ℕ) → length {A = Tree} [] + n ≡ n
+    none_before n = omega arith
 
 -- what is read of a step
 pub within_behind : (ss : List Step) (i p : ℕ) (w : Way) (s : Step) → AreBehind 0 ss → i < length ss → s ≡ get_or ss i s → s ≡ Within p w → p < i

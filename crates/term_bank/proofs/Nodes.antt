@@ -1,5 +1,6 @@
 -- A node's term depends on the terms of its numbers alone.
-use Rattle.std.proofs.Common.{◌≡◌, refl, sym, ap, ◌∙◌, ℕ, ℤ, Vec, ◌<◌, ◌≤◌, List, [], ◌∷◌, ◌++◌, map, length, arith}
+use Rattle.std.proofs.Common.{◌≡◌, refl, sym, ap, ◌∙◌, ℕ, ℤ, Vec, ◌<◌, ◌≤◌, true, List, [], ◌∷◌, ◌++◌, map, length, take, arith}
+use Rattle.std.proofs.lemmas.List.{get_or-take}
 use Rattle.std.specs.List.{AllByRecursion}
 use Rattle.std.specs.declared.alloc.Global.{Global}
 use Rattle.logic_core.specs.Tree.{Tree, num, truth, free, bound, linear, mul, read, write, choose, call, negation, all, some, equal, at_most, for_all, exists}
@@ -50,3 +51,7 @@ module _ (f g : ℕ → Tree) (n : ℕ) (same : (j : ℕ) → j < n → f j ≡ 
 -- a node stays one of its term as terms join the end
 pub node_kept : (ts us : List Tree) (i : ℕ) (m : Node) → Begins ts us → i < length ts → IsNodeAt ts i m → IsNodeAt us i m
 node_kept ts us i m b l h = (same_tree (at us) (at ts) i (λ j w. begins_at ts us j b (omega (arith, w, l))) m h.1 ∙ h.0 ∙ sym (begins_at ts us i b l), h.1)
+
+-- and as terms behind it go
+pub node_before : (ts : List Tree) (n i : ℕ) (m : Node) → i < n → IsNodeAt ts i m → IsNodeAt (take n ts) i m
+node_before ts n i m l h = (same_tree (at (take n ts)) (at ts) i (λ j w. get_or-take n ts j (truth true) (omega (arith, w, l))) m h.1 ∙ h.0 ∙ sym (get_or-take n ts i (truth true) l), h.1)

@@ -1,6 +1,6 @@
 -- Numbers of terms: the first is the only one, and it stays as terms join the end.
-use Rattle.std.proofs.Common.{◌≡◌, refl, sym, ap, subst, ◌∙◌, ℕ, zero, suc, ◌+◌, ◌<◌, ◌≤◌, Bool, true, false, cond, List, [], ◌∷◌, ◌++◌, map, length, get_or, Option, Some, None, option_map, is_some, slice_get, arith}
-use Rattle.std.proofs.lemmas.List.{append-nil, append_assoc, length-append, length_push, get_or_append_left, get_or_push}
+use Rattle.std.proofs.Common.{◌≡◌, refl, sym, ap, subst, ◌∙◌, ℕ, zero, suc, ◌+◌, ◌<◌, ◌≤◌, Bool, true, false, cond, List, [], ◌∷◌, ◌++◌, map, length, take, get_or, Option, Some, None, option_map, is_some, slice_get, arith}
+use Rattle.std.proofs.lemmas.List.{append-nil, append_assoc, length-append, length_push, get_or_append_left, get_or_push, take_at}
 use Rattle.logic_core.specs.Tree.{Tree, num, truth, free, bound, linear, mul, read, write, choose, call, negation, all, some, equal, at_most, for_all, exists, Trees, no_trees, tree, Parts, no_parts, part, Patterns, no_patterns, pattern}
 use Rattle.logic_core.specs.Same.{same_term}
 use Rattle.logic_core.proofs.SameTerm.{same_is_equal, same_as_itself}
@@ -34,6 +34,17 @@ number_front (u ∷ ts) us t i h = by (same_term t u) (number_of ts t) (number_f
     by false (Some j) r g = ap (option_map suc) (r j refl) ∙ g
     by false None r g = absurd (cc)
 
+-- and among the terms up to it
+pub number_take : (ts : List Tree) (n : ℕ) (t : Tree) (i : ℕ) → number_of ts t ≡ Some i → i < n → number_of (take n ts) t ≡ Some i
+number_take [] n t i h l = absurd (cc)
+number_take (u ∷ ts) zero t i h l = absurd (omega (arith, l))
+number_take (u ∷ ts) (suc n) t i h l = by (same_term t u) (number_of ts t) (number_take ts n t) h
+  where
+    by : (b : Bool) (o : Option ℕ) → ((j : ℕ) → o ≡ Some j → j < n → number_of (take n ts) t ≡ Some j) → cond b (Some 0) (option_map suc o) ≡ Some i → cond b (Some 0) (option_map suc (number_of (take n ts) t)) ≡ Some i
+    by true o r g = g
+    by false (Some j) r g = let one : i ≡ suc j = cc in ap (option_map suc) (r j refl (omega (arith, one, l))) ∙ g
+    by false None r g = absurd (cc)
+
 -- a new term has the next number
 pub number_push : (ts : List Tree) (t : Tree) → number_of ts t ≡ None → number_of (ts ++ t ∷ []) t ≡ Some (length ts)
 number_push [] t h = ap (λ b. cond b (Some 0) None) (same_as_itself t)
@@ -53,6 +64,10 @@ begins_equal ts us e = ([], e ∙ sym (append-nil ts))
 
 pub begins_then : (ts us vs : List Tree) → Begins ts us → Begins us vs → Begins ts vs
 begins_then ts us vs h g = (h.0 ++ g.0, g.1 ∙ ap (λ xs. xs ++ g.0) h.1 ∙ append_assoc ts h.0 g.0)
+
+-- as many of the terms as there were are those that were there
+pub begins_back : (ts us vs : List Tree) (n : ℕ) → Begins ts us → n ≡ length ts → vs ≡ take n us → vs ≡ ts
+begins_back ts us vs n h e q = q ∙ ap (take n) h.1 ∙ take_at ts h.0 n (sym e)
 
 pub begins_length : (ts us : List Tree) → Begins ts us → length ts ≤ length us
 begins_length ts us h = omega (arith, ap length h.1, length-append ts h.0)
@@ -130,13 +145,6 @@ begins_whole ts t = one_more ts (with_inner ts t) t (begins_inner ts t)
 -- what comes when the list of a front goes on
 pub begins_more : (ts us : List Tree) (t : Tree) → Begins ts us → Begins ts (with_term us t)
 begins_more ts us t h = one_more ts us t h
-
-pub begins_interned : (ts : List Tree) (t : Tree) → Begins ts (interned ts t)
-begins_interned ts t = by (is_some (number_of ts t))
-  where
-    by : (b : Bool) → Begins ts (cond b ts (with_whole ts t))
-    by true = begins_same ts
-    by false = begins_whole ts t
 
 -- after a place is taken
 pub stands_last : (ts us : List Tree) (t : Tree) (p : ℕ) → us ≡ ts ++ t ∷ [] → p ≡ length ts → (p < length us) × (at us p ≡ t)

@@ -1,10 +1,10 @@
 -- One more entry in a table, and more places.
-use Rattle.std.proofs.Common.{◌≡◌, refl, sym, ap, subst, ◌∙◌, ℕ, zero, suc, ◌+◌, ◌<◌, ◌≤◌, true, List, [], ◌∷◌, ◌++◌, map, length, get_or, slice_index_or, Option, Some, None, arith}
+use Rattle.std.proofs.Common.{◌≡◌, refl, sym, ap, subst, ◌∙◌, ℕ, zero, suc, ◌+◌, ◌<◌, ◌≤◌, true, List, [], ◌∷◌, ◌++◌, map, length, take, drop, take-append-drop, get_or, slice_index_or, Option, Some, None, arith}
 use mathlib.Core.Logic.{◌⊎◌, inl, inr}
 use Rattle.std.specs.List.{All, AllByRecursion}
 use Rattle.std.proofs.lemmas.Bool.{cases_lt}
-use Rattle.std.proofs.lemmas.List.{map-append, length-map, length-append, length_push, get_or_append_left, get_or_push}
-use Rattle.std.proofs.lemmas.List.Elements.{All-head, All-tail, All-push, All-weaker, All-get_or}
+use Rattle.std.proofs.lemmas.List.{map-append, length-map, length-append, length_push, get_or_append_left, get_or_push, get_or-take, length-take, length-take-le, take-map}
+use Rattle.std.proofs.lemmas.List.Elements.{All-head, All-tail, All-push, All-more, All-same, All-take, All-weaker, All-get_or}
 use Rattle.logic_core.specs.Tree.{Tree, truth}
 use Rattle.term_bank.specs.declared.table.Entry.{Entry}
 use Rattle.term_bank.specs.declared.node.Node.{Node}
@@ -13,8 +13,8 @@ use Rattle.term_bank.specs.Node.{tree_over, numbers_in}
 use Rattle.term_bank.specs.Hash.{hash_of}
 use Rattle.term_bank.specs.Tabled.{Tabled}
 use Rattle.term_bank.specs.Table.{terms_at, IsNodeAt, IsTable}
-use Rattle.term_bank.proofs.Numbers.{number_front, number_push, begins_at}
-use Rattle.term_bank.proofs.Nodes.{node_kept, same_tree}
+use Rattle.term_bank.proofs.Numbers.{number_front, number_push, number_take, begins_at}
+use Rattle.term_bank.proofs.Nodes.{node_kept, node_before, same_tree}
 
 -- the terms of entries stay as places join the end
 pub terms_kept : (ps more : List Tree) (es : List Entry) → All (λ (e : Entry). e.place < length ps) es → terms_at (ps ++ more) es ≡ terms_at ps es
@@ -114,3 +114,35 @@ seen_entry d ps es fs hs gs e h v table = subst
     (λ (x : Tabled). e.place < length x.standing → tree_over (at x.terms) e.node ≡ at x.standing e.place → AllByRecursion (λ j. j < length x.terms) (numbers_in e.node)
     → number_of x.terms (at x.standing e.place) ≡ None → h ≡ hash_of (at x.standing e.place) → fs ≡ es ++ e ∷ [] → gs ≡ hs ++ h ∷ [] → IsTable ps fs gs)
     v (λ w made lower new eh ef eg. next_entry ps es fs hs gs e h table w made lower new eh ef eg)
+
+-- the first entries stand at places at which all do
+pub first_within : (es fs gs : List Entry) (n k : ℕ) → All (λ (e : Entry). e.place < k) es → fs ≡ take n es → gs ≡ fs → All (λ (e : Entry). e.place < k) gs
+first_within es fs gs n k h ef eg = All-same (λ (e : Entry). e.place < k) gs (take n es) (eg ∙ ef) (All-take (λ (e : Entry). e.place < k) n es h)
+
+-- places that reach one more entry
+pub reached_more : (es : List Entry) (i n k : ℕ) (e : Entry) → i < length es → e ≡ get_or es i e → All (λ (d : Entry). d.place < n) (take i es) → n ≤ k → e.place < k → All (λ (d : Entry). d.place < k) (take (i + 1) es)
+reached_more es i n k e l q h le w = All-more (λ (d : Entry). d.place < k) es i e l (All-weaker (λ (d : Entry). d.place < n) (λ (d : Entry). d.place < k) (λ d v. omega (arith, v, le)) (take i es) h) (subst (λ (d : Entry). d.place < k) q w)
+
+-- the first entries, and places that reach theirs
+module _ (ps qs : List Tree) (es fs : List Entry) (hs gs : List ℕ) (n m : ℕ) (h : IsTable ps es hs) (ef : fs ≡ take n es) (eg : gs ≡ take n hs) (eq : qs ≡ take m ps) (le : m ≤ length ps) (each : All (λ (e : Entry). e.place < m) fs) where
+  reach : All (λ (e : Entry). e.place < length qs) fs
+  reach = subst (λ k. All (λ (e : Entry). e.place < k) fs) (sym (ap length eq ∙ length-take-le m ps le)) each
+
+  pub terms_fewer : terms_at qs fs ≡ take n (terms_at ps es)
+  terms_fewer = sym (terms_kept qs (drop m ps) fs reach) ∙ ap (λ xs. terms_at xs fs) (ap (λ xs. xs ++ drop m ps) eq ∙ take-append-drop m ps)
+      ∙ ap (terms_at ps) ef ∙ sym (take-map (λ (e : Entry). at ps e.place) n es)
+
+  among : (i : ℕ) → i < length fs → (i < n) × (i < length es)
+  among i l = let k : length fs ≡ length (take n es) = ap length ef in (omega (arith, l, k, length-take n es), omega (arith, l, k, length-take n es))
+
+  pub fewer_entries : IsTable qs fs gs
+  fewer_entries = record {
+    within = reach;
+    built = λ i d l. let a = among i l in
+        subst (λ ts. IsNodeAt ts i (slice_index_or fs i d).node) (sym terms_fewer) (subst (λ (x : Entry). IsNodeAt (take n (terms_at ps es)) i x.node) (sym (ap (λ xs. get_or xs i d) ef ∙ get_or-take n es i d a.0))
+        (node_before (terms_at ps es) n i (get_or es i d).node a.0 (h.built i d a.1)));
+    apart = λ i l. let a = among i l in
+        subst (λ ts. number_of ts (at ts i) ≡ Some i) (sym terms_fewer)
+        (ap (number_of (take n (terms_at ps es))) (get_or-take n (terms_at ps es) i (truth true) a.0) ∙ number_take (terms_at ps es) n (at (terms_at ps es) i) i (h.apart i a.1) a.0);
+    hashed = eg ∙ ap (take n) h.hashed ∙ take-map hash_of n (terms_at ps es) ∙ ap (map hash_of) (sym terms_fewer);
+  }

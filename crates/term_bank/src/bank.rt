@@ -47,21 +47,25 @@ impl Bank {
     }
 
     /// The number of the term. A new term joins the bank behind the terms in it that are new.
-    /// Without memory these are so far as they were numbered, and all others as before.
-    #[tactic(auto, using(crate::proofs::Numbers::interned_there, crate::proofs::Numbers::interned_new, crate::proofs::Numbers::begins_interned, crate::proofs::Numbers::begins_same))]
+    /// Without memory the bank is as before.
+    #[tactic(auto, using(crate::proofs::Numbers::interned_there, crate::proofs::Numbers::interned_new, crate::proofs::Numbers::begins_same, crate::proofs::Numbers::begins_back))]
     pub fn intern(&mut self, term: &Term) -> Result<TermId, AllocError>
         ensures terms { OnOk result (self.new ≡ interned self.old term.now) }
         ensures number { IfOk result (λ i. number_of self.new term.now ≡ Some i) }
         ensures kept { Begins self.old self.new }
-        ensures memory { OnErr result (Begins self.new (interned self.old term.now)) }
+        ensures memory { OnErr result (self.new ≡ self.old) }
     {
         if let Some(found) = self.table.find(term) {
             return Ok(found);
         }
-        let copy = term.copy(self.table.alloc())?;
-        let place = self.table.place_whole(copy)?;
-        let id = self.table.number(term, place)?;
-        Ok(id)
+        let before = self.table.len();
+        match self.table.number_whole(term) {
+            Ok(id) => Ok(id),
+            Err(error) => {
+                self.table.truncate(before);
+                Err(error)
+            }
+        }
     }
 
     /// The term of a number.

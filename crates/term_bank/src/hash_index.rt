@@ -1,5 +1,6 @@
 // Numbers in order, as hashes are, and where each stands: from its last place back to its first.
-ghost use Rattle.std.specs.Prelude.{◌≡◌, ◌<◌, [], ◌∷◌, ◌++◌, nat_eq, length, take, get_or, OnOk, OnErr};
+ghost use Rattle.std.specs.Prelude.{◌≡◌, ◌<◌, ◌-◌, ℕ, [], ◌∷◌, ◌++◌, nat_eq, cond, length, take, get_or, IsSome, OnOk, OnErr};
+ghost use Rattle.std.specs.Map.{lookup};
 ghost use Rattle.std.specs.Vec.{vec_len, vec_capacity};
 ghost use Rattle.indexmap.specs.IndexMap.{spare, insert_entry};
 ghost use Rattle.term_bank.specs.LastAt.{last_at};
@@ -44,6 +45,21 @@ fn put_earlier(earlier: &mut Vec<Option<usize>>, place: Option<usize>)
     earlier.push(place).unwrap();
 }
 
+// Sets the last place of a hash back to the one before it, and forgets a hash that has none before.
+fn set_back(latest: &mut IndexMap<u64, usize>, hash: u64, before: Option<usize>)
+    requires { IsSome (lookup (nat_eq hash) latest.old.entries) }
+    ensures { (n : ℕ) → lookup (nat_eq n) latest.new.entries ≡ cond (nat_eq hash n) before (lookup (nat_eq n) latest.old.entries) }
+{
+    match before {
+        Some(place) => {
+            latest.insert(hash, place).unwrap();
+        }
+        None => {
+            latest.swap_remove(&hash);
+        }
+    }
+}
+
 impl HashIndex {
     /// No hashes.
     pub fn new(alloc: Global) -> HashIndex
@@ -84,5 +100,31 @@ impl HashIndex {
         put_earlier(&mut self.earlier, before);
         put_latest(&mut self.latest, hash, place);
         Ok(())
+    }
+
+    // How many hashes there are.
+    fn len(&self) -> usize
+        ensures { result ≡ length self.now }
+    {
+        self.hashes.len()
+    }
+
+    // The last hash goes.
+    fn pop(&mut self)
+        requires { 0 < length self.old }
+        ensures { self.new ≡ take (length self.old - 1) self.old }
+    {
+        let hash = self.hashes.pop().unwrap();
+        let before = self.earlier.pop().unwrap();
+        set_back(&mut self.latest, hash, before);
+    }
+
+    /// The first hashes stay, and all others go.
+    pub fn truncate(&mut self, len: usize)
+        ensures { self.new ≡ take len self.old }
+    {
+        while self.len() > len {
+            self.pop();
+        }
     }
 }

@@ -1,7 +1,7 @@
 // Numbers for the terms in a term, the parts before the whole.
-ghost use Rattle.std.specs.Prelude.{◌≡◌, ◌<◌, length};
+ghost use Rattle.std.specs.Prelude.{◌≡◌, ◌<◌, length, OnOk, IfOk};
 ghost use Rattle.logic_core.specs.View.{trees_of, patterns_of};
-ghost use Rattle.term_bank.specs.Numbered.{at, with_whole, with_each, with_patterns, IsNumber, AreNumbers, AreLists};
+ghost use Rattle.term_bank.specs.Numbered.{at, with_whole, with_each, with_patterns, Begins, IsNumber, AreNumbers, AreLists};
 ghost use Rattle.term_bank.specs.Numbering.{Extends};
 ghost use Rattle.term_bank.specs.Standing.{triggers, row_of};
 
@@ -13,6 +13,18 @@ use logic_core::Term;
 use std::alloc::AllocError;
 
 impl Table {
+    /// The number of a term, which gets a place of its own. The terms in it get numbers before it.
+    pub fn number_whole(&mut self, term: &Term) -> Result<TermId, AllocError>
+        ensures terms { OnOk result (self.new.terms ≡ with_whole self.old.terms term.now) }
+        ensures number { IfOk result (λ i. IsNumber self.new.terms i term.now) }
+        ensures kept { Begins self.old.terms self.new.terms }
+    {
+        let copy = term.copy(self.alloc())?;
+        let place = self.place_whole(copy)?;
+        let id = self.number(term, place)?;
+        Ok(id)
+    }
+
     /// The number of a term that stands at a place. The terms in it get numbers before it.
     #[cycle(number)]
     #[tactic(none)]

@@ -1,6 +1,6 @@
 // Places of terms: a term that is kept whole, or a part of the term at an earlier place. So each
 // term is kept once, however many terms in it have places.
-ghost use Rattle.std.specs.Prelude.{◌≡◌, ◌<◌, [], ◌∷◌, ◌++◌, length, map, get_or, OnOk, OnErr, IfOk};
+ghost use Rattle.std.specs.Prelude.{◌≡◌, ◌<◌, [], ◌∷◌, ◌++◌, length, take, map, get_or, OnOk, OnErr, IfOk};
 ghost use Rattle.term_bank.specs.Numbered.{at};
 ghost use Rattle.term_bank.specs.Standing.{direct, triggers, row_of, part_or_self};
 
@@ -197,6 +197,20 @@ impl Places {
         Places {
             steps: Vec::new(alloc),
         }
+    }
+
+    /// The number of places.
+    pub fn len(&self) -> usize
+        ensures { result ≡ length self.now }
+    {
+        self.steps.len()
+    }
+
+    /// The first places stay, and all others go.
+    pub fn truncate(&mut self, len: usize)
+        ensures { self.new ≡ take len self.old }
+    {
+        self.steps.truncate(len);
     }
 
     /// The term at a place.

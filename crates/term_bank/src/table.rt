@@ -1,7 +1,7 @@
 // Distinct terms by number, each with its node, and the places at which they stand.
-ghost use Rattle.std.specs.Prelude.{◌≡◌, ◌<◌, [], ◌∷◌, ◌++◌, None, Some, length, IfSome, IfOk, OnOk, OnErr};
+ghost use Rattle.std.specs.Prelude.{◌≡◌, ◌<◌, ◌≤◌, ℕ, [], ◌∷◌, ◌++◌, None, Some, length, take, IfSome, IfOk, OnOk, OnErr};
 ghost use Rattle.std.specs.Vec.{vec_len, vec_capacity};
-ghost use Rattle.std.specs.List.{AllByRecursion};
+ghost use Rattle.std.specs.List.{All, AllByRecursion};
 ghost use Rattle.term_bank.specs.Numbered.{at, number_of, with_term, Begins, IsNumber};
 ghost use Rattle.term_bank.specs.Node.{tree_over, numbers_in};
 ghost use Rattle.term_bank.specs.Standing.{part_or_self};
@@ -53,6 +53,21 @@ fn put_entry(entries: &mut Vec<Entry>, entry: Entry)
     ensures { entries.new.items ≡ entries.old.items ++ entry ∷ [] }
 {
     entries.push(entry).unwrap();
+}
+
+// How many of so many places, the first ones, have the place of each entry among them.
+fn reached(entries: &[Entry], places: usize) -> usize
+    requires { All (λ e. e.place < places) entries.now }
+    ensures each { All (λ e. e.place < result) entries.now }
+    ensures least { (n : ℕ) → All (λ e. e.place < n) entries.now → result ≤ n }
+{
+    let mut count = 0;
+    for entry in entries {
+        if count <= entry.place {
+            count = entry.place + 1;
+        }
+    }
+    count
 }
 
 // Lets a node go.
@@ -152,6 +167,16 @@ impl Table {
         self.index.push(hash)?;
         put_entry(&mut self.entries, Entry { node, place });
         Ok(())
+    }
+
+    /// The first terms stay, with the places up to the last of theirs, and all others go.
+    pub fn truncate(&mut self, len: usize)
+        ensures { self.new.terms ≡ take len self.old.terms }
+    {
+        self.entries.truncate(len);
+        self.index.truncate(len);
+        let places = reached(&self.entries, self.places.len());
+        self.places.truncate(places);
     }
 
     /// The number of the term at a place, of which this is a node. A new term has the next number.
