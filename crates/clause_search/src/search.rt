@@ -10,7 +10,7 @@ ghost use Rattle.numbered_branches.specs.Branches.{branch_at, IsBranchOver};
 use crate::first::first_branch;
 use crate::run::run;
 use logic_core::copy::copy_sorts;
-use logic_core::def::{Signature, copy_defs};
+use logic_core::def::Signature;
 use logic_core::fault::NormalFault;
 use numbered_branches::branch::Branch;
 use numbered_facts::Store;
@@ -24,12 +24,11 @@ use tableau::search::found;
 use tableau::settled::Settled;
 
 /// A store without terms, over the signature.
-fn store_over(alloc: Global, signature: &Signature) -> Result<Store, AllocError>
+fn store_over<'a>(alloc: Global, signature: &'a Signature) -> Result<Store<'a>, AllocError>
     ensures { IfOk result (λ s. s ≡ record { terms = []; vars = signature.now.vars; defs = signature.now.defs }) }
 {
     let vars = copy_sorts(alloc, signature.vars())?;
-    let defs = copy_defs(alloc, signature.defs())?;
-    Ok(Store::new(Terms::new(alloc), vars, defs))
+    Ok(Store::new(Terms::new(alloc), vars, signature.defs()))
 }
 
 /// Searches from one branch, by number.

@@ -22,14 +22,14 @@ use numbered_terms::replace::replaced;
 use std::alloc::AllocError;
 use term_bank::TermId;
 
-impl Store {
+impl<'a> Store<'a> {
     /// The normal form of a term. Wide exactly where a number leaves 128 bits.
     pub fn normal(&mut self, id: TermId) -> Result<TermId, NormalFault>
         requires { id < length self.old.terms }
         ensures grows { Grows self.old self.new }
         ensures gives { GivesAt self.new.terms result (normal self.old.vars self.old.defs [] (at self.old.terms id)) }
     {
-        normal_over(&mut self.terms, &mut self.forms, &self.vars, &self.defs, id)
+        normal_over(&mut self.terms, &mut self.forms, &self.vars, self.defs, id)
     }
 
     /// The term with every occurrence of the old one, inside quantifiers and triggers too, replaced by

@@ -28,7 +28,7 @@ pub fn is_atom(terms: &Terms, id: TermId) -> bool
     }
 }
 
-impl Store {
+impl<'a> Store<'a> {
     /// The atoms that occur in a term, inside quantifiers and triggers too, each once.
     #[tactic(auto, using(crate::proofs::Growing::same))]
     pub fn atoms(&mut self, id: TermId) -> Result<Vec<TermId>, AllocError>

@@ -82,7 +82,7 @@ fn at_least_zero(terms: &mut Terms, sum: NumberedSum) -> Result<TermId, AllocErr
     zero_at_most(terms, side)
 }
 
-impl Store {
+impl<'a> Store<'a> {
     /// The normal fact that a sum is at least zero.
     pub fn at_least_zero(&mut self, sum: NumberedSum) -> Result<TermId, AllocError>
         requires { AtomsBelow (length self.old.terms) sum.parts.items }

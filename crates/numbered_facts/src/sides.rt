@@ -17,7 +17,7 @@ use logic_core::Sort;
 use std::alloc::AllocError;
 use term_bank::TermId;
 
-impl Store {
+impl<'a> Store<'a> {
     /// The left side of a fact, by what the fact says that it is equal to. None exactly where the fact
     /// isn't oriented.
     #[tactic(auto, using(crate::proofs::Growing::same))]
@@ -31,7 +31,7 @@ impl Store {
             &mut self.lefts,
             &mut self.sorts,
             &self.vars,
-            &self.defs,
+            self.defs,
             fact,
         )
     }
@@ -54,7 +54,7 @@ impl Store {
         ensures grows { Grows self.old self.new }
         ensures gives { IfOk result (λ o. o ≡ sort_of self.old.vars self.old.defs [] (at self.old.terms id)) }
     {
-        find_sort(&self.terms, &mut self.sorts, &self.vars, &self.defs, id)?;
+        find_sort(&self.terms, &mut self.sorts, &self.vars, self.defs, id)?;
         copy_sort(self.terms.alloc(), sort_at(&self.sorts, id))
     }
 
@@ -65,7 +65,7 @@ impl Store {
         ensures grows { Grows self.old self.new }
         ensures is { IfOk result (λ b. b ≡ is boolean (sort_of self.old.vars self.old.defs [] (at self.old.terms id))) }
     {
-        find_sort(&self.terms, &mut self.sorts, &self.vars, &self.defs, id)?;
+        find_sort(&self.terms, &mut self.sorts, &self.vars, self.defs, id)?;
         Ok(is_boolean(sort_at(&self.sorts, id)))
     }
 
@@ -76,7 +76,7 @@ impl Store {
         ensures grows { Grows self.old self.new }
         ensures is { IfOk result (λ b. b ≡ is_map (sort_of self.old.vars self.old.defs [] (at self.old.terms id))) }
     {
-        find_sort(&self.terms, &mut self.sorts, &self.vars, &self.defs, id)?;
+        find_sort(&self.terms, &mut self.sorts, &self.vars, self.defs, id)?;
         Ok(is_map(sort_at(&self.sorts, id)))
     }
 }

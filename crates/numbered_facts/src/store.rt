@@ -21,10 +21,10 @@ use term_bank::{Node, TermId};
 /// Terms by number over variables of these sorts and over definitions. A number that was given keeps
 /// its term.
 #[derive(Drop)]
-pub struct Store {
+pub struct Store<'a> {
     pub(crate) terms: Terms,
     pub(crate) vars: Vec<Sort>,
-    pub(crate) defs: Vec<Def>,
+    pub(crate) defs: &'a [Def],
     pub(crate) forms: Slots<TermId>,
     pub(crate) lefts: Slots<Option<TermId>>,
     pub(crate) negations: Slots<Option<TermId>>,
@@ -34,7 +34,7 @@ pub struct Store {
     pub(crate) sorts: Slots<Option<Sort>>,
 }
 
-impl Model for Store {
+impl<'a> Model for Store<'a> {
     ghost use Rattle.numbered_terms.specs.Stored.{Numbered};
     ghost use Rattle.numbered_facts.specs.Codes.{coded_numbered};
 
@@ -44,15 +44,15 @@ impl Model for Store {
 
     ghost use Rattle.numbered_facts.specs.Memos.{AreMemos};
 
-    ghost view = { λ a. record { terms = a.terms; vars = a.vars.items; defs = a.defs.items } };
+    ghost view = { λ a. record { terms = a.terms; vars = a.vars.items; defs = a.defs.now } };
 
-    ghost invariant = { λ a. AreMemos (record { terms = a.terms; vars = a.vars.items; defs = a.defs.items }) a.forms.slots.items a.lefts.slots.items a.negations.slots.items a.atoms.slots.items a.standing.slots.items a.bodies.slots.items a.sorts.slots.items };
+    ghost invariant = { λ a. AreMemos (record { terms = a.terms; vars = a.vars.items; defs = a.defs.now }) a.forms.slots.items a.lefts.slots.items a.negations.slots.items a.atoms.slots.items a.standing.slots.items a.bodies.slots.items a.sorts.slots.items };
 }
 
-impl Store {
+impl<'a> Store<'a> {
     /// These terms, variables and definitions.
-    pub fn new(terms: Terms, vars: Vec<Sort>, defs: Vec<Def>) -> Store
-        ensures { result ≡ record { terms = terms; vars = vars.items; defs = defs.items } }
+    pub fn new(terms: Terms, vars: Vec<Sort>, defs: &'a [Def]) -> Store<'a>
+        ensures { result ≡ record { terms = terms; vars = vars.items; defs = defs.now } }
     {
         let alloc = terms.alloc();
         Store {
@@ -92,7 +92,7 @@ impl Store {
     pub fn defs(&self) -> &[Def]
         ensures { result.now ≡ self.now.defs }
     {
-        &self.defs
+        self.defs
     }
 
     /// From now on the variables have these sorts.
@@ -133,6 +133,6 @@ impl Store {
         ensures grows { Grows self.old self.new }
         ensures gives { IfOk result (λ o. StandsFor self.new.terms o (option_map (λ d. d.body) (slice_get self.old.defs number))) }
     {
-        body(&mut self.terms, &mut self.bodies, &self.defs, number)
+        body(&mut self.terms, &mut self.bodies, self.defs, number)
     }
 }

@@ -8,6 +8,7 @@ pub mod WithinTerms
 pub mod LeftSides
 pub mod ListedFacts
 pub mod LeftFacts
+pub mod Around
 pub mod Instantiated
 pub mod Attempted
 pub mod RestRewritten

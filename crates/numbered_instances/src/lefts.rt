@@ -1,5 +1,5 @@
 // The oldest oriented fact whose left side occurs in another fact, by number.
-ghost use Rattle.std.specs.Prelude.{◌≡◌, ◌<◌, ℕ, Some, length, map, slice_get, option_map, IfOk, IfSome, OnOk};
+ghost use Rattle.std.specs.Prelude.{◌≡◌, ◌<◌, ◌≤◌, ℕ, Some, length, take, drop, map, slice_get, option_map, IfOk, IfSome, OnOk};
 ghost use Rattle.std.specs.List.{AllByRecursion, list_any};
 ghost use Rattle.tableau_branch.specs.Branch.{first_from, oldest};
 ghost use Rattle.tableau_branch.specs.Replacing.{rewrites};
@@ -64,14 +64,55 @@ fn occurs_in_another(
     Ok(false)
 }
 
+// The facts from a place on.
+fn behind(facts: &[Fact], place: usize) -> &[Fact]
+    requires { place ≤ length facts.now }
+    ensures { result.now ≡ drop place facts.now }
+{
+    &facts[place..]
+}
+
+// The facts before a place.
+fn front(facts: &[Fact], place: usize) -> &[Fact]
+    requires { place ≤ length facts.now }
+    ensures { result.now ≡ take place facts.now }
+{
+    &facts[..place]
+}
+
+// Whether the term occurs in another fact than that of the number in the proof. Those from a place on
+// are looked at first.
+fn occurs_around(
+    store: &mut Store,
+    number: u64,
+    left: TermId,
+    facts: &[Fact],
+    place: usize,
+) -> Result<bool, AllocError>
+    requires left { left < length store.old.terms }
+    requires facts { AllByRecursion (IsFactBelow (length store.old.terms)) facts.now }
+    requires place { place ≤ length facts.now }
+    ensures grows { Grows store.old store.new }
+    ensures gives { IfOk result (λ b. b ≡ list_any (rewrites number (at store.old.terms left)) (map (fact_at store.old.terms) facts.now)) }
+{
+    let rest = behind(facts, place);
+    if occurs_in_another(store, number, left, rest)? {
+        return Ok(true);
+    }
+    occurs_in_another(store, number, left, front(facts, place))
+}
+
 // The left side of an oriented fact that occurs in another of these facts, of which it is one. An atom
-// that occurs in the fact alone isn't looked for.
+// that occurs in the fact alone isn't looked for. The others are looked for from a place on, and then
+// before it.
 fn left_in_another(
     store: &mut Store,
     shared: &Shared,
     facts: &[Fact],
+    place: usize,
     fact: &Fact,
 ) -> Result<Option<TermId>, AllocError>
+    requires place { place ≤ length facts.now }
     requires facts { AllByRecursion (IsFactBelow (length store.old.terms)) facts.now }
     requires there { (i : ℕ) × (slice_get facts.now i ≡ Some fact.now) }
     requires shared { AreShared store.old.terms (map (λ f. f.term) facts.now) shared.now.counts.items }
@@ -85,7 +126,7 @@ fn left_in_another(
     if shared.is_alone(left) {
         return Ok(None);
     }
-    if occurs_in_another(store, fact.number, left, facts)? {
+    if occurs_around(store, fact.number, left, facts, place)? {
         return Ok(Some(left));
     }
     Ok(None)
@@ -104,7 +145,7 @@ fn listed_left(
     ensures over { IfOk result (λ o. IfSome o (IsLeftOver store.new.terms)) }
 {
     for (at, fact) in facts.iter().enumerate() {
-        if let Some(term) = left_in_another(store, shared, facts, fact)? {
+        if let Some(term) = left_in_another(store, shared, facts, at, fact)? {
             return Ok(Some(Left {
                 at,
                 fact: *fact,

@@ -1,17 +1,17 @@
 -- Sizes and reaches of nodes' terms, and a store's that grows.
-use Rattle.std.proofs.Common.{◌≡◌, refl, sym, ap, subst, ◌∙◌, ℕ, ℤ, Vec, ◌+◌, ◌<◌, max, Bool, true, false, cond, is_some, List, [], ◌∷◌, ◌++◌, map, length, get_or, arith}
+use Rattle.std.proofs.Common.{◌≡◌, refl, sym, ap, ◌∙◌, ℕ, ℤ, Vec, ◌+◌, ◌<◌, max, true, List, [], ◌∷◌, ◌++◌, map, length, get_or, arith}
 use Rattle.std.specs.List.{AllByRecursion}
 use Rattle.std.specs.declared.alloc.Global.{Global}
-use Rattle.std.proofs.lemmas.List.{get_or-map, map_push, length_push}
+use Rattle.std.proofs.lemmas.List.{get_or-map, map_push}
 use Rattle.logic_core.specs.Tree.{Tree, truth, nodes, trees_nodes, parts_nodes, patterns_nodes}
 use Rattle.logic_core.specs.Size.{capped}
 use Rattle.logic_core.specs.View.{trees_of, parts_of, patterns_of}
 use Rattle.logic_core.proofs.Mentioned.{all_left, all_right}
 use Rattle.term_bank.specs.declared.node.Node.{Node}
 use Rattle.term_bank.specs.declared.node.Node.TheVariants.{Num, Truth, Free, Bound, Sum, Mul, Read, Write, If, Call, Not, And, Or, Eq, Le, ForAll, Exists}
-use Rattle.term_bank.specs.Numbered.{at, number_of, with_term, Begins, IsNumber}
+use Rattle.term_bank.specs.Numbered.{at, IsNumber}
 use Rattle.term_bank.specs.Node.{tree_over, in_lists, numbers_in}
-use Rattle.term_bank.proofs.Numbers.{number_is, begins_term}
+use Rattle.term_bank.proofs.Numbers.{number_is}
 use Rattle.numbered_terms.specs.At.{IsAt}
 use Rattle.numbered_terms.specs.Reach.{reach, reach_each, reach_parts, reach_patterns}
 use Rattle.numbered_terms.specs.Measures.{sum_over, most_over, node_size, node_reach, size_of, AreMeasured}
@@ -97,22 +97,11 @@ size_kept ts sizes i e l = ap (λ xs. get_or xs i 0) e ∙ get_or-map size_of ts
 pub reach_kept : (ts : List Tree) (reaches : List ℕ) (i : ℕ) → reaches ≡ map reach ts → i < length ts → get_or reaches i 0 ≡ reach (at ts i)
 reach_kept ts reaches i e l = ap (λ xs. get_or xs i 0) e ∙ get_or-map reach ts i (truth true) 0 l
 
--- a term that joins the end makes the list one longer
-stays_or : (ts us : List Tree) (t : Tree) → us ≡ with_term ts t → (length us ≡ length ts → us ≡ ts) × ((length us ≡ length ts → ⊥) → us ≡ ts ++ t ∷ [])
-stays_or ts us t e = by (is_some (number_of ts t)) e
-  where
-    by : (b : Bool) → us ≡ cond b ts (ts ++ t ∷ []) → (length us ≡ length ts → us ≡ ts) × ((length us ≡ length ts → ⊥) → us ≡ ts ++ t ∷ [])
-    by true g = ((λ l. g), (λ l. absurd (l (ap length g))))
-    by false g = ((λ l. absurd (omega (arith, l, ap length g, length_push ts t))), (λ l. g))
-
--- a store after a node was made: as long as before, and longer
-pub measured_there : (ts us : List Tree) (sizes reaches : List ℕ) (t : Tree) → us ≡ with_term ts t → length us ≡ length ts → AreMeasured ts sizes reaches → AreMeasured us sizes reaches
-measured_there ts us sizes reaches t e l h = subst (λ xs. AreMeasured xs sizes reaches) (sym ((stays_or ts us t e).0 l)) h
-
-pub measured_next : (ts us : List Tree) (sizes sizes' reaches reaches' : List ℕ) (m : Node) (s r : ℕ) → AllByRecursion (λ j. j < length ts) (numbers_in m) → us ≡ with_term ts (tree_over (at ts) m) → (length us ≡ length ts → ⊥)
+-- a store that has one more term
+pub measured_next : (ts us : List Tree) (sizes sizes' reaches reaches' : List ℕ) (m : Node) (s r : ℕ) → AllByRecursion (λ j. j < length ts) (numbers_in m) → us ≡ ts ++ tree_over (at ts) m ∷ []
     → AreMeasured ts sizes reaches → s ≡ capped (node_size (λ i. get_or sizes i 0) m) → r ≡ node_reach (λ i. get_or reaches i 0) m
     → sizes' ≡ sizes ++ s ∷ [] → reaches' ≡ reaches ++ r ∷ [] → AreMeasured us sizes' reaches'
-measured_next ts us sizes sizes' reaches reaches' m s r low e l h es er ps pr = let grown = (stays_or ts us (tree_over (at ts) m) e).1 l in
+measured_next ts us sizes sizes' reaches reaches' m s r low grown h es er ps pr =
     let size : s ≡ size_of (tree_over (at ts) m) = es ∙ size_node (λ i. get_or sizes i 0) (at ts) (length ts) (λ j w. size_kept ts sizes j h.sizes w) m low in
     let far : r ≡ reach (tree_over (at ts) m) = er ∙ reach_node (λ i. get_or reaches i 0) (at ts) (length ts) (λ j w. reach_kept ts reaches j h.reaches w) m low in
     record {
@@ -123,6 +112,3 @@ measured_next ts us sizes sizes' reaches reaches' m s r low e l h es er ps pr = 
 -- the number of a term that joined
 pub at_number : (ts us : List Tree) (t : Tree) (i : ℕ) → IsNumber us i t → IsAt us i t
 at_number ts us t i n = number_is us t i n
-
-pub begins_with : (ts us : List Tree) (t : Tree) → us ≡ with_term ts t → Begins ts us
-begins_with ts us t e = subst (Begins ts) (sym e) (begins_term ts t)

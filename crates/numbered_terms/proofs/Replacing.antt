@@ -1,5 +1,5 @@
 -- One step of the walk that replaces a term.
-use Rattle.std.proofs.Common.{◌≡◌, refl, sym, ap, ◌∙◌, ℕ, ◌<◌, nat_lt, nat_eq, Bool, true, false, Some, None, cond, List, length}
+use Rattle.std.proofs.Common.{◌≡◌, refl, sym, ap, subst, ◌∙◌, ℕ, ◌<◌, nat_lt, nat_eq, Bool, true, false, Some, None, cond, List, [], length}
 use Rattle.std.specs.List.{AllByRecursion}
 use Rattle.std.proofs.lemmas.Bool.{ltb-true, eqb-true, eqb-false}
 use Rattle.logic_core.specs.Tree.{Tree, free}
@@ -19,7 +19,7 @@ use Rattle.numbered_terms.specs.Stored.{AreStored, shape}
 use Rattle.numbered_terms.specs.Renumbered.{new_of, IsFound, AreFound}
 use Rattle.numbered_terms.proofs.Renumbering.{replaced_node}
 use Rattle.numbered_terms.proofs.Staying.{lower_stays}
-use Rattle.numbered_terms.proofs.WalkSteps.{walk_step}
+use Rattle.numbered_terms.proofs.WalkSteps.{walk_step, same_where}
 use Rattle.numbered_terms.proofs.Walking.{unchanged}
 
 -- the replaced term itself becomes the new one
@@ -41,6 +41,17 @@ as_before ts us old new b o n = λ k. replaced (begins_at ts us old b o k) (begi
 
 pub lower_found : (ts : List Tree) (found : List (ℕ × ℕ)) (old new id : ℕ) → AreStored ts → old < length ts → id < length ts → nat_lt id old ≡ true → AreFound (replaced (at ts old) (at ts new)) ts found → IsFound (replaced (at ts old) (at ts new)) ts found id
 lower_found ts found old new id s o l h right = unchanged (replaced (at ts old) (at ts new)) ts found id right l (lower_stays ts s id old (at ts new) (ltb-true id old h) o)
+
+-- a term without parts stays, unless it is the replaced one
+pub single_found : (ts : List Tree) (found : List (ℕ × ℕ)) (old new id : ℕ) (m : Node) → id < length ts → IsNodeAt ts id m → same_term (at ts old) (at ts id) ≡ false → numbers_in m ≡ [] → AreFound (replaced (at ts old) (at ts new)) ts found → IsFound (replaced (at ts old) (at ts new)) ts found id
+single_found ts found old new id m l is other none right =
+    let R : Tree → Tree = replaced (at ts old) (at ts new) in
+    unchanged R ts found id right l (
+    ap R (sym is.0)
+    ∙ replaced_node (same_term (at ts old)) (at ts new) (at ts) m (ap (same_term (at ts old)) is.0 ∙ other)
+    ∙ same_where (λ k. R (at ts k)) (at ts) (λ k. R (at ts k) ≡ at ts k) (λ k e. e) m (subst (AllByRecursion (λ k. R (at ts k) ≡ at ts k)) (sym none) tt)
+    ∙ is.0
+    )
 
 -- the new number for the old one
 pub own_number : (ts : List Tree) (old new id : ℕ) → new < length ts → nat_eq id old ≡ true → IsAt ts new (replaced (at ts old) (at ts new) (at ts id))

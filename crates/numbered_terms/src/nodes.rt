@@ -1,17 +1,20 @@
 // Nodes by number, no node twice.
-ghost use Rattle.std.specs.Prelude.{◌≡◌, ◌<◌, [], ◌∷◌, ◌++◌, None, length, IfOk, OnOk, OnErr};
+ghost use Rattle.std.specs.Prelude.{◌≡◌, ◌<◌, [], ◌∷◌, ◌++◌, None, length, OnOk, OnErr};
 ghost use Rattle.std.specs.Vec.{vec_len, vec_capacity};
 ghost use Rattle.std.specs.List.{AllByRecursion};
-ghost use Rattle.term_bank.specs.Numbered.{at, number_of, with_term, IsNumber};
+ghost use Rattle.term_bank.specs.Numbered.{at, number_of};
 ghost use Rattle.term_bank.specs.Node.{tree_over, numbers_in};
-ghost use Rattle.numbered_terms.specs.Stored.{AreStored};
+ghost use Rattle.term_bank.specs.Hash.{hash_of};
+ghost use Rattle.numbered_terms.specs.Stored.{AreStored, shape};
 
-use crate::hash::hash;
 use crate::same::same;
 use std::alloc::{AllocError, Global};
 use std::marker::Model;
 use term_bank::hash_index::HashIndex;
 use term_bank::{Node, TermId};
+
+// Room is made for so many nodes at once.
+const ROOM: usize = 64;
 
 /// Distinct terms by number, as nodes over the numbers of their parts. A number that was given
 /// keeps its term.
@@ -45,9 +48,6 @@ fn put_node(nodes: &mut Vec<Node>, node: Node)
 {
     nodes.push(node).unwrap();
 }
-
-// Lets a node go.
-fn discard(_node: Node) {}
 
 impl Nodes {
     /// No terms.
@@ -83,12 +83,13 @@ impl Nodes {
         let _count = self.nodes.len();
     }
 
-    // The number of a node, if it is there.
-    fn find(&self, node: &Node) -> Option<TermId>
-        requires { AllByRecursion (λ j. j < length self.now) (numbers_in node.now) }
+    /// The number of a node of this hash, if it is there.
+    pub fn find(&self, node: &Node, hash: u64) -> Option<TermId>
+        requires lower { AllByRecursion (λ j. j < length self.now) (numbers_in node.now) }
+        requires hash { hash ≡ hash_of (shape node.now) }
         ensures { result ≡ number_of self.now (tree_over (at self.now) node.now) }
     {
-        let mut latest = self.index.latest(hash(node));
+        let mut latest = self.index.latest(hash);
         while let Some(number) = latest {
             if same(&self.nodes[number], node) {
                 return Some(TermId { number });
@@ -98,33 +99,17 @@ impl Nodes {
         None
     }
 
-    // One more node, which isn't there yet.
-    fn push(&mut self, node: Node) -> Result<(), AllocError>
+    /// One more node of this hash, which isn't there yet.
+    pub fn push(&mut self, node: Node, hash: u64) -> Result<(), AllocError>
         requires lower { AllByRecursion (λ j. j < length self.old) (numbers_in node) }
+        requires hash { hash ≡ hash_of (shape node) }
         requires new { number_of self.old (tree_over (at self.old) node) ≡ None }
         ensures ok { OnOk result (self.new ≡ self.old ++ tree_over (at self.old) node ∷ []) }
         ensures memory { OnErr result (self.new ≡ self.old) }
     {
-        let hash = hash(&node);
-        self.nodes.reserve(1)?;
+        self.nodes.reserve(ROOM)?;
         self.index.push(hash)?;
         put_node(&mut self.nodes, node);
         Ok(())
-    }
-
-    /// The number of the node's term. A new term has the next number.
-    pub fn make(&mut self, node: Node) -> Result<TermId, AllocError>
-        requires lower { AllByRecursion (λ j. j < length self.old) (numbers_in node) }
-        ensures terms { OnOk result (self.new ≡ with_term self.old (tree_over (at self.old) node)) }
-        ensures number { IfOk result (λ i. IsNumber self.new i (tree_over (at self.old) node)) }
-        ensures memory { OnErr result (self.new ≡ self.old) }
-    {
-        if let Some(found) = self.find(&node) {
-            discard(node);
-            return Ok(found);
-        }
-        let number = self.nodes.len();
-        self.push(node)?;
-        Ok(TermId { number })
     }
 }

@@ -26,10 +26,29 @@ impl Model for NumberSet {
     ghost invariant = { λ a. AreFlags a.members.items a.flags.items };
 }
 
+// So many numbers are compared one by one until one is equal. Of more each is compared, several at a
+// time.
+const FEW: usize = 32;
+
+// Whether the number is among these, each of which is compared.
+fn is_one_of(id: TermId, ids: &[TermId]) -> bool
+    ensures { result ≡ list_any (nat_eq id) ids.now }
+{
+    let mut found = false;
+    for other in ids {
+        let is_other = id == *other;
+        found = found || is_other;
+    }
+    found
+}
+
 /// Whether the number is among these.
 pub fn is_among(id: TermId, ids: &[TermId]) -> bool
     ensures { result ≡ list_any (nat_eq id) ids.now }
 {
+    if ids.len() > FEW {
+        return is_one_of(id, ids);
+    }
     for other in ids {
         if id == *other {
             return true;

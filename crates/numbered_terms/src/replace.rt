@@ -1,5 +1,5 @@
 // A term replaced in a term, by number.
-ghost use Rattle.std.specs.Prelude.{◌≡◌, ◌<◌, ◌≤◌, nat_lt, nat_eq, false, length, IfOk, OnOk};
+ghost use Rattle.std.specs.Prelude.{◌≡◌, ◌<◌, ◌≤◌, nat_lt, nat_eq, false, [], length, IsTrue, IfOk, OnOk};
 ghost use Rattle.logic_core.specs.Same.{same_term};
 ghost use Rattle.std.specs.List.{AllByRecursion};
 ghost use Rattle.logic_core.specs.Subterm.{replaced};
@@ -28,6 +28,13 @@ fn is_equal(id: TermId, other: TermId) -> bool
     ensures { result ≡ nat_eq id other }
 {
     id.number == other.number
+}
+
+// Whether there are no numbers.
+fn are_none(ids: &[TermId]) -> bool
+    ensures { IsTrue result → ids.now ≡ [] }
+{
+    ids.is_empty()
 }
 
 // The same of a term whose parts are found.
@@ -105,6 +112,9 @@ fn replace_node(
         return note(found, id, new);
     }
     let parts = numbers(terms.alloc(), terms.node(id))?;
+    if are_none(&parts) {
+        return Ok(());
+    }
     replace_each(terms, found, old, new, id.number, &parts)?;
     replace_whole(terms, found, old, new, id)
 }

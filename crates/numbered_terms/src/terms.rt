@@ -1,20 +1,25 @@
 // Terms by number, with their sizes and how far their bound variables reach.
-ghost use Rattle.std.specs.Prelude.{◌≡◌, ◌<◌, ◌≤◌, [], ◌∷◌, ◌++◌, length, IfOk, OnOk, OnErr};
+ghost use Rattle.std.specs.Prelude.{◌≡◌, ◌<◌, ◌≤◌, [], ◌∷◌, ◌++◌, None, length, IfOk, OnOk, OnErr};
 ghost use Rattle.std.specs.Vec.{vec_len, vec_capacity};
 ghost use Rattle.std.specs.List.{AllByRecursion};
 ghost use Rattle.logic_core.specs.Same.{same_term};
-ghost use Rattle.term_bank.specs.Numbered.{at, Begins};
+ghost use Rattle.term_bank.specs.Numbered.{at, number_of, Begins};
 ghost use Rattle.term_bank.specs.Node.{tree_over, numbers_in};
+ghost use Rattle.term_bank.specs.Hash.{hash_of};
 ghost use Rattle.numbered_terms.specs.At.{IsAt};
-ghost use Rattle.numbered_terms.specs.Stored.{AreStored};
+ghost use Rattle.numbered_terms.specs.Stored.{AreStored, shape};
 ghost use Rattle.numbered_terms.specs.Reach.{reach};
 ghost use Rattle.numbered_terms.specs.Measures.{size_of};
 
+use crate::hash::hash;
 use crate::measure::{reach, size};
 use crate::nodes::Nodes;
 use std::alloc::{AllocError, Global};
 use std::marker::Model;
 use term_bank::{Node, TermId};
+
+// Room is made for so many terms at once.
+const ROOM: usize = 64;
 
 /// Distinct terms by number. A number that was given keeps its term.
 #[derive(Drop)]
@@ -41,6 +46,9 @@ impl Model for Terms {
 
     ghost invariant = { λ a. AreMeasured a.nodes a.sizes.items a.reaches.items };
 }
+
+// Lets a node go.
+fn discard(_node: Node) {}
 
 // Puts in the size of the next term, for which there is room.
 fn put_size(sizes: &mut Vec<u64>, size: u64)
@@ -126,6 +134,26 @@ impl Terms {
         a == b
     }
 
+    // One more term, of this node and hash, which isn't there yet.
+    fn push(&mut self, node: Node, hash: u64) -> Result<TermId, AllocError>
+        requires lower { AllByRecursion (λ j. j < length self.old) (numbers_in node) }
+        requires hash { hash ≡ hash_of (shape node) }
+        requires new { number_of self.old (tree_over (at self.old) node) ≡ None }
+        ensures grows { Begins self.old self.new }
+        ensures number { IfOk result (λ i. IsAt self.new i (tree_over (at self.old) node)) }
+        ensures memory { OnErr result (self.new ≡ self.old) }
+    {
+        let size = size(&self.sizes, &node);
+        let reach = reach(&self.reaches, &node);
+        self.sizes.reserve(ROOM)?;
+        self.reaches.reserve(ROOM)?;
+        let number = self.nodes.len();
+        self.nodes.push(node, hash)?;
+        put_size(&mut self.sizes, size);
+        put_reach(&mut self.reaches, reach);
+        Ok(TermId { number })
+    }
+
     /// The number of the node's term. A new term has the next number.
     pub fn make(&mut self, node: Node) -> Result<TermId, AllocError>
         requires { AllByRecursion (λ j. j < length self.old) (numbers_in node) }
@@ -133,17 +161,11 @@ impl Terms {
         ensures number { IfOk result (λ i. IsAt self.new i (tree_over (at self.old) node)) }
         ensures memory { OnErr result (self.new ≡ self.old) }
     {
-        let size = size(&self.sizes, &node);
-        let reach = reach(&self.reaches, &node);
-        self.sizes.reserve(1)?;
-        self.reaches.reserve(1)?;
-        let before = self.nodes.len();
-        let made = self.nodes.make(node)?;
-        if self.nodes.len() == before {
-            return Ok(made);
+        let hash = hash(&node);
+        if let Some(found) = self.nodes.find(&node, hash) {
+            discard(node);
+            return Ok(found);
         }
-        put_size(&mut self.sizes, size);
-        put_reach(&mut self.reaches, reach);
-        Ok(made)
+        self.push(node, hash)
     }
 }

@@ -27,21 +27,21 @@ returns-then-is_alone-clause-gives c =
     some_left n fs f l false side (sym (alone_rewrites l f.number (map (fact_at ts) fs) c.requires.there.0 f (got_fact ts fs c.requires.there.0 c.args.fact.now c.requires.there.1) refl (left_occurs n.vars n.defs f.term l side)
     (ap (in_two l) (sym (terms_same ts us b fs c.requires.facts)) ∙ two)))
 
-pub occurs_in_another-requires-clause-facts : goal.occurs_in_another-requires-clause-facts
-occurs_in_another-requires-clause-facts c =
+pub occurs_around-requires-clause-facts : goal.occurs_around-requires-clause-facts
+occurs_around-requires-clause-facts c =
     facts_low c.args.store.now.terms c.left_side.new.self.terms c.in_ok-left.ensures.grows.terms c.args.facts.now c.requires.facts
 
 pub returns-then-branch-clause-gives : goal.returns-then-branch-clause-gives
 returns-then-branch-clause-gives c =
-    let n = c.args.store.now in let ts = n.terms in let us = c.left_side.new.self.terms in let vs = c.occurs_in_another.new.store.terms in
+    let n = c.args.store.now in let ts = n.terms in let us = c.left_side.new.self.terms in let vs = c.occurs_around.new.store.terms in
     let fs = c.args.facts.now in let f = fact_at ts c.args.fact.now in let left = c.in-Some.left in let l = at us left in
-    let b = c.in_ok-left.ensures.grows.terms in let d = c.in_ok-occurs_in_another.ensures.grows.terms in
+    let b = c.in_ok-left.ensures.grows.terms in let d = c.in_ok-occurs_around.ensures.grows.terms in
     let gives = subst (λ o. StandsFor us o (left_side n.vars n.defs (at ts c.fact.inside.term))) c.in-Some.is c.in_ok-left.ensures.gives in
     let side : left_side n.vars n.defs f.term ≡ Some l = sym (λ k. left_side n.vars n.defs (at ts (c.fact.view_is k).term)) ∙ gives.1 in
     let facts = facts_stay ts us b fs c.requires.facts in
-    let there = c.in_ok-occurs_in_another.ensures.gives ∙ (λ k. list_any (rewrites (c.fact.view_is k).number l) (facts k)) in (
+    let there = c.in_ok-occurs_around.ensures.gives ∙ (λ k. list_any (rewrites (c.fact.view_is k).number l) (facts k)) in (
       omega (arith, gives.0, begins_length us vs d),
-      some_left n fs f l c.in_ok-occurs_in_another.field-0 side there ∙ ap (λ q. when q (Some l)) c.if-branch.true ∙ ap Some (sym (begins_at us vs left d gives.0)),
+      some_left n fs f l c.in_ok-occurs_around.field-0 side there ∙ ap (λ q. when q (Some l)) c.if-branch.true ∙ ap Some (sym (begins_at us vs left d gives.0)),
     )
 
 pub returns-clause-gives : goal.returns-clause-gives
@@ -52,5 +52,5 @@ returns-clause-gives c =
     let gives = subst (λ o. StandsFor us o (left_side n.vars n.defs (at ts c.fact.inside.term))) c.in-Some.is c.in_ok-left.ensures.gives in
     let side : left_side n.vars n.defs f.term ≡ Some l = sym (λ k. left_side n.vars n.defs (at ts (c.fact.view_is k).term)) ∙ gives.1 in
     let facts = facts_stay ts us b fs c.requires.facts in
-    let there = c.in_ok-occurs_in_another.ensures.gives ∙ (λ k. list_any (rewrites (c.fact.view_is k).number l) (facts k)) in
-    some_left n fs f l c.in_ok-occurs_in_another.field-0 side there ∙ ap (λ q. when q (Some l)) c.if-branch.false
+    let there = c.in_ok-occurs_around.ensures.gives ∙ (λ k. list_any (rewrites (c.fact.view_is k).number l) (facts k)) in
+    some_left n fs f l c.in_ok-occurs_around.field-0 side there ∙ ap (λ q. when q (Some l)) c.if-branch.false

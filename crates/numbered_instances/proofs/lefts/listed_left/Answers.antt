@@ -1,4 +1,4 @@
-use Rattle.std.proofs.Common.{◌≡◌, ◌<◌, refl, subst, length, map}
+use Rattle.std.proofs.Common.{◌≡◌, ◌<◌, refl, subst, length, map, arith}
 use Rattle.std.proofs.lemmas.Option.{slice_get_read}
 use Rattle.numbered_facts.specs.Answers.{StandsFor}
 use Rattle.numbered_facts.proofs.Growing.{then}
@@ -10,6 +10,9 @@ use Rattle.numbered_instances.proofs.lefts.listed_left.Goals as goal
 
 pub left_in_another-requires-clause-facts : goal.left_in_another-requires-clause-facts
 left_in_another-requires-clause-facts c = facts_low c.args.store.now.terms c.loop-at.store.terms c.loop-at.invariant.grows.terms c.args.facts.now c.requires.facts
+
+pub left_in_another-requires-clause-place : goal.left_in_another-requires-clause-place
+left_in_another-requires-clause-place c = omega (arith, c.loop-at-test.true)
 
 pub left_in_another-requires-clause-there : goal.left_in_another-requires-clause-there
 left_in_another-requires-clause-there c = (c.loop-at.at, slice_get_read c.args.facts.now (length c.args.facts.now) c.loop-at.at c.index-facts-at.result refl c.loop-at-test.true c.index-facts-at.is)

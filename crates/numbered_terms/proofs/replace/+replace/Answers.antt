@@ -13,7 +13,7 @@ use Rattle.term_bank.proofs.Numbers.{begins_then, begins_same, begins_length, be
 use Rattle.numbered_terms.specs.Renumbered.{IsFound, AreFound}
 use Rattle.numbered_terms.proofs.Items.{item_below, one_more, all_done}
 use Rattle.numbered_terms.proofs.Walking.{still_below, there, each_later, noted_right, noted_covers, noted_found, covers_then, same_numbers, node_before}
-use Rattle.numbered_terms.proofs.Replacing.{other_term, as_before, lower_found, own_number}
+use Rattle.numbered_terms.proofs.Replacing.{other_term, as_before, lower_found, single_found, own_number}
 use Rattle.numbered_terms.proofs.replace.+replace.Goals as goal
 
 pub replace_in-returns-then-is_lower-clause-found : goal.replace_in-returns-then-is_lower-clause-found
@@ -37,6 +37,13 @@ replace_node-returns-then-is_equal-clause-found t c = let ts = c.args.terms.now 
     on_ok_weaker c.note.result (λ e. noted_found (replaced (at ts c.args.old) (at ts c.args.new)) ts c.args.found.now.entries c.note.new.found.entries c.args.id c.args.new e c.requires.right c.requires.id
     (own_number ts c.args.old c.args.new c.args.id c.requires.new (sym c.is_equal.ensures ∙ c.if-is_equal.true))) c.note.ensures.ok
 
+pub replace_node-returns-then-are_none-clause-found : goal.replace_node-returns-then-are_none-clause-found
+replace_node-returns-then-are_none-clause-found t c =
+    let ts = c.args.terms.now in let h = sym c.is_equal.ensures ∙ c.if-is_equal.false in
+    single_found ts c.args.found.now.entries c.args.old c.args.new c.args.id c.node.result.now c.requires.id (c.node.ensures.node, c.node.ensures.lower)
+    (other_term ts c.args.old c.args.id c.are_stored.ensures c.requires.old c.requires.id (λ e. eqb-false c.args.id c.args.old h (sym e)))
+    (sym (c.deref.ensures.value ∙ c.in_ok-parts.ensures) ∙ c.are_none.ensures c.if-are_none.true) c.requires.right
+
 pub replace_node-replace_each-requires : goal.replace_node-replace_each-requires
 replace_node-replace_each-requires t c = (
   omega (arith, c.decreases, c.id.view_is),
@@ -47,8 +54,8 @@ replace_node-replace_each-requires t c = (
       (
         omega (arith, c.requires.id, c.id.view_is),
         (
-          subst (λ n. AllByRecursion (λ j. j < n) c.deref.result.now) (sym c.id.view_is)
-              (subst (AllByRecursion (λ j. j < c.args.id)) (sym (c.deref.ensures.value ∙ c.in_ok-parts.ensures)) c.node.ensures.lower),
+          subst (λ n. AllByRecursion (λ j. j < n) c.deref-2.result.now) (sym c.id.view_is)
+              (subst (AllByRecursion (λ j. j < c.args.id)) (sym (c.deref-2.ensures.value ∙ c.in_ok-parts.ensures)) c.node.ensures.lower),
           c.requires.right,
         ),
       ),
@@ -123,7 +130,7 @@ replace_node-replace_whole-requires-clause-parts t c =
     let ts = c.args.terms.now in let us = c.replace_each.new.terms in let b = c.replace_each.ensures.grows in
     let more = c.replace_each.new.found.entries in
     let R : Tree → Tree = replaced (at ts c.args.old) (at ts c.args.new) in
-    let all : AllByRecursion (IsFound R us more) (numbers_in c.node.result.now) = subst (AllByRecursion (IsFound R us more)) (c.deref.ensures.value ∙ c.in_ok-parts.ensures) c.in_ok-replace_each.ensures.found in
+    let all : AllByRecursion (IsFound R us more) (numbers_in c.node.result.now) = subst (AllByRecursion (IsFound R us more)) (c.deref-2.ensures.value ∙ c.in_ok-parts.ensures) c.in_ok-replace_each.ensures.found in
     subst (λ f. (m : Node) → IsNodeAt us c.args.id m → AllByRecursion (IsFound f us more) (numbers_in m)) (sym (as_before ts us c.args.old c.args.new b c.requires.old c.requires.new))
     (λ m is. same_numbers (IsFound R us more) ts c.args.id c.node.result.now m c.are_stored.ensures c.requires.id (c.node.ensures.node, c.node.ensures.lower) (node_before ts us c.args.id m b c.requires.id is) all)
 

@@ -1,28 +1,26 @@
-use Rattle.std.proofs.Common.{sym, subst, ◌∙◌, ap, option_map, IfOk, List}
+use Rattle.std.proofs.Common.{subst, ap, option_map, IfOk, List}
 use Rattle.std.specs.Prelude.{slice_get}
 use Rattle.logic_core.specs.Def.{Def}
-use Rattle.numbered_terms.specs.Slots.{AreKept}
 use Rattle.numbered_terms.specs.Stored.{Numbered}
 use Rattle.numbered_facts.specs.Answers.{StandsFor}
-use Rattle.numbered_facts.specs.Memos.{IsBody}
 use Rattle.numbered_facts.proofs.Later.{memos_later}
 use Rattle.numbered_facts.proofs.store.Store.body.Goals as goal
 
 pub body-requires : goal.body-requires
-body-requires c = record { right = subst (λ ds. AreKept (IsBody c.self.inside.terms ds) c.self.inside.bodies.slots.items) (sym c.deref.ensures.value) c.self.invariant.bodies }
+body-requires c = record { right = c.self.invariant.bodies }
 
 pub invariant_of-self : goal.invariant_of-self
 invariant_of-self c = let us = c.body.new.terms in
-    let m = memos_later c.self.inside.terms us c.self.inside.vars.items c.self.inside.defs.items c.self.inside.forms.slots.items c.self.inside.lefts.slots.items c.self.inside.negations.slots.items c.self.inside.atoms.slots.items c.self.inside.standing.slots.items c.self.inside.bodies.slots.items c.self.inside.sorts.slots.items c.body.ensures.grows c.self.invariant in record {
+    let m = memos_later c.self.inside.terms us c.self.inside.vars.items c.self.inside.defs.now c.self.inside.forms.slots.items c.self.inside.lefts.slots.items c.self.inside.negations.slots.items c.self.inside.atoms.slots.items c.self.inside.standing.slots.items c.self.inside.bodies.slots.items c.self.inside.sorts.slots.items c.body.ensures.grows c.self.invariant in record {
       forms = m.forms;
       lefts = m.lefts;
       negations = m.negations;
       atoms = m.atoms;
       standing = m.standing;
-      bodies = subst (λ ds. AreKept (IsBody us ds) c.body.new.bodies.slots.items) c.deref.ensures.value c.body.ensures.right;
+      bodies = c.body.ensures.right;
       sorts = m.sorts;
     }
 
 pub returns-clause-gives : goal.returns-clause-gives
 returns-clause-gives c =
-    subst (λ (ds : List Def). IfOk c.body.result (λ o. StandsFor c.body.new.terms o (option_map (λ (d : Def). d.body) (slice_get ds c.args.number)))) (c.deref.ensures.value ∙ ap (λ (n : Numbered). n.defs) c.self.view_is) c.body.ensures.gives
+    subst (λ (ds : List Def). IfOk c.body.result (λ o. StandsFor c.body.new.terms o (option_map (λ (d : Def). d.body) (slice_get ds c.args.number)))) (ap (λ (n : Numbered). n.defs) c.self.view_is) c.body.ensures.gives

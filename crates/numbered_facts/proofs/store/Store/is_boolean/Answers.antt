@@ -1,4 +1,4 @@
-use Rattle.std.proofs.Common.{◌∙◌, sym, ap}
+use Rattle.std.proofs.Common.{◌∙◌, refl, sym, ap}
 use Rattle.std.specs.Option.{option_copied}
 use Rattle.logic_core.specs.Tree.{boolean}
 use Rattle.logic_core.specs.Sorts.{is}
@@ -6,7 +6,7 @@ use Rattle.numbered_facts.proofs.SortsKept.{sorts_over, sort_kept}
 use Rattle.numbered_facts.proofs.store.Store.is_boolean.Goals as goal
 
 pub find_sort-requires-clause-right : goal.find_sort-requires-clause-right
-find_sort-requires-clause-right c = sorts_over c.self.inside.terms c.self.inside.sorts.slots.items c.self.inside.vars.items c.deref.result.now c.self.inside.defs.items c.deref-2.result.now (sym c.deref.ensures.value) (sym c.deref-2.ensures.value) c.self.invariant.sorts
+find_sort-requires-clause-right c = sorts_over c.self.inside.terms c.self.inside.sorts.slots.items c.self.inside.vars.items c.deref.result.now c.self.inside.defs.now c.self.inside.defs.now (sym c.deref.ensures.value) refl c.self.invariant.sorts
 
 pub invariant_of-self : goal.invariant_of-self
 invariant_of-self c = record {
@@ -16,7 +16,7 @@ invariant_of-self c = record {
   atoms = c.self.invariant.atoms;
   standing = c.self.invariant.standing;
   bodies = c.self.invariant.bodies;
-  sorts = sorts_over c.self.inside.terms c.find_sort.new.memo.slots.items c.deref.result.now c.self.inside.vars.items c.deref-2.result.now c.self.inside.defs.items c.deref.ensures.value c.deref-2.ensures.value c.find_sort.ensures.right;
+  sorts = sorts_over c.self.inside.terms c.find_sort.new.memo.slots.items c.deref.result.now c.self.inside.vars.items c.self.inside.defs.now c.self.inside.defs.now c.deref.ensures.value refl c.find_sort.ensures.right;
 }
 
 pub invariant_of-self-2 : goal.invariant_of-self-2
@@ -27,8 +27,8 @@ invariant_of-self-2 c = record {
   atoms = c.self.invariant.atoms;
   standing = c.self.invariant.standing;
   bodies = c.self.invariant.bodies;
-  sorts = sorts_over c.self.inside.terms c.find_sort.new.memo.slots.items c.deref.result.now c.self.inside.vars.items c.deref-2.result.now c.self.inside.defs.items c.deref.ensures.value c.deref-2.ensures.value c.find_sort.ensures.right;
+  sorts = sorts_over c.self.inside.terms c.find_sort.new.memo.slots.items c.deref.result.now c.self.inside.vars.items c.self.inside.defs.now c.self.inside.defs.now c.deref.ensures.value refl c.find_sort.ensures.right;
 }
 
 pub returns-clause-is : goal.returns-clause-is
-returns-clause-is c = c.is_boolean.ensures ∙ ap (is boolean) (sort_kept (record { terms = c.self.inside.terms; vars = c.self.inside.vars.items; defs = c.self.inside.defs.items }) c.args.self.now c.find_sort.new.memo.slots.items c.deref.result.now c.deref-2.result.now c.deref.ensures.value c.deref-2.ensures.value c.self.view_is c.find_sort.ensures.right c.args.id (option_copied c.sort_at.result) c.sort_at.ensures)
+returns-clause-is c = c.is_boolean.ensures ∙ ap (is boolean) (sort_kept (record { terms = c.self.inside.terms; vars = c.self.inside.vars.items; defs = c.self.inside.defs.now }) c.args.self.now c.find_sort.new.memo.slots.items c.deref.result.now c.self.inside.defs.now c.deref.ensures.value refl c.self.view_is c.find_sort.ensures.right c.args.id (option_copied c.sort_at.result) c.sort_at.ensures)

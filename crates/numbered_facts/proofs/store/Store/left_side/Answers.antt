@@ -1,4 +1,4 @@
-use Rattle.std.proofs.Common.{sym, subst}
+use Rattle.std.proofs.Common.{refl, sym, subst}
 use Rattle.numbered_terms.specs.Slots.{AreKept}
 use Rattle.numbered_facts.specs.Memos.{IsLeft}
 use Rattle.numbered_facts.proofs.SortsKept.{sorts_over}
@@ -6,20 +6,18 @@ use Rattle.numbered_facts.proofs.store.Store.left_side.Goals as goal
 
 pub left-requires-clause-right : goal.left-requires-clause-right
 left-requires-clause-right c = let ts = c.self.inside.terms in let ls = c.self.inside.lefts.slots.items in
-    subst (λ vs. AreKept (IsLeft (record { terms = ts; vars = vs; defs = c.deref-2.result.now })) ls) (sym c.deref.ensures.value)
-    (subst (λ ds. AreKept (IsLeft (record { terms = ts; vars = c.self.inside.vars.items; defs = ds })) ls) (sym c.deref-2.ensures.value) c.self.invariant.lefts)
+    subst (λ vs. AreKept (IsLeft (record { terms = ts; vars = vs; defs = c.self.inside.defs.now })) ls) (sym c.deref.ensures.value) c.self.invariant.lefts
 
 pub left-requires-clause-sorts : goal.left-requires-clause-sorts
-left-requires-clause-sorts c = sorts_over c.self.inside.terms c.self.inside.sorts.slots.items c.self.inside.vars.items c.deref.result.now c.self.inside.defs.items c.deref-2.result.now (sym c.deref.ensures.value) (sym c.deref-2.ensures.value) c.self.invariant.sorts
+left-requires-clause-sorts c = sorts_over c.self.inside.terms c.self.inside.sorts.slots.items c.self.inside.vars.items c.deref.result.now c.self.inside.defs.now c.self.inside.defs.now (sym c.deref.ensures.value) refl c.self.invariant.sorts
 
 pub invariant_of-self : goal.invariant_of-self
 invariant_of-self c = let ts = c.self.inside.terms in let ls = c.left.new.lefts.slots.items in record {
   forms = c.self.invariant.forms;
-  lefts = subst (λ vs. AreKept (IsLeft (record { terms = ts; vars = vs; defs = c.self.inside.defs.items })) ls) c.deref.ensures.value
-      (subst (λ ds. AreKept (IsLeft (record { terms = ts; vars = c.deref.result.now; defs = ds })) ls) c.deref-2.ensures.value c.left.ensures.right);
+  lefts = subst (λ vs. AreKept (IsLeft (record { terms = ts; vars = vs; defs = c.self.inside.defs.now })) ls) c.deref.ensures.value c.left.ensures.right;
   negations = c.self.invariant.negations;
   atoms = c.self.invariant.atoms;
   standing = c.self.invariant.standing;
   bodies = c.self.invariant.bodies;
-  sorts = sorts_over c.self.inside.terms c.left.new.sorts.slots.items c.deref.result.now c.self.inside.vars.items c.deref-2.result.now c.self.inside.defs.items c.deref.ensures.value c.deref-2.ensures.value c.left.ensures.sorts;
+  sorts = sorts_over c.self.inside.terms c.left.new.sorts.slots.items c.deref.result.now c.self.inside.vars.items c.self.inside.defs.now c.self.inside.defs.now c.deref.ensures.value refl c.left.ensures.sorts;
 }

@@ -5,12 +5,12 @@ use Rattle.numbered_facts.proofs.store.Store.normal.Goals as goal
 
 pub normal_over-requires-clause-forms : goal.normal_over-requires-clause-forms
 normal_over-requires-clause-forms c = let ts = c.self.inside.terms in let fs = c.self.inside.forms.slots.items in
-    subst (λ vs. AreForms vs c.deref-2.result.now ts fs) (sym c.deref.ensures.value) (subst (λ ds. AreForms c.self.inside.vars.items ds ts fs) (sym c.deref-2.ensures.value) c.self.invariant.forms)
+    subst (λ vs. AreForms vs c.self.inside.defs.now ts fs) (sym c.deref.ensures.value) c.self.invariant.forms
 
 pub invariant_of-self : goal.invariant_of-self
 invariant_of-self c = let ts = c.normal_over.new.terms in let fs = c.normal_over.new.forms.slots.items in
-    let m = memos_later c.self.inside.terms ts c.self.inside.vars.items c.self.inside.defs.items c.self.inside.forms.slots.items c.self.inside.lefts.slots.items c.self.inside.negations.slots.items c.self.inside.atoms.slots.items c.self.inside.standing.slots.items c.self.inside.bodies.slots.items c.self.inside.sorts.slots.items c.normal_over.ensures.grows c.self.invariant in record {
-      forms = subst (λ vs. AreForms vs c.self.inside.defs.items ts fs) c.deref.ensures.value (subst (λ ds. AreForms c.deref.result.now ds ts fs) c.deref-2.ensures.value c.normal_over.ensures.forms);
+    let m = memos_later c.self.inside.terms ts c.self.inside.vars.items c.self.inside.defs.now c.self.inside.forms.slots.items c.self.inside.lefts.slots.items c.self.inside.negations.slots.items c.self.inside.atoms.slots.items c.self.inside.standing.slots.items c.self.inside.bodies.slots.items c.self.inside.sorts.slots.items c.normal_over.ensures.grows c.self.invariant in record {
+      forms = subst (λ vs. AreForms vs c.self.inside.defs.now ts fs) c.deref.ensures.value c.normal_over.ensures.forms;
       lefts = m.lefts;
       negations = m.negations;
       atoms = m.atoms;

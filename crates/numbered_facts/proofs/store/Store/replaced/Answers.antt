@@ -7,7 +7,7 @@ use Rattle.numbered_facts.proofs.Later.{memos_later}
 use Rattle.numbered_facts.proofs.store.Store.replaced.Goals as goal
 
 pub invariant_of-self : goal.invariant_of-self
-invariant_of-self c = memos_later c.self.inside.terms c.replaced.new.terms c.self.inside.vars.items c.self.inside.defs.items c.self.inside.forms.slots.items c.self.inside.lefts.slots.items c.self.inside.negations.slots.items c.self.inside.atoms.slots.items c.self.inside.standing.slots.items c.self.inside.bodies.slots.items c.self.inside.sorts.slots.items c.replaced.ensures.grows c.self.invariant
+invariant_of-self c = memos_later c.self.inside.terms c.replaced.new.terms c.self.inside.vars.items c.self.inside.defs.now c.self.inside.forms.slots.items c.self.inside.lefts.slots.items c.self.inside.negations.slots.items c.self.inside.atoms.slots.items c.self.inside.standing.slots.items c.self.inside.bodies.slots.items c.self.inside.sorts.slots.items c.replaced.ensures.grows c.self.invariant
 
 pub returns-clause-gives : goal.returns-clause-gives
 returns-clause-gives c = subst (λ (n : Numbered). IfOk c.replaced.result (λ i. IsAt c.replaced.new.terms i (replaced (at n.terms c.args.old) (at n.terms c.args.new) (at n.terms c.args.id)))) c.self.view_is c.replaced.ensures.gives

@@ -10,7 +10,7 @@ use Rattle.numbered_terms.proofs.Stores.{found_at, found_nowhere, other_shape}
 use Rattle.numbered_terms.proofs.nodes.Nodes.find.Goals as goal
 
 pub loop-latest-init : goal.loop-latest-init
-loop-latest-init c = candidate_first (shapes c.self.inside.nodes.items) (shape c.args.node.now) c.self.inside.index c.hash.result c.latest-latest.result c.self.invariant.hashed c.hash.ensures c.latest-latest.ensures
+loop-latest-init c = candidate_first (shapes c.self.inside.nodes.items) (shape c.args.node.now) c.self.inside.index c.args.hash c.latest-latest.result c.self.invariant.hashed c.requires.hash c.latest-latest.ensures
 
 pub index-requires : goal.index-requires
 index-requires c = let w : c.in-Some.number < length (shapes c.self.inside.nodes.items) = (c.loop-latest.invariant.here c.in-Some.number c.in-Some.is).0 in omega (arith, w, length-map c.self.inside.nodes.items shape)
@@ -19,7 +19,7 @@ pub returns-then-same : goal.returns-then-same
 returns-then-same c =
     let w : c.in-Some.number < length (shapes c.self.inside.nodes.items) = (c.loop-latest.invariant.here c.in-Some.number c.in-Some.is).0 in
     let s : same_term (shape c.index.result.now) (shape c.args.node.now) ≡ true = cc in
-    found_at c.args.self.now c.self.inside.nodes.items c.self.inside.index c.args.node.now c.self.view_is c.self.invariant c.requires c.in-Some.number c.index.result.now
+    found_at c.args.self.now c.self.inside.nodes.items c.self.inside.index c.args.node.now c.self.view_is c.self.invariant c.requires.lower c.in-Some.number c.index.result.now
     (omega (arith, w, length-map c.self.inside.nodes.items shape)) c.index.ensures s
 
 pub earlier-latest-requires : goal.earlier-latest-requires
@@ -42,4 +42,4 @@ loop-latest-preserved c =
 pub returns : goal.returns
 returns c =
     let e : c.loop-latest.latest ≡ None = search rules in
-    found_nowhere c.args.self.now c.self.inside.nodes.items c.self.inside.index c.args.node.now c.self.view_is c.self.invariant c.requires (subst (IsCandidate (shapes c.self.inside.nodes.items) (shape c.args.node.now)) e c.loop-latest.invariant)
+    found_nowhere c.args.self.now c.self.inside.nodes.items c.self.inside.index c.args.node.now c.self.view_is c.self.invariant c.requires.lower (subst (IsCandidate (shapes c.self.inside.nodes.items) (shape c.args.node.now)) e c.loop-latest.invariant)
