@@ -1,21 +1,12 @@
 -- The body beside the first name of a procedure is that of its first implementation.
-use Rattle.std.proofs.Common.{◌≡◌, refl, sym, ap, ◌∙◌, ℕ, suc, Bool, true, false, List, [], ◌∷◌, ◌++◌, flat_map, Option, Some, None}
+use Rattle.std.proofs.Common.{◌≡◌, refl, ap, ◌∙◌, ℕ, suc, Bool, true, false, List, [], ◌∷◌, ◌++◌, flat_map, Option, Some, None}
 use Rattle.std.specs.Prelude.{bytes_eq, cond, option_map}
+use Rattle.bv_base.proofs.EitherWay.{either_way}
 use Rattle.bpl_ast.specs.Statement.{DeclBody, constant, function, axiom_of, variables, synonym, procedure, implementation, Decl}
 use Rattle.bpl_scopes.specs.Positions.{first_at}
 use Rattle.bpl_scopes.specs.Scopes.{Text, Table, Counts}
 use Rattle.bpl_resolve.specs.Elaborate.{Implemented, or_else, own_body, implements, implementation_of, proc_of, procs_in}
-use Rattle.bpl_resolve.proofs.Ways.{same_text, text_itself}
 use Rattle.bpl_resolve.specs.Implemented.{name_of_body, body_given, names_of_bodies, bodies_given, body_at, body_for, procs_with}
-
-turned : (m n : Text) → bytes_eq m n ≡ bytes_eq n m
-turned m n = by (bytes_eq m n) (bytes_eq n m) refl refl
-  where
-    by : (r q : Bool) → bytes_eq m n ≡ r → bytes_eq n m ≡ q → r ≡ q
-    by true true e f = refl
-    by false false e f = refl
-    by true false e f = let s : true ≡ false = sym (text_itself n) ∙ (ap (λ w. bytes_eq n w) (sym (same_text m n e)) ∙ f) in cc
-    by false true e f = let s : true ≡ false = sym (text_itself m) ∙ (ap (λ w. bytes_eq m w) (sym (same_text n m f)) ∙ e) in cc
 
 next_body : (b : Implemented) (bs : List Implemented) (o : Option ℕ) → body_at (b ∷ bs) (option_map suc o) ≡ body_at bs o
 next_body b bs None = refl
@@ -33,7 +24,7 @@ found_is (d ∷ ds) n = by d.body (found_is ds n)
     by : (x : DeclBody) → body_for (names_of_bodies ds) (bodies_given ds) n ≡ implementation_of ds n
         → body_for (name_of_body x ++ names_of_bodies ds) (body_given x ++ bodies_given ds) n ≡ or_else (implements n x) (implementation_of ds n)
     by (implementation m ps g b) e = one_body (bytes_eq n m.text) (g, b) (bodies_given ds) (first_at n (names_of_bodies ds)) (implementation_of ds n) e
-        ∙ ap (λ w. or_else (elim w [ true ↦ Some (g, b) | false ↦ None ]) (implementation_of ds n)) (turned n m.text)
+        ∙ ap (λ w. or_else (elim w [ true ↦ Some (g, b) | false ↦ None ]) (implementation_of ds n)) (either_way n m.text)
     by (constant u ns s) e = e
     by (function m ps ins r x) e = e
     by (axiom_of x) e = e

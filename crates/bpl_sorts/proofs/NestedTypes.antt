@@ -4,6 +4,7 @@ use Rattle.std.proofs.lemmas.List.{map-append}
 use Rattle.std.specs.Prelude.{Vec, bytes_eq, option_map, slice_get}
 use Rattle.std.specs.Borrow.{Bor}
 use Rattle.std.specs.declared.alloc.Global.{Global}
+use Rattle.bv_base.proofs.EitherWay.{either_way}
 use Rattle.bpl_ast.specs.Place.{Name, Ty as Written, integer, boolean, named, map_type}
 use Rattle.bpl_ast.specs.ExprView.{groups_of, each_groups_of}
 use Rattle.bpl_ast.specs.declared.expr.Group.{Group}
@@ -12,7 +13,6 @@ use Rattle.bpl_scopes.specs.Positions.{first_at, or_other}
 use Rattle.bpl_scopes.specs.Scopes.{Text, Table, Entry, typed_names, names_of}
 use Rattle.bpl_declaration_faults.specs.Variables.{locals_of}
 use Rattle.bpl_faults.proofs.ListedNames.{next_dropped}
-use Rattle.bpl_resolve.proofs.Ways.{same_text, text_itself}
 use Rattle.bpl_sorts.specs.Types.{Ty, integers, maps}
 use Rattle.bpl_sorts.specs.TypeNames.{users_in, number_of, users_before, type_in, type_after, type_over}
 use Rattle.bpl_sorts.specs.TypeShapes.{nested, map_depth, innermost, base_type, end_type, end_in, walk_type}
@@ -39,19 +39,10 @@ ends f (map_type p ps ds r) = ap (λ k. nested k (end_in f (innermost r))) (let 
 pub written_is : (f : Text → Ty) (w : Written) (k : ℕ) (e : End) (x : Written) → k ≡ map_depth w → x ≡ innermost w → ((g : Text → Ty) → end_type g e ≡ end_in g x) → nested k (end_type f e) ≡ type_in f w
 written_is f w k e x d i h = ap (λ t. nested k t) (h f) ∙ ((λ j. nested (d j) (end_in f (i j))) ∙ ends f w)
 
-turned : (m n : Text) → bytes_eq m n ≡ bytes_eq n m
-turned m n = by (bytes_eq m n) (bytes_eq n m) refl refl
-  where
-    by : (r q : Bool) → bytes_eq m n ≡ r → bytes_eq n m ≡ q → r ≡ q
-    by true true e f = refl
-    by false false e f = refl
-    by true false e f = let s : true ≡ false = sym (text_itself n) ∙ (ap (λ w. bytes_eq n w) (sym (same_text m n e)) ∙ f) in cc
-    by false true e f = let s : true ≡ false = sym (text_itself m) ∙ (ap (λ w. bytes_eq m w) (sym (same_text n m f)) ∙ e) in cc
-
 -- at the first place of the name, or at the end
 numbers_from : (k : ℕ) (t : Table) (n : Text) → slice_get (users_before k t) (or_other (first_at n (names_in t)) (length t)) ≡ Some (k + number_of t n)
 numbers_from k [] n = let z : k ≡ k + 0 = omega arith in ap Some z
-numbers_from k (e ∷ t) n = by (bytes_eq n e.name) (bytes_eq e.name n) (turned n e.name) (first_at n (names_in t)) (numbers_from (k + users_in e.entity) t n)
+numbers_from k (e ∷ t) n = by (bytes_eq n e.name) (bytes_eq e.name n) (either_way n e.name) (first_at n (names_in t)) (numbers_from (k + users_in e.entity) t n)
   where
     by : (r q : Bool) → r ≡ q → (o : Option ℕ) → slice_get (users_before (k + users_in e.entity) t) (or_other o (length t)) ≡ Some (k + users_in e.entity + number_of t n)
         → slice_get (users_before k (e ∷ t)) (or_other (cond r (Some 0) (option_map suc o)) (suc (length t))) ≡ Some (k + cond q 0 (users_in e.entity + number_of t n))

@@ -4,17 +4,11 @@ use Rattle.std.proofs.Common.{refl, ap, sym, ◌∙◌, subst, arith}
 use Rattle.bpl_ast.specs.Place.{Name, Ty}
 use Rattle.bpl_ast.specs.Statement.{DeclBody, constant, function, axiom_of, variables, synonym, procedure, implementation, Decl}
 use Rattle.bv_base.specs.Text.{is_among}
+use Rattle.bv_base.proofs.EitherWay.{either_way}
 use Rattle.bpl_scopes.specs.Scopes.{Text, Entity, a_constant, a_global, Entry, Table, Counts, counts_with, declared_names, typed_names, names_of, only_names, texts_of, entries_from, entries_of, entries_after, entry_of}
 use Rattle.bpl_declaration_faults.specs.DeclFaults.{Before, before_with}
-use Rattle.logic_core.proofs.Booleans.{same_test}
-use Rattle.bpl_resolve.proofs.Ways.{same_text, text_itself}
 use Rattle.bpl_resolve.proofs.EntriesFine.{NoFaults}
 use Rattle.rebuild_laws.proofs.OwnNames.{apart_by, among_more, among_some, declared_apart}
-
-either_way : (m n : Text) → bytes_eq m n ≡ bytes_eq n m
-either_way m n = same_test (bytes_eq m n) (bytes_eq n m)
-    (λ e. subst (λ w. bytes_eq n w ≡ true) (sym (same_text m n e)) (text_itself n))
-    (λ e. subst (λ w. bytes_eq m w ≡ true) (sym (same_text n m e)) (text_itself m))
 
 abbrev pub or_in : Option Entry → Option Entry → Option Entry
 or_in None o = o
