@@ -53,16 +53,16 @@ impl Open {
     }
 
     // The state where a node begins, behind a step.
-    fn next_node(self, step: Step) -> Result<State, AllocError>
-        ensures { IfOk result (λ s. s ≡ next_node self.levels self.steps (step_of step)) }
+    fn next_node(self, step: Step) -> Result<Option<State>, AllocError>
+        ensures { IfOk result (λ o. o ≡ Some (next_node self.levels self.steps (step_of step))) }
     {
         let Open { levels, steps } = self;
         let steps = steps.with(step)?;
-        Ok(State {
+        Ok(Some(State {
             levels,
             steps,
             cursor: Cursor::NodeDue,
-        })
+        }))
     }
 
     /// The state behind the end of the branch.
@@ -79,16 +79,16 @@ impl Open {
     }
 
     // The state where a child begins.
-    fn into(self, alloc: Global, branch: Branch) -> Result<State, AllocError>
-        ensures { IfOk result (λ s. s ≡ into self.levels self.steps branch) }
+    fn into(self, alloc: Global, branch: Branch) -> Result<Option<State>, AllocError>
+        ensures { IfOk result (λ o. o ≡ Some (into self.levels self.steps branch)) }
     {
         let Open { levels, steps } = self;
         let levels = levels.over(Level { steps, branch })?;
-        Ok(State {
+        Ok(Some(State {
             levels,
             steps: Steps::new(alloc),
             cursor: Cursor::NodeDue,
-        })
+        }))
     }
 
     // The state where a term begins.
@@ -127,7 +127,7 @@ impl Open {
         ensures { IfOk result (λ o. o ≡ step self.levels self.steps (StepDone noted) byte) }
     {
         match byte {
-            b' ' => Ok(Some(self.next_node(noted.into_step())?)),
+            b' ' => self.next_node(noted.into_step()),
             _ => {
                 drop(noted);
                 Ok(None)
@@ -178,11 +178,16 @@ impl Open {
             }
             Beyond::Close { .. } => None,
             Beyond::Condition(_, term, yes, no) => {
-                drop((term, yes, no));
+                drop(term);
+                drop(yes);
+                drop(no);
                 None
             }
             Beyond::Three(_, term, below, same, above) => {
-                drop((term, below, same, above));
+                drop(term);
+                drop(below);
+                drop(same);
+                drop(above);
                 None
             }
         }
@@ -316,7 +321,7 @@ impl Open {
         ensures { IfOk result (λ o. o ≡ step self.levels self.steps (CaseOrTerm f) byte) }
     {
         if byte == b'[' {
-            return Ok(Some(self.into(alloc, Branch::Case(f))?));
+            return self.into(alloc, Branch::Case(f));
         }
         self.in_term(alloc, Argument::Condition(f), TermState::start(alloc), byte)
     }
@@ -331,7 +336,7 @@ impl Open {
         ensures { IfOk result (λ o. o ≡ step self.levels self.steps (ChildDue branch) byte) }
     {
         match byte {
-            b'[' => Ok(Some(self.into(alloc, branch)?)),
+            b'[' => self.into(alloc, branch),
             _ => {
                 drop(branch);
                 Ok(None)
@@ -345,15 +350,15 @@ impl Open {
         level: Level,
         alloc: Global,
         proof: Proof,
-    ) -> Result<State, AllocError>
-        ensures { IfOk result (λ s. s ≡ at levels level.steps (After (proved level.branch proof))) }
+    ) -> Result<Option<State>, AllocError>
+        ensures { IfOk result (λ o. o ≡ Some (at levels level.steps (After (proved level.branch proof)))) }
     {
         let (steps, beyond) = level.proved(alloc, proof)?;
-        Ok(State {
+        Ok(Some(State {
             levels,
             steps,
             cursor: Cursor::After(beyond),
-        })
+        }))
     }
 
     /// Behind the end of a proof.
@@ -370,7 +375,7 @@ impl Open {
         let (last, levels) = levels.split();
         match last {
             Some(level) => match byte {
-                b']' => Ok(Some(Open::child_ended(levels, level, alloc, proof)?)),
+                b']' => Open::child_ended(levels, level, alloc, proof),
                 _ => Ok(None),
             },
             None => Ok(None),

@@ -65,7 +65,7 @@ fn sorts_end(
         return Ok(None);
     }
     if byte == b' ' {
-        return Ok(Some(into(holes, Hole::Body(binder, sorts, Patterns::new(alloc)))?));
+        return into(holes, Hole::Body(binder, sorts, Patterns::new(alloc)));
     }
     Ok(None)
 }

@@ -7,7 +7,7 @@ use crate::digit::{more_integer, more_number};
 use crate::hole::{Behind, Hole, Many, sum_of};
 use crate::stack::Stack;
 use crate::term_heads::spaced;
-use crate::term_state::{Letter, Signed, TermCursor, TermState, at, completed, into};
+use crate::term_state::{Letter, Signed, TermCursor, TermState, at, closed, completed, into};
 use logic_core::sequence::Sequence;
 use logic_core::term::{Node, Term};
 use std::alloc::{AllocError, Global};
@@ -71,25 +71,24 @@ fn behind_space(
     ensures { IfOk result (λ o. o ≡ behind_space holes behind) }
 {
     match behind {
-        Behind::Space(hole) => Ok(Some(into(holes, hole)?)),
+        Behind::Space(hole) => into(holes, hole),
         Behind::Close(full) => {
             drop(full);
             Ok(None)
         }
-        Behind::Many(many, terms) => Ok(Some(into(holes, Hole::Member(many, terms))?)),
+        Behind::Many(many, terms) => into(holes, Hole::Member(many, terms)),
         Behind::Parts(parts) => Ok(Some(at(
             holes,
             TermCursor::SignedDue(Signed::Coefficient(parts)),
         ))),
-        Behind::Sum(parts, k) => Ok(Some(into(holes, Hole::Scaled(parts, k))?)),
+        Behind::Sum(parts, k) => into(holes, Hole::Scaled(parts, k)),
         Behind::Sorts(binder) => Ok(Some(at(
             holes,
             TermCursor::Sorts(binder, Sequence::new(alloc), 0),
         ))),
-        Behind::Pattern(binder, sorts, patterns, terms) => Ok(Some(into(
-            holes,
-            Hole::Pattern(binder, sorts, patterns, terms),
-        )?)),
+        Behind::Pattern(binder, sorts, patterns, terms) => {
+            into(holes, Hole::Pattern(binder, sorts, patterns, terms))
+        }
     }
 }
 
@@ -111,9 +110,9 @@ fn behind_close(
             Ok(None)
         }
         Behind::Sorts(_) => Ok(None),
-        Behind::Close(full) => Ok(Some(completed(holes, full.term(alloc)?)?)),
-        Behind::Many(many, terms) => Ok(Some(completed(holes, many.of(terms))?)),
-        Behind::Sum(parts, k) => Ok(Some(completed(holes, sum_of(parts, k))?)),
+        Behind::Close(full) => closed(holes, full.term(alloc)?),
+        Behind::Many(many, terms) => closed(holes, many.of(terms)),
+        Behind::Sum(parts, k) => closed(holes, sum_of(parts, k)),
         Behind::Pattern(binder, sorts, patterns, terms) => {
             let patterns = patterns.with(terms)?;
             Ok(spaced(holes, Hole::Body(binder, sorts, patterns)))

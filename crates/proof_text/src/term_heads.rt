@@ -8,7 +8,7 @@ ghost use Rattle.proof_text.specs.declared.term_state.TermCursor.TheVariants.{It
 use crate::digit::{digit, first_negative};
 use crate::hole::{Behind, Binder, Hole, Many, Pair, Triple};
 use crate::stack::Stack;
-use crate::term_state::{Letter, Signed, TermCursor, TermState, at, completed};
+use crate::term_state::{Letter, Signed, TermCursor, TermState, at, closed};
 use logic_core::sequence::Sequence;
 use logic_core::term::{Node, Term};
 use std::alloc::{AllocError, Global};
@@ -19,8 +19,8 @@ pub fn item(holes: Stack<Hole>, byte: u8) -> Result<Option<TermState>, AllocErro
 {
     match byte {
         b'(' => Ok(Some(at(holes, TermCursor::Opened))),
-        b'T' => Ok(Some(completed(holes, Term::new(Node::Truth(true)))?)),
-        b'F' => Ok(Some(completed(holes, Term::new(Node::Truth(false)))?)),
+        b'T' => closed(holes, Term::new(Node::Truth(true))),
+        b'F' => closed(holes, Term::new(Node::Truth(false))),
         b'v' => Ok(Some(at(holes, TermCursor::Due(Letter::Free)))),
         b'k' => Ok(Some(at(holes, TermCursor::Due(Letter::Bound)))),
         b'-' => Ok(Some(at(holes, TermCursor::Minus(Signed::Number)))),

@@ -1,5 +1,5 @@
 // Reading a term byte by byte.
-ghost use Rattle.std.specs.Prelude.{◌≡◌, [], IfOk};
+ghost use Rattle.std.specs.Prelude.{◌≡◌, [], Some, IfOk};
 ghost use Rattle.proof_text.specs.TermStates.{at, into, completed, term_step, next_behind, named, plain, alone, finished, present};
 ghost use Rattle.proof_text.specs.declared.term_state.TermCursor.TheVariants.{Item};
 
@@ -67,14 +67,14 @@ pub fn at(holes: Stack<Hole>, cursor: TermCursor) -> TermState
 }
 
 /// The state where a term begins in the hole.
-pub fn into(holes: Stack<Hole>, hole: Hole) -> Result<TermState, AllocError>
-    ensures { IfOk result (λ s. s ≡ into holes hole) }
+pub fn into(holes: Stack<Hole>, hole: Hole) -> Result<Option<TermState>, AllocError>
+    ensures { IfOk result (λ o. o ≡ Some (into holes hole)) }
 {
     let holes = holes.over(hole)?;
-    Ok(TermState {
+    Ok(Some(TermState {
         holes,
         cursor: TermCursor::Item,
-    })
+    }))
 }
 
 /// The state behind a complete term.
@@ -95,6 +95,13 @@ pub fn completed(holes: Stack<Hole>, term: Term) -> Result<TermState, AllocError
             cursor: TermCursor::Whole(term),
         }),
     }
+}
+
+/// The state behind a complete term, as one that a text may come to.
+pub fn closed(holes: Stack<Hole>, term: Term) -> Result<Option<TermState>, AllocError>
+    ensures { IfOk result (λ o. o ≡ Some (completed holes term)) }
+{
+    Ok(Some(completed(holes, term)?))
 }
 
 // The term that a letter and a number are.

@@ -1,5 +1,5 @@
 // The texts of steps and proofs.
-ghost use Rattle.std.specs.Prelude.{◌≡◌, ◌++◌, IfOk, OnOk};
+ghost use Rattle.std.specs.Prelude.{◌≡◌, ◌++◌, codes, IfOk, OnOk};
 ghost use Rattle.obligation_text.specs.Numbers.{signed_text};
 ghost use Rattle.obligation_text.specs.Text.{spaced, form};
 ghost use Rattle.proof_core.specs.Proof.{by_cases, by_condition};
@@ -43,13 +43,21 @@ fn put_tuple(out: &mut Vec<u8>, terms: &[Term]) -> Result<(), AllocError>
     Ok(())
 }
 
+// The opening parenthesis and the head of a node, and the fact that it names first.
+#[tactic(auto, using(logic_core::proofs::Mentioned::behind))]
+fn open_fact(out: &mut Vec<u8>, head: &[u8], f: u64) -> Result<(), AllocError>
+    ensures { OnOk result (out.new.items ≡ out.old.items ++ codes "(" ++ head.now ++ fact_text f) }
+{
+    open(out, head)?;
+    put_fact(out, f)
+}
+
 // A node that names one fact.
 #[tactic(auto, using(logic_core::proofs::Mentioned::behind))]
 fn put_fact_node(out: &mut Vec<u8>, head: &[u8], f: u64) -> Result<(), AllocError>
     ensures { OnOk result (out.new.items ≡ out.old.items ++ form head.now (fact_text f)) }
 {
-    open(out, head)?;
-    put_fact(out, f)?;
+    open_fact(out, head, f)?;
     put(out, b")")
 }
 
@@ -58,8 +66,7 @@ fn put_fact_node(out: &mut Vec<u8>, head: &[u8], f: u64) -> Result<(), AllocErro
 fn put_term_node(out: &mut Vec<u8>, head: &[u8], f: u64, term: &Term) -> Result<(), AllocError>
     ensures { OnOk result (out.new.items ≡ out.old.items ++ form head.now (fact_text f ++ named_text term.now)) }
 {
-    open(out, head)?;
-    put_fact(out, f)?;
+    open_fact(out, head, f)?;
     put_spaced(out, term)?;
     put(out, b")")
 }
@@ -71,15 +78,13 @@ fn put_step(out: &mut Vec<u8>, step: &Step) -> Result<(), AllocError>
     match step {
         Step::Split(f) => put_fact_node(out, b"s", *f),
         Step::Instantiate { fact, terms } => {
-            open(out, b"i")?;
-            put_fact(out, *fact)?;
+            open_fact(out, b"i", *fact)?;
             put_tuple(out, terms)?;
             put(out, b")")
         }
         Step::Skolem(f) => put_fact_node(out, b"w", *f),
         Step::Replace { fact, by, term } => {
-            open(out, b"e")?;
-            put_fact(out, *fact)?;
+            open_fact(out, b"e", *fact)?;
             put_fact(out, *by)?;
             put_spaced(out, term)?;
             put(out, b")")
@@ -93,8 +98,7 @@ fn put_step(out: &mut Vec<u8>, step: &Step) -> Result<(), AllocError>
             second,
             second_times,
         } => {
-            open(out, b"k")?;
-            put_fact(out, *first)?;
+            open_fact(out, b"k", *first)?;
             put_multiplier(out, *first_times)?;
             put_fact(out, *second)?;
             put_multiplier(out, *second_times)?;
@@ -158,8 +162,7 @@ fn put_cases(
 ) -> Result<(), AllocError>
     ensures { OnOk result (out.new.items ≡ out.old.items ++ end_text (by_cases fact first.now (proofs_of others.now))) }
 {
-    open(out, b"s")?;
-    put_fact(out, fact)?;
+    open_fact(out, b"s", fact)?;
     put_child(out, first)?;
     put_children(out, others)?;
     put(out, b")")
@@ -177,8 +180,7 @@ fn put_condition(
 ) -> Result<(), AllocError>
     ensures { OnOk result (out.new.items ≡ out.old.items ++ end_text (by_condition fact term.now yes.now no.now)) }
 {
-    open(out, b"s")?;
-    put_fact(out, fact)?;
+    open_fact(out, b"s", fact)?;
     put_spaced(out, term)?;
     put_child(out, yes)?;
     put_child(out, no)?;
@@ -213,8 +215,7 @@ fn put_end(out: &mut Vec<u8>, end: &End) -> Result<(), AllocError>
 {
     match end {
         End::Close { first, second } => {
-            open(out, b"c")?;
-            put_fact(out, *first)?;
+            open_fact(out, b"c", *first)?;
             put_fact(out, *second)?;
             put(out, b")")
         }
