@@ -4,16 +4,16 @@ ghost use Rattle.tableau.specs.RunView.{verdict_of};
 ghost use Rattle.check_report.specs.Scratch.{verdict_on, verdicts};
 
 use bpl_model::Mark;
-use clause_search::search::answer;
+use clause_search::search::Searcher;
 use program_opening::goals::SharedGoal;
 use std::alloc::{AllocError, Global};
 use tableau::ended::Verdict;
 
 // What the search says of a goal.
-fn verdict_on(alloc: Global, goal: &SharedGoal, turns: u64) -> Result<Verdict, AllocError>
+fn verdict_on(searcher: &Searcher, goal: &SharedGoal, turns: u64) -> Result<Verdict, AllocError>
     ensures { IfOk result (λ v. verdict_of v ≡ verdict_on turns goal.now) }
 {
-    let found = answer(alloc, &goal.obligation, turns)?;
+    let found = searcher.answer(&goal.obligation, turns)?;
     Ok(found.verdict)
 }
 
@@ -21,9 +21,10 @@ fn verdict_on(alloc: Global, goal: &SharedGoal, turns: u64) -> Result<Verdict, A
 pub fn verdicts(alloc: Global, goals: &[SharedGoal], turns: u64) -> Result<Vec<Verdict>, AllocError>
     ensures { IfOk result (λ v. map verdict_of v.items ≡ verdicts turns goals.now) }
 {
+    let searcher = Searcher::new(alloc);
     let mut found = Vec::new(alloc);
     for goal in goals {
-        found.push(verdict_on(alloc, goal, turns)?)?;
+        found.push(verdict_on(&searcher, goal, turns)?)?;
     }
     Ok(found)
 }

@@ -13,22 +13,48 @@ use logic_core::copy::copy_sorts;
 use logic_core::def::Signature;
 use logic_core::fault::NormalFault;
 use numbered_branches::branch::Branch;
-use numbered_facts::Store;
+use numbered_facts::{Kept, Store};
 use numbered_terms::Terms;
 use obligation_text::Asked;
 use obligation_text::obligation::Obligation;
 use std::alloc::{AllocError, Global};
+use std::cell::Cell;
 use std::sync::Arc;
 use tableau::ended::{Answer, Run, Verdict};
 use tableau::search::found;
 use tableau::settled::Settled;
 
-/// A store without terms, over the signature.
-fn store_over<'a>(alloc: Global, signature: &'a Signature) -> Result<Store<'a>, AllocError>
-    ensures { IfOk result (λ s. s ≡ record { terms = []; vars = signature.now.vars; defs = signature.now.defs }) }
+/// A search that begins each time with the terms that the last one left, and with what was found of them.
+#[derive(Drop)]
+pub struct Searcher {
+    alloc: Global,
+    kept: Cell<Option<Kept>>,
+}
+
+/// A store over the signature: what is kept, where it is right there, and else one without terms.
+fn store_over<'a>(
+    alloc: Global,
+    kept: Option<Kept>,
+    signature: &'a Signature,
+) -> Result<Store<'a>, AllocError>
+    ensures vars { IfOk result (λ s. s.vars ≡ signature.now.vars) }
+    ensures defs { IfOk result (λ s. s.defs ≡ signature.now.defs) }
 {
+    if let Some(kept) = kept {
+        if let Some(store) = kept.store(signature.vars(), signature.defs())? {
+            return Ok(store);
+        }
+    }
     let vars = copy_sorts(alloc, signature.vars())?;
     Ok(Store::new(Terms::new(alloc), vars, signature.defs()))
+}
+
+/// What the store leaves, where there is memory for it.
+fn left_by(store: Store<'_>) -> Option<Kept> {
+    match Kept::of(store) {
+        Ok(kept) => kept,
+        Err(_) => None,
+    }
 }
 
 /// Searches from one branch, by number.
@@ -40,16 +66,20 @@ fn run_from(store: &mut Store, turns: u64, first: Branch) -> Result<Run, AllocEr
     ended.tree(store.terms())
 }
 
-/// Searches for a proof of the obligation with so many turns: the verdict and the proof are exactly
-/// those of the search's definition, and the proof is accepted.
-pub fn answer(alloc: Global, obligation: &Obligation, turns: u64) -> Result<Answer, AllocError>
-    ensures exact { IfOk result (λ a. answer_seen a ≡ answer obligation.now turns) }
-    ensures accepted { IfOk result (λ a. IfSome a.proof (IsAccepted obligation.now)) }
+/// What the search's definition finds. The search is in this store.
+fn answer_in(
+    alloc: Global,
+    store: &mut Store,
+    obligation: &Obligation,
+    turns: u64,
+) -> Result<Answer, AllocError>
+    requires vars { store.old.vars ≡ obligation.now.vars }
+    requires defs { store.old.defs ≡ obligation.now.defs }
+    ensures { IfOk result (λ a. answer_seen a ≡ answer obligation.now turns) }
 {
-    let mut store = store_over(alloc, obligation.signature())?;
-    match first_branch(&mut store, obligation) {
+    match first_branch(store, obligation) {
         Ok(first) => {
-            let ended = run_from(&mut store, turns, first)?;
+            let ended = run_from(store, turns, first)?;
             let verdict = ended.verdict;
             let proof = found(alloc, ended)?;
             Ok(Answer { verdict, proof })
@@ -62,12 +92,57 @@ pub fn answer(alloc: Global, obligation: &Obligation, turns: u64) -> Result<Answ
     }
 }
 
+impl Searcher {
+    /// Nothing is left yet.
+    pub fn new(alloc: Global) -> Searcher {
+        Searcher {
+            alloc,
+            kept: Cell::new(None),
+        }
+    }
+
+    /// The allocator that it keeps.
+    pub fn alloc(&self) -> Global {
+        self.alloc
+    }
+
+    /// Searches for a proof of the obligation with so many turns: the verdict and the proof are exactly
+    /// those of the search's definition, and the proof is accepted.
+    pub fn answer(&self, obligation: &Obligation, turns: u64) -> Result<Answer, AllocError>
+        ensures exact { IfOk result (λ a. answer_seen a ≡ answer obligation.now turns) }
+        ensures accepted { IfOk result (λ a. IfSome a.proof (IsAccepted obligation.now)) }
+    {
+        let kept = self.kept.replace(None);
+        let mut store = store_over(self.alloc, kept, obligation.signature())?;
+        let answer = answer_in(self.alloc, &mut store, obligation, turns)?;
+        self.kept.set(left_by(store));
+        Ok(answer)
+    }
+
+    /// Searches for a proof of the question's obligation with its turns, and keeps the question with the
+    /// answer.
+    pub fn search(&self, asked: &Arc<Asked, Global>) -> Result<Settled, AllocError>
+        ensures { IfOk result (λ s. s ≡ settled_by (arc_value asked.now)) }
+    {
+        let shared = Arc::try_clone(asked)?;
+        let answer = self.answer(asked.obligation(), asked.turns())?;
+        Ok(Settled::new(shared, answer))
+    }
+}
+
+/// Searches for a proof of the obligation with so many turns: the verdict and the proof are exactly
+/// those of the search's definition, and the proof is accepted.
+pub fn answer(alloc: Global, obligation: &Obligation, turns: u64) -> Result<Answer, AllocError>
+    ensures exact { IfOk result (λ a. answer_seen a ≡ answer obligation.now turns) }
+    ensures accepted { IfOk result (λ a. IfSome a.proof (IsAccepted obligation.now)) }
+{
+    Searcher::new(alloc).answer(obligation, turns)
+}
+
 /// Searches for a proof of the question's obligation with its turns, and keeps the question with the
 /// answer.
 pub fn search(alloc: Global, asked: &Arc<Asked, Global>) -> Result<Settled, AllocError>
     ensures { IfOk result (λ s. s ≡ settled_by (arc_value asked.now)) }
 {
-    let shared = Arc::try_clone(asked)?;
-    let answer = answer(alloc, asked.obligation(), asked.turns())?;
-    Ok(Settled::new(shared, answer))
+    Searcher::new(alloc).search(asked)
 }

@@ -11,7 +11,7 @@ ghost use Rattle.goal_board.specs.Rounds.{IsDeposited, IsNext, IsGivenUp};
 
 use board_core::{Board, Claim, Claimed};
 use bv_base::Answered;
-use clause_search::search::search;
+use clause_search::search::Searcher;
 use obligation_text::Asked;
 use std::alloc::{AllocError, Global};
 use std::sync::Arc;
@@ -19,16 +19,16 @@ use tableau::settled::Settled;
 
 // The search's answer to a question; it comes behind those that were found.
 fn answer_to(
-    alloc: Global,
+    searcher: &Searcher,
     question: &Arc<Asked, Global>,
     found: &mut Vec<Arc<Settled, Global>>,
 ) -> Result<Arc<Settled, Global>, AllocError>
     ensures answer { IfOk result (λ a. arc_value a ≡ settled_by (arc_value question.now)) }
     ensures right { IfOk result (λ a. IsRight (arc_value a)) }
 {
-    let settled = search(alloc, question)?;
+    let settled = searcher.search(question)?;
     let _question = settled.question();
-    let shared = Arc::new(alloc, settled)?;
+    let shared = Arc::new(searcher.alloc(), settled)?;
     found.push(Arc::try_clone(&shared)?)?;
     Ok(shared)
 }
@@ -36,7 +36,7 @@ fn answer_to(
 // Deposits the answer to a claim, or without memory gives the claim back.
 #[tactic(auto, using(crate::proofs::Nexts::is_deposited))]
 fn settle(
-    alloc: Global,
+    searcher: &Searcher,
     board: &mut Board<Settled>,
     claim: Claim<Settled>,
     found: &mut Vec<Arc<Settled, Global>>,
@@ -45,7 +45,7 @@ fn settle(
     ensures settled { IfOk result (λ more. (more ≡ true) × IsDeposited (ticket key_of claim) board.old board.new) }
     ensures given_back { OnErr result (board.new ≡ step board.old (give_back (ticket key_of claim))) }
 {
-    match answer_to(alloc, claim.question(), found) {
+    match answer_to(searcher, claim.question(), found) {
         Ok(answer) => {
             board.deposit(claim, answer);
             Ok(true)
@@ -60,7 +60,7 @@ fn settle(
 // Claims a goal and settles it, where one is left.
 #[tactic(auto, using(crate::proofs::Nexts::settled_next, crate::proofs::Nexts::empty_next, crate::proofs::Nexts::closed_next, crate::proofs::Nexts::given_back_up, crate::proofs::Nexts::nothing_up))]
 fn settle_next(
-    alloc: Global,
+    searcher: &Searcher,
     board: &mut Board<Settled>,
     found: &mut Vec<Arc<Settled, Global>>,
 ) -> Result<bool, AllocError>
@@ -70,7 +70,7 @@ fn settle_next(
     ensures given_up { OnErr result (IsGivenUp board.old board.new) }
 {
     match board.claim()? {
-        Claimed::Claim(claim) => settle(alloc, board, claim, found),
+        Claimed::Claim(claim) => settle(searcher, board, claim, found),
         Claimed::Empty | Claimed::Closed => Ok(false),
     }
 }
@@ -89,9 +89,10 @@ pub fn settle_all(
     ensures settled { OnOk result (IsSettled board.old board.new) }
     ensures memory { OnErr result (IsWorkedOn board.old board.new) }
 {
+    let searcher = Searcher::new(alloc);
     let mut more = true;
     while more {
-        more = settle_next(alloc, board, found)?;
+        more = settle_next(&searcher, board, found)?;
     }
     Ok(())
 }

@@ -11,3 +11,8 @@ mod SameSorts
 mod Coefficients
 mod SortsKept
 pub mod Indexes
+pub mod AlikeSorts
+pub mod AlikeForms
+pub mod AlikeMemos
+pub mod WidthBelow
+mod SameHeads

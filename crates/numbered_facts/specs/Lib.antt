@@ -1,3 +1,5 @@
+pub mod Alike
+pub mod Heads
 pub mod Answers
 pub mod Codes
 pub mod Atoms

@@ -6,6 +6,7 @@
 // What is found once, and kept.
 mod atoms;
 mod bodies;
+mod heads;
 mod left;
 mod lefts;
 mod memo;
@@ -16,8 +17,10 @@ mod saying;
 mod sorts;
 mod standing;
 mod tightening;
+mod width;
 
-// The store.
+// The store, and what is left of it for the next.
+pub mod kept;
 pub mod store;
 
 // What it gives of terms.
@@ -26,4 +29,5 @@ pub mod inside;
 pub mod linear;
 pub mod sides;
 
+pub use kept::Kept;
 pub use store::Store;

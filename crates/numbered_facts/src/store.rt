@@ -9,6 +9,7 @@ ghost use Rattle.numbered_facts.specs.Answers.{StandsFor};
 
 use crate::bodies::{body, number_at};
 use crate::standing::Standing;
+use crate::width::{agree, width_of};
 use logic_core::copy::copy_sorts;
 use logic_core::same::equal_sorts;
 use logic_core::{Def, Sort, Term};
@@ -32,6 +33,9 @@ pub struct Store<'a> {
     pub(crate) standing: Slots<Standing>,
     pub(crate) bodies: Slots<Option<TermId>>,
     pub(crate) sorts: Slots<Option<Sort>>,
+    // Below which number the variables in so many of the terms stand.
+    pub(crate) counted: usize,
+    pub(crate) width: u128,
 }
 
 impl<'a> Model for Store<'a> {
@@ -42,11 +46,12 @@ impl<'a> Model for Store<'a> {
 
     ghost coded = { coded_numbered };
 
+    ghost use Rattle.numbered_facts.specs.Alike.{AreCounted};
     ghost use Rattle.numbered_facts.specs.Memos.{AreMemos};
 
     ghost view = { λ a. record { terms = a.terms; vars = a.vars.items; defs = a.defs.now } };
 
-    ghost invariant = { λ a. AreMemos (record { terms = a.terms; vars = a.vars.items; defs = a.defs.now }) a.forms.slots.items a.lefts.slots.items a.negations.slots.items a.atoms.slots.items a.standing.slots.items a.bodies.slots.items a.sorts.slots.items };
+    ghost invariant = { λ a. AreMemos (record { terms = a.terms; vars = a.vars.items; defs = a.defs.now }) a.forms.slots.items a.lefts.slots.items a.negations.slots.items a.atoms.slots.items a.standing.slots.items a.bodies.slots.items a.sorts.slots.items × AreCounted a.terms a.counted a.width };
 }
 
 impl<'a> Store<'a> {
@@ -66,6 +71,8 @@ impl<'a> Store<'a> {
             standing: Slots::new(alloc),
             bodies: Slots::new(alloc),
             sorts: Slots::new(alloc),
+            counted: 0,
+            width: 0,
         }
     }
 
@@ -101,6 +108,12 @@ impl<'a> Store<'a> {
         ensures vars { OnOk result (self.new ≡ record self.old { vars = vars.now }) }
     {
         if equal_sorts(&self.vars, vars) {
+            return Ok(());
+        }
+        self.width = width_of(&self.terms, self.counted, self.width);
+        self.counted = self.terms.len();
+        if agree(&self.vars, vars, self.width) {
+            self.vars = copy_sorts(self.terms.alloc(), vars)?;
             return Ok(());
         }
         let copies = copy_sorts(self.terms.alloc(), vars)?;

@@ -1,5 +1,5 @@
 // The goals of programs, asked of both searches.
-use clause_search::search::search;
+use clause_search::search::Searcher;
 use obligation_text::Asked;
 use plain_search::search::search_plain;
 use program_opening::goals::SharedGoal;
@@ -23,17 +23,18 @@ fn told(alloc: Global, settled: &Settled) -> Result<(Verdict, Vec<u8>), AllocErr
     Ok((settled.verdict(), text))
 }
 
-/// What both searches say of the goal in so many turns.
+/// What both searches say of the goal in so many turns, the one after what it left at the goals before.
 fn agreed(
     rt: &impl Abort,
     alloc: Global,
+    searcher: &Searcher,
     goal: &SharedGoal,
     turns: u64,
 ) -> Result<Verdict, AllocError> {
     let obligation = Arc::try_clone(&goal.obligation)?;
     let asked = Arc::new(alloc, Asked::shared(alloc, obligation, turns)?)?;
     let (plain, plain_text) = told(alloc, &search_plain(alloc, &asked)?)?;
-    let (verdict, text) = told(alloc, &search(alloc, &asked)?)?;
+    let (verdict, text) = told(alloc, &searcher.search(&asked)?)?;
     assert_eq!(rt; verdict, plain);
     assert_eq!(rt; text.as_slice(), plain_text.as_slice());
     Ok(verdict)
@@ -53,12 +54,13 @@ fn goals_of(rt: &impl Abort, alloc: Global, text: &str) -> Result<Vec<ProcGoals>
 fn add_verdicts(
     rt: &impl Abort,
     alloc: Global,
+    searcher: &Searcher,
     verdicts: &mut Vec<Verdict>,
     goals: &[SharedGoal],
     turns: u64,
 ) -> Result<(), AllocError> {
     for goal in goals {
-        verdicts.push(agreed(rt, alloc, goal, turns)?)?;
+        verdicts.push(agreed(rt, alloc, searcher, goal, turns)?)?;
     }
     Ok(())
 }
@@ -70,9 +72,10 @@ fn verdicts_of(
     text: &str,
     turns: u64,
 ) -> Result<Vec<Verdict>, AllocError> {
+    let searcher = Searcher::new(alloc);
     let mut verdicts = Vec::new(alloc);
     for proc in &goals_of(rt, alloc, text)? {
-        add_verdicts(rt, alloc, &mut verdicts, &proc.goals, turns)?;
+        add_verdicts(rt, alloc, &searcher, &mut verdicts, &proc.goals, turns)?;
     }
     Ok(verdicts)
 }

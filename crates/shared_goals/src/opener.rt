@@ -55,6 +55,7 @@ fn settle_one<R: Wait, G: Gate>(
     alloc: Global,
     board: &SharedBoard<Settled>,
     opener: &mut Pass<Settled>,
+    searcher: &Searcher,
     gate: &G,
 ) -> Result<bool, AllocError>
     requires { IsOpenerOf board.now opener.old }
@@ -65,7 +66,7 @@ fn settle_one<R: Wait, G: Gate>(
 {
     // Read before the claim and the look, so that no change is slept through that comes after them.
     let heard = board.changes_heard();
-    match work_once(rt, alloc, board, opener, &Searcher { alloc }, gate) {
+    match work_once(rt, alloc, board, opener, searcher, gate) {
         Ok(deposits) => {
             if deposits > 0 {
                 return Ok(false);
@@ -91,8 +92,9 @@ pub fn settle_all<R: Wait, G: Gate>(
     ensures passes { MakesNoPass opener.old opener.new }
     ensures kept { OnOk result (IsTrue (all_kept (board_of opener.new))) }
 {
+    let searcher = Searcher::new(alloc);
     for _ in rt.forever() {
-        match settle_one(rt, alloc, board, opener, gate) {
+        match settle_one(rt, alloc, board, opener, &searcher, gate) {
             Ok(true) => return Ok(()),
             Ok(false) => {}
             Err(error) => return Err(error),

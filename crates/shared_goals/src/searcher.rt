@@ -1,15 +1,24 @@
 //! The search as a prover: the workers', and the session's own.
-use clause_search::search::search;
+use clause_search::search::Searcher as Search;
 use obligation_board::Prover;
 use obligation_text::Asked;
 use std::alloc::{AllocError, Global};
 use std::sync::Arc;
 use tableau::settled::Settled;
 
-/// Answers a question as the search does.
-#[derive(Clone, Copy)]
+/// Answers a question as the search does, which begins with what the last question left.
+#[derive(Drop)]
 pub struct Searcher {
-    pub alloc: Global,
+    search: Search,
+}
+
+impl Searcher {
+    /// Nothing is left yet.
+    pub fn new(alloc: Global) -> Searcher {
+        Searcher {
+            search: Search::new(alloc),
+        }
+    }
 }
 
 impl Prover for Searcher {
@@ -21,6 +30,6 @@ impl Prover for Searcher {
     ghost gives = { λ _ q a. a ≡ settled_by q };
 
     fn answer(&self, asked: &Arc<Asked, Global>) -> Result<Settled, AllocError> {
-        search(self.alloc, asked)
+        self.search.search(asked)
     }
 }

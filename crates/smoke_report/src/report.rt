@@ -13,6 +13,7 @@ use crate::pointed::{at_once, with_points};
 use crate::program_point::{ProgramPoint, program_points};
 use crate::search::is_unreachable;
 use bpl_model::{Links, Module};
+use clause_search::search::Searcher;
 use report_text::text;
 use std::alloc::Global;
 use vc_build::BuildFault;
@@ -27,7 +28,7 @@ pub struct Smoked {
 // The point's line comes behind, where the search shows that the point is unreachable. It stands at this
 // place among points whose procedures stand behind those of the module.
 fn add_line(
-    alloc: Global,
+    searcher: &Searcher,
     module: &Module,
     points: &[ProgramPoint],
     links: &Links<'_>,
@@ -44,8 +45,8 @@ fn add_line(
     ensures within { OnOk result (large (point_goals «module».now point.now) ≡ None) }
     ensures fault { IfErr result (IsFaultOf (point_goals «module».now point.now)) }
 {
-    if is_unreachable(alloc, module, points, links, at, point, turns)? {
-        lines.push(point_line(alloc, point)?)?;
+    if is_unreachable(searcher, module, points, links, at, point, turns)? {
+        lines.push(point_line(searcher.alloc(), point)?)?;
     }
     Ok(())
 }
@@ -67,8 +68,18 @@ fn add_lines_over(
     ensures within { OnOk result (large_among «module».now points.now ≡ None) }
     ensures fault { IfErr result (IsFaultBy (large_among «module».now points.now)) }
 {
+    let searcher = Searcher::new(alloc);
     for at in 0..points.len() {
-        add_line(alloc, module, points, links, at, &points[at], turns, lines)?;
+        add_line(
+            &searcher,
+            module,
+            points,
+            links,
+            at,
+            &points[at],
+            turns,
+            lines,
+        )?;
     }
     Ok(())
 }

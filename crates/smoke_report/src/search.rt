@@ -10,7 +10,7 @@ ghost use Rattle.smoke_report.specs.Smoke.{is_point, is_mark_of, is_shown, is_sh
 use crate::program_point::ProgramPoint;
 use bpl_model::number::sum;
 use bpl_model::{GoalKind, Links, Mark, Module};
-use clause_search::search::answer;
+use clause_search::search::Searcher;
 use logic_core::Sequence;
 use report_text::is_proof;
 use std::alloc::{AllocError, Global};
@@ -35,16 +35,16 @@ fn is_mark_of(point: &ProgramPoint, mark: Mark) -> bool
 }
 
 // Whether the search finds a proof of the goal.
-fn is_shown(alloc: Global, goal: &Goal, turns: u64) -> Result<bool, AllocError>
+fn is_shown(searcher: &Searcher, goal: &Goal, turns: u64) -> Result<bool, AllocError>
     ensures { IfOk result (λ h. h ≡ is_shown turns goal.now) }
 {
-    let found = answer(alloc, &goal.obligation, turns)?;
+    let found = searcher.answer(&goal.obligation, turns)?;
     Ok(is_proof(found.verdict))
 }
 
 // Whether the goal has another mark, or the search finds a proof of it.
 fn is_shown_or_another(
-    alloc: Global,
+    searcher: &Searcher,
     point: &ProgramPoint,
     goal: &Goal,
     turns: u64,
@@ -52,7 +52,7 @@ fn is_shown_or_another(
     ensures { IfOk result (λ h. h ≡ is_shown_or_another turns point.now goal.now) }
 {
     if is_mark_of(point, goal.mark) {
-        is_shown(alloc, goal, turns)
+        is_shown(searcher, goal, turns)
     } else {
         Ok(true)
     }
@@ -60,7 +60,7 @@ fn is_shown_or_another(
 
 // Whether the search finds a proof of each goal with the point's mark.
 fn are_shown(
-    alloc: Global,
+    searcher: &Searcher,
     point: &ProgramPoint,
     goals: &[Goal],
     turns: u64,
@@ -68,7 +68,7 @@ fn are_shown(
     ensures { IfOk result (λ h. h ≡ list_all (is_shown_or_another turns point.now) goals.now) }
 {
     for goal in goals {
-        if !is_shown_or_another(alloc, point, goal, turns)? {
+        if !is_shown_or_another(searcher, point, goal, turns)? {
             return Ok(false);
         }
     }
@@ -103,7 +103,7 @@ fn point_goals(
 /// has too many goals, or too long ones, the fault says so. The point stands at this place among points
 /// whose procedures stand behind those of the module.
 pub fn is_unreachable(
-    alloc: Global,
+    searcher: &Searcher,
     module: &Module,
     points: &[ProgramPoint],
     links: &Links<'_>,
@@ -119,6 +119,6 @@ pub fn is_unreachable(
     ensures within { IfOk result (λ u. large (point_goals «module».now point.now) ≡ None) }
     ensures fault { IfErr result (IsFaultOf (point_goals «module».now point.now)) }
 {
-    let goals = point_goals(alloc, module, points, links, at, point)?;
-    Ok(are_shown(alloc, point, goals.as_slice(), turns)?)
+    let goals = point_goals(searcher.alloc(), module, points, links, at, point)?;
+    Ok(are_shown(searcher, point, goals.as_slice(), turns)?)
 }

@@ -1,7 +1,6 @@
-use Rattle.std.proofs.Common.{◌≡◌, ◌∙◌, sym, ap}
+use Rattle.std.proofs.Common.{◌∙◌, sym, ap}
 use Rattle.logic_core.specs.Same.{same_term}
 use Rattle.logic_core.specs.Subterm.{occurs}
-use Rattle.logic_core.specs.Tree.{free}
 use Rattle.term_bank.specs.Numbered.{at}
 use Rattle.term_bank.specs.Node.{tree_over}
 use Rattle.numbered_facts.proofs.occurring.in_variable.Goals as goal

@@ -1,4 +1,4 @@
-use Rattle.std.proofs.Common.{◌∙◌, ◌<◌, sym, ap, subst, [], length, map}
+use Rattle.std.proofs.Common.{◌∙◌, ◌<◌, sym, ap, subst, length, map}
 use Rattle.std.specs.List.{AllByRecursion}
 use Rattle.logic_core.specs.Subterm.{outside}
 use Rattle.logic_rules.specs.Instantiating.{each_once}

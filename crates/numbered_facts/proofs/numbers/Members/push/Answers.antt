@@ -1,4 +1,4 @@
-use Rattle.std.proofs.Common.{◌∙◌, ◌<◌, ◌++◌, ◌∷◌, [], ap, nat_eq, arith}
+use Rattle.std.proofs.Common.{◌∙◌, ◌++◌, ◌∷◌, [], ap, nat_eq, arith}
 use Rattle.std.specs.List.{list_any}
 use Rattle.numbered_facts.proofs.Indexes.{members_few, members_many}
 use Rattle.numbered_facts.proofs.numbers.Members.push.Goals as goal

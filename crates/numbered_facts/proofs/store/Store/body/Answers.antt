@@ -4,22 +4,26 @@ use Rattle.logic_core.specs.Def.{Def}
 use Rattle.numbered_terms.specs.Stored.{Numbered}
 use Rattle.numbered_facts.specs.Answers.{StandsFor}
 use Rattle.numbered_facts.proofs.Later.{memos_later}
+use Rattle.numbered_facts.proofs.WidthBelow.{counted_later}
 use Rattle.numbered_facts.proofs.store.Store.body.Goals as goal
 
 pub body-requires : goal.body-requires
-body-requires c = record { right = c.self.invariant.bodies }
+body-requires c = record { right = c.self.invariant.0.bodies }
 
 pub invariant_of-self : goal.invariant_of-self
 invariant_of-self c = let us = c.body.new.terms in
-    let m = memos_later c.self.inside.terms us c.self.inside.vars.items c.self.inside.defs.now c.self.inside.forms.slots.items c.self.inside.lefts.slots.items c.self.inside.negations.slots.items c.self.inside.atoms.slots.items c.self.inside.standing.slots.items c.self.inside.bodies.slots.items c.self.inside.sorts.slots.items c.body.ensures.grows c.self.invariant in record {
-      forms = m.forms;
-      lefts = m.lefts;
-      negations = m.negations;
-      atoms = m.atoms;
-      standing = m.standing;
-      bodies = c.body.ensures.right;
-      sorts = m.sorts;
-    }
+    let m = memos_later c.self.inside.terms us c.self.inside.vars.items c.self.inside.defs.now c.self.inside.forms.slots.items c.self.inside.lefts.slots.items c.self.inside.negations.slots.items c.self.inside.atoms.slots.items c.self.inside.standing.slots.items c.self.inside.bodies.slots.items c.self.inside.sorts.slots.items c.body.ensures.grows c.self.invariant.0 in (
+      record {
+        forms = m.forms;
+        lefts = m.lefts;
+        negations = m.negations;
+        atoms = m.atoms;
+        standing = m.standing;
+        bodies = c.body.ensures.right;
+        sorts = m.sorts;
+      },
+      counted_later c.self.inside.terms c.body.new.terms c.self.inside.counted c.self.inside.width c.body.ensures.grows c.self.invariant.1,
+    )
 
 pub returns-clause-gives : goal.returns-clause-gives
 returns-clause-gives c =

@@ -6,18 +6,21 @@ use Rattle.numbered_facts.proofs.store.Store.left_side.Goals as goal
 
 pub left-requires-clause-right : goal.left-requires-clause-right
 left-requires-clause-right c = let ts = c.self.inside.terms in let ls = c.self.inside.lefts.slots.items in
-    subst (λ vs. AreKept (IsLeft (record { terms = ts; vars = vs; defs = c.self.inside.defs.now })) ls) (sym c.deref.ensures.value) c.self.invariant.lefts
+    subst (λ vs. AreKept (IsLeft (record { terms = ts; vars = vs; defs = c.self.inside.defs.now })) ls) (sym c.deref.ensures.value) c.self.invariant.0.lefts
 
 pub left-requires-clause-sorts : goal.left-requires-clause-sorts
-left-requires-clause-sorts c = sorts_over c.self.inside.terms c.self.inside.sorts.slots.items c.self.inside.vars.items c.deref.result.now c.self.inside.defs.now c.self.inside.defs.now (sym c.deref.ensures.value) refl c.self.invariant.sorts
+left-requires-clause-sorts c = sorts_over c.self.inside.terms c.self.inside.sorts.slots.items c.self.inside.vars.items c.deref.result.now c.self.inside.defs.now c.self.inside.defs.now (sym c.deref.ensures.value) refl c.self.invariant.0.sorts
 
 pub invariant_of-self : goal.invariant_of-self
-invariant_of-self c = let ts = c.self.inside.terms in let ls = c.left.new.lefts.slots.items in record {
-  forms = c.self.invariant.forms;
-  lefts = subst (λ vs. AreKept (IsLeft (record { terms = ts; vars = vs; defs = c.self.inside.defs.now })) ls) c.deref.ensures.value c.left.ensures.right;
-  negations = c.self.invariant.negations;
-  atoms = c.self.invariant.atoms;
-  standing = c.self.invariant.standing;
-  bodies = c.self.invariant.bodies;
-  sorts = sorts_over c.self.inside.terms c.left.new.sorts.slots.items c.deref.result.now c.self.inside.vars.items c.self.inside.defs.now c.self.inside.defs.now c.deref.ensures.value refl c.left.ensures.sorts;
-}
+invariant_of-self c = let ts = c.self.inside.terms in let ls = c.left.new.lefts.slots.items in (
+  record {
+    forms = c.self.invariant.0.forms;
+    lefts = subst (λ vs. AreKept (IsLeft (record { terms = ts; vars = vs; defs = c.self.inside.defs.now })) ls) c.deref.ensures.value c.left.ensures.right;
+    negations = c.self.invariant.0.negations;
+    atoms = c.self.invariant.0.atoms;
+    standing = c.self.invariant.0.standing;
+    bodies = c.self.invariant.0.bodies;
+    sorts = sorts_over c.self.inside.terms c.left.new.sorts.slots.items c.deref.result.now c.self.inside.vars.items c.self.inside.defs.now c.self.inside.defs.now c.deref.ensures.value refl c.left.ensures.sorts;
+  },
+  c.self.invariant.1,
+)

@@ -7,7 +7,7 @@ use Rattle.proof_core.specs.Proof.{Proof}
 use Rattle.proof_core.specs.Accepted.{IsAccepted}
 use Rattle.tableau.specs.Search.{Verdict, Answer, answer}
 use Rattle.tableau.specs.Settled.{IsRight}
-use Rattle.clause_search.proofs.search.search.Goals as goal
+use Rattle.clause_search.proofs.search.Searcher.search.Goals as goal
 
 -- a question with the answer to its obligation and turns
 right : (q : Asked) (o : Obligation) (n : ℕ) (v : Verdict) (found : Option Proof) → o ≡ q.obligation → n ≡ q.turns → record { verdict = v; found = found } ≡ answer o n → IfSome found (IsAccepted o) → IsRight (record { question = q; verdict = v; found = found })
