@@ -4,6 +4,7 @@ ghost use Rattle.tableau.specs.RunView.{verdict_of};
 ghost use Rattle.check_report.specs.Summary.{is_verdict, number_of, verdicts_on};
 
 use crate::verdicts::verdicts;
+use clause_search::search::Searcher;
 use program_opening::ProcGoals;
 use std::alloc::{AllocError, Global};
 use tableau::ended::Verdict;
@@ -16,9 +17,10 @@ pub fn verdicts_on(
 ) -> Result<Vec<Verdict>, AllocError>
     ensures { IfOk result (λ v. map verdict_of v.items ≡ verdicts_on turns procs.now) }
 {
+    let searcher = Searcher::new(alloc);
     let mut found = Vec::new(alloc);
     for proc in procs {
-        let own = verdicts(alloc, &proc.goals, turns)?;
+        let own = verdicts(&searcher, &proc.goals, turns)?;
         found.extend_from_slice(&own)?;
     }
     Ok(found)

@@ -7,6 +7,7 @@ ghost use Rattle.bv_base.specs.Text.{text_of};
 ghost use Rattle.check_report.specs.Scratch.{lines_on, all_proved};
 
 use crate::verdicts::{marks, verdicts};
+use clause_search::search::Searcher;
 use program_opening::ProcGoals;
 use report_text::{all_proved, text};
 use std::alloc::{AllocError, Global};
@@ -25,13 +26,14 @@ pub fn report(alloc: Global, procs: &[ProcGoals], turns: u64) -> Result<Reported
     ensures text { IfOk result (λ r. r.text.items ≡ text_of (lines_on turns procs.now)) }
     ensures all { IfOk result (λ r. r.all_proved ≡ all_proved turns procs.now) }
 {
+    let searcher = Searcher::new(alloc);
     let mut names = Vec::new(alloc);
     let mut marked = Vec::new(alloc);
     let mut found = Vec::new(alloc);
     for proc in procs {
         names.push(String::from_str(alloc, proc.name.text.as_str())?)?;
         marked.push(marks(alloc, &proc.goals)?)?;
-        found.push(verdicts(alloc, &proc.goals, turns)?)?;
+        found.push(verdicts(&searcher, &proc.goals, turns)?)?;
     }
     let lines = report_text::report(alloc, &names, &marked, &found)?;
     Ok(Reported {

@@ -18,13 +18,16 @@ fn verdict_on(searcher: &Searcher, goal: &SharedGoal, turns: u64) -> Result<Verd
 }
 
 /// What the search says of each goal.
-pub fn verdicts(alloc: Global, goals: &[SharedGoal], turns: u64) -> Result<Vec<Verdict>, AllocError>
+pub fn verdicts(
+    searcher: &Searcher,
+    goals: &[SharedGoal],
+    turns: u64,
+) -> Result<Vec<Verdict>, AllocError>
     ensures { IfOk result (λ v. map verdict_of v.items ≡ verdicts turns goals.now) }
 {
-    let searcher = Searcher::new(alloc);
-    let mut found = Vec::new(alloc);
+    let mut found = Vec::new(searcher.alloc());
     for goal in goals {
-        found.push(verdict_on(&searcher, goal, turns)?)?;
+        found.push(verdict_on(searcher, goal, turns)?)?;
     }
     Ok(found)
 }

@@ -11,5 +11,6 @@ pub mod rules;
 // The search.
 pub mod ended;
 mod first;
+mod left;
 pub mod run;
 pub mod search;

@@ -8,13 +8,11 @@ ghost use Rattle.tableau.specs.Settled.{settled_by};
 ghost use Rattle.numbered_branches.specs.Branches.{branch_at, IsBranchOver};
 
 use crate::first::first_branch;
+use crate::left::{Left, joined, store_over};
 use crate::run::run;
-use logic_core::copy::copy_sorts;
-use logic_core::def::Signature;
 use logic_core::fault::NormalFault;
 use numbered_branches::branch::Branch;
-use numbered_facts::{Kept, Store};
-use numbered_terms::Terms;
+use numbered_facts::Store;
 use obligation_text::Asked;
 use obligation_text::obligation::Obligation;
 use std::alloc::{AllocError, Global};
@@ -24,37 +22,12 @@ use tableau::ended::{Answer, Run, Verdict};
 use tableau::search::found;
 use tableau::settled::Settled;
 
-/// A search that begins each time with the terms that the last one left, and with what was found of them.
+/// A search that begins with the terms that one of the last searches left, and with what was found of
+/// them, where that is right for its goal.
 #[derive(Drop)]
 pub struct Searcher {
     alloc: Global,
-    kept: Cell<Option<Kept>>,
-}
-
-/// A store over the signature: what is kept, where it is right there, and else one without terms.
-fn store_over<'a>(
-    alloc: Global,
-    kept: Option<Kept>,
-    signature: &'a Signature,
-) -> Result<Store<'a>, AllocError>
-    ensures vars { IfOk result (λ s. s.vars ≡ signature.now.vars) }
-    ensures defs { IfOk result (λ s. s.defs ≡ signature.now.defs) }
-{
-    if let Some(kept) = kept {
-        if let Some(store) = kept.store(signature.vars(), signature.defs())? {
-            return Ok(store);
-        }
-    }
-    let vars = copy_sorts(alloc, signature.vars())?;
-    Ok(Store::new(Terms::new(alloc), vars, signature.defs()))
-}
-
-/// What the store leaves, where there is memory for it.
-fn left_by(store: Store<'_>) -> Option<Kept> {
-    match Kept::of(store) {
-        Ok(kept) => kept,
-        Err(_) => None,
-    }
+    left: Cell<Vec<Left>>,
 }
 
 /// Searches from one branch, by number.
@@ -97,7 +70,7 @@ impl Searcher {
     pub fn new(alloc: Global) -> Searcher {
         Searcher {
             alloc,
-            kept: Cell::new(None),
+            left: Cell::new(Vec::new(alloc)),
         }
     }
 
@@ -112,10 +85,10 @@ impl Searcher {
         ensures exact { IfOk result (λ a. answer_seen a ≡ answer obligation.now turns) }
         ensures accepted { IfOk result (λ a. IfSome a.proof (IsAccepted obligation.now)) }
     {
-        let kept = self.kept.replace(None);
-        let mut store = store_over(self.alloc, kept, obligation.signature())?;
+        let mut left = self.left.replace(Vec::new(self.alloc));
+        let mut store = store_over(self.alloc, &mut left, obligation.signature())?;
         let answer = answer_in(self.alloc, &mut store, obligation, turns)?;
-        self.kept.set(left_by(store));
+        self.left.set(joined(left, store));
         Ok(answer)
     }
 
