@@ -1,5 +1,6 @@
 pub mod ByShape
 pub mod FirstAt
 pub mod Kept
+pub mod Packing
 pub mod Running
 pub mod FirstFacts

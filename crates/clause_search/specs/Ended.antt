@@ -5,11 +5,11 @@ use Rattle.logic_core.specs.Tree.{Tree}
 use Rattle.tableau.specs.Search as search
 use Rattle.tableau.specs.RunView.{verdict_of}
 use Rattle.numbered_branches.specs.Moves.{IsPlayedBelow, played_at}
-use Rattle.numbered_branches.specs.View.{played_seen}
+use Rattle.clause_search.specs.Packed.{packed_move}
 use Rattle.clause_search.specs.declared.ended.Run.{Run}
 
 abbrev pub IsRunBelow : ℕ → Run → Type 0
-IsRunBelow n r = AllByRecursion (IsPlayedBelow n) (map played_seen r.moves.items)
+IsRunBelow n r = AllByRecursion (IsPlayedBelow n) (map packed_move r.moves.items)
 
 abbrev pub run_at : List Tree → Run → search.Run
-run_at ts r = record { verdict = verdict_of r.verdict; moves = map (played_at ts) (map played_seen r.moves.items) }
+run_at ts r = record { verdict = verdict_of r.verdict; moves = map (played_at ts) (map packed_move r.moves.items) }

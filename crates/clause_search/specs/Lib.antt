@@ -1,4 +1,5 @@
 pub mod Ended
+pub mod Packed
 pub mod Rare
 pub mod Tables
 pub mod First

@@ -12,5 +12,6 @@ pub mod rules;
 pub mod ended;
 mod first;
 mod left;
+pub mod packed;
 pub mod run;
 pub mod search;

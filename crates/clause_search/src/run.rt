@@ -6,6 +6,7 @@ ghost use Rattle.term_bank.specs.Numbered.{Begins};
 ghost use Rattle.clause_search.specs.Ended.{IsRunBelow, run_at};
 
 use crate::ended::Run;
+use crate::packed::PackedMove;
 use crate::rules::{Tables, step};
 use logic_core::fault::NormalFault;
 use numbered_branches::branch::Branch;
@@ -43,7 +44,8 @@ pub fn run(store: &mut Store, turns: u64, first: Branch) -> Result<Run, AllocErr
                     });
                 }
                 left -= cost;
-                moves.push(step.play(alloc, &mut stack)?)?;
+                let played = step.play(alloc, &mut stack)?;
+                moves.push(PackedMove::of(alloc, played)?)?;
             }
             Ok(None) => {
                 return Ok(Run {

@@ -1,25 +1,22 @@
 // The search for a proof of an obligation.
-ghost use Rattle.std.specs.Prelude.{◌≡◌, [], ◌∷◌, IfOk, IfSome};
+ghost use Rattle.std.specs.Prelude.{◌≡◌, IfOk, IfSome};
 ghost use Rattle.std.specs.Arc.{arc_value};
 ghost use Rattle.proof_core.specs.Accepted.{IsAccepted};
-ghost use Rattle.tableau.specs.RunView.{run_of, answer_seen};
-ghost use Rattle.tableau.specs.Search.{run, answer};
+ghost use Rattle.tableau.specs.RunView.{answer_seen};
+ghost use Rattle.tableau.specs.Search.{answer};
 ghost use Rattle.tableau.specs.Settled.{settled_by};
-ghost use Rattle.numbered_branches.specs.Branches.{branch_at, IsBranchOver};
 
 use crate::first::first_branch;
 use crate::left::{Left, joined, store_over};
 use crate::run::run;
 use logic_core::fault::NormalFault;
-use numbered_branches::branch::Branch;
 use numbered_facts::Store;
 use obligation_text::Asked;
 use obligation_text::obligation::Obligation;
 use std::alloc::{AllocError, Global};
 use std::cell::Cell;
 use std::sync::Arc;
-use tableau::ended::{Answer, Run, Verdict};
-use tableau::search::found;
+use tableau::ended::{Answer, Verdict};
 use tableau::settled::Settled;
 
 /// A search that begins with the terms that one of the last searches left, and with what was found of
@@ -30,31 +27,17 @@ pub struct Searcher {
     left: Cell<Vec<Left>>,
 }
 
-/// Searches from one branch, by number.
-fn run_from(store: &mut Store, turns: u64, first: Branch) -> Result<Run, AllocError>
-    requires { IsBranchOver store.old.terms first }
-    ensures { IfOk result (λ r. run_of r ≡ run store.old.defs turns turns (branch_at store.old.terms first ∷ [])) }
-{
-    let ended = run(store, turns, first)?;
-    ended.tree(store.terms())
-}
-
 /// What the search's definition finds. The search is in this store.
-fn answer_in(
-    alloc: Global,
-    store: &mut Store,
-    obligation: &Obligation,
-    turns: u64,
-) -> Result<Answer, AllocError>
+fn answer_in(store: &mut Store, obligation: &Obligation, turns: u64) -> Result<Answer, AllocError>
     requires vars { store.old.vars ≡ obligation.now.vars }
     requires defs { store.old.defs ≡ obligation.now.defs }
     ensures { IfOk result (λ a. answer_seen a ≡ answer obligation.now turns) }
 {
     match first_branch(store, obligation) {
         Ok(first) => {
-            let ended = run_from(store, turns, first)?;
+            let ended = run(store, turns, first)?;
             let verdict = ended.verdict;
-            let proof = found(alloc, ended)?;
+            let proof = ended.proof(store.terms())?;
             Ok(Answer { verdict, proof })
         }
         Err(NormalFault::Wide) => Ok(Answer {
@@ -87,7 +70,7 @@ impl Searcher {
     {
         let mut left = self.left.replace(Vec::new(self.alloc));
         let mut store = store_over(self.alloc, &mut left, obligation.signature())?;
-        let answer = answer_in(self.alloc, &mut store, obligation, turns)?;
+        let answer = answer_in(&mut store, obligation, turns)?;
         self.left.set(joined(left, store));
         Ok(answer)
     }

@@ -1,8 +1,15 @@
-use Rattle.std.proofs.Common.{◌≡◌, map, take}
+use Rattle.std.proofs.Common.{◌≡◌, ◌++◌, map, length, reverse, vec_len}
+use Rattle.std.specs.List.{AllByRecursion}
 use Rattle.tableau_branch.specs.View.{played_of}
-use Rattle.numbered_branches.specs.Moves.{played_at}
-use Rattle.numbered_branches.specs.View.{played_seen}
+use Rattle.numbered_branches.specs.Moves.{IsPlayedBelow, played_at}
+use Rattle.clause_search.specs.Packed.{packed_move}
 use Rattle.clause_search.proofs.ended.played_trees.Given as goal
 
-abbrev pub invariant-loop-played : goal.invariant-loop-played
-invariant-loop-played l = map played_of l.all.items ≡ map (played_at l.terms) (map played_seen (take l.played-index l.moves))
+abbrev pub invariant-loop-step : goal.invariant-loop-step
+invariant-loop-step l = record {
+  below : AllByRecursion (IsPlayedBelow (length l.terms)) (map packed_move l.moves.items);
+  trees : map (played_at l.terms) (map packed_move l.moves.items) ++ map played_of (reverse l.trees.items) ≡ map (played_at l.terms) (map packed_move l.fn.moves.items);
+}
+
+abbrev pub decreases-loop-step : goal.decreases-loop-step
+decreases-loop-step l = vec_len l.moves
