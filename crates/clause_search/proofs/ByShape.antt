@@ -11,7 +11,6 @@ use Rattle.term_bank.specs.Numbered.{at}
 use Rattle.tableau_branch.specs.Branch.{Fact, Branch, Attempt, none, unless_wide, At, first_from, oldest}
 use Rattle.tableau_branch.specs.Move.{Move}
 use Rattle.tableau_branch.specs.Shapes.{is_choice}
-use Rattle.logic_rules.specs.Skolem.{body_of_exists, as_exists, skolemized_at, skolem}
 use Rattle.theory_rules.specs.Condition.{Choice, as_choice, first_some, first_choice, condition_at, condition}
 use Rattle.theory_rules.specs.Differ.{of_maps, unequal_in, unequal_maps, differ_at, differ}
 use Rattle.theory_rules.proofs.FirstChoice.{choice_is}
@@ -22,7 +21,7 @@ use Rattle.numbered_branches.specs.Standing.{IsBranchAt}
 use Rattle.numbered_branches.specs.declared.played.Attempt as tried
 use Rattle.numbered_branches.proofs.Changing.{branch_more}
 use Rattle.numbered_facts.specs.Sorted.{is_map}
-use Rattle.clause_search.specs.Rare.{is_exists, has_choice, are_maps, are_unequal_maps}
+use Rattle.clause_search.specs.Rare.{has_choice, are_maps, are_unequal_maps}
 
 nothing : {A : Type 0} (o : Option A) → is_some o ≡ false → o ≡ None
 nothing None h = refl
@@ -39,10 +38,6 @@ module _ {A : Type 0} (ts : List Tree) (found : Fact → Option A) (p : Numbered
       by false e k r = subst (λ (o : Option A). ◌≡◌ {A = Option (At A)} (elim o [ None ↦ first_from found (n + 1) (map (fact_at ts) fs) | Some a ↦ Some (record { at = n; fact = fact_at ts f; what = a }) ]) None) (sym (finds f e)) (r k)
 
 module _ (defs : List Def) (b : Branch) where
-  skolem_none : (o : Option (At (List Kind × Tree))) → o ≡ None → ◌≡◌ {A = Attempt Move} (elim o [ None ↦ none | Some a ↦ unless_wide (skolemized_at defs b a) ]) none
-  skolem_none None h = refl
-  skolem_none (Some a) h = absurd (cc)
-
   condition_none : (o : Option (At Choice)) → o ≡ None → ◌≡◌ {A = Attempt Move} (elim o [ None ↦ none | Some a ↦ unless_wide (condition_at defs b a) ]) none
   condition_none None h = refl
   condition_none (Some a) h = absurd (cc)
@@ -68,9 +63,6 @@ no_choice us h = choice_is us None (sym (nothing (find is_choice us) h))
 
 -- where no fact has the shape, the rule can't be applied
 module _ (ts : List Tree) (defs : List Def) (b : NumberedBranch) where
-  pub skolem_passes : list_any (λ (f : NumberedFact). is_exists (at ts f.term)) b.facts ≡ false → skolem defs (branch_at ts b) ≡ none
-  skolem_passes h = skolem_none defs (branch_at ts b) (oldest as_exists (branch_at ts b)) (none_from ts as_exists (λ (f : NumberedFact). is_exists (at ts f.term)) (λ f e. nothing (body_of_exists (at ts f.term)) e) 0 b.facts h)
-
   pub condition_passes : list_any (λ (f : NumberedFact). has_choice (at ts f.term)) b.facts ≡ false → condition defs (branch_at ts b) ≡ none
   condition_passes h = condition_none defs (branch_at ts b) (oldest first_choice (branch_at ts b)) (none_from ts first_choice (λ (f : NumberedFact). has_choice (at ts f.term)) (λ f e. no_choice (outside (at ts f.term)) e) 0 b.facts h)
 

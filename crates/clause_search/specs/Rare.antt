@@ -7,15 +7,11 @@ use Rattle.logic_core.specs.Subterm.{outside}
 use Rattle.tableau_branch.specs.Branch.{Branch, Attempt}
 use Rattle.tableau_branch.specs.Move.{Move}
 use Rattle.tableau_branch.specs.Shapes.{is_choice}
-use Rattle.logic_rules.specs.Skolem.{body_of_exists, skolem}
 use Rattle.theory_rules.specs.Condition.{condition}
 use Rattle.theory_rules.specs.Differ.{differ}
 use Rattle.numbered_facts.specs.Sorted.{is_map}
 use Rattle.clause_search.specs.declared.by_trees.Rare.{Rare}
 use Rattle.clause_search.specs.declared.by_trees.Rare.TheVariants as rare
-
-abbrev pub is_exists : Tree → Bool
-is_exists t = is_some (body_of_exists t)
 
 -- an If stands in it, outside quantifiers
 abbrev pub has_choice : Tree → Bool
@@ -33,6 +29,5 @@ module _ (vars : List Kind) (defs : List Def) where
 
 -- the rules
 abbrev pub rare_of : List Def → Rare → Branch → Attempt Move
-rare_of defs rare.Skolem = skolem defs
 rare_of defs rare.Condition = condition defs
 rare_of defs rare.Differ = differ defs

@@ -6,7 +6,6 @@ ghost use Rattle.numbered_terms.specs.Stored.{Grows};
 ghost use Rattle.clause_search.specs.Rare.{rare_of};
 
 use logic_core::fault::NormalFault;
-use logic_rules::skolem::skolem;
 use numbered_branches::branch::Branch;
 use numbered_branches::played::{Attempt, Move};
 use numbered_facts::Store;
@@ -18,7 +17,6 @@ use theory_rules::differ::differ;
 /// The rules that go through trees.
 #[derive(Clone, Copy)]
 pub enum Rare {
-    Skolem,
     Condition,
     Differ,
 }
@@ -30,7 +28,6 @@ fn tried(store: &Store, rule: Rare, branch: &Branch) -> Result<TreeAttempt, Norm
 {
     let tree = branch.trees(store.terms())?;
     match rule {
-        Rare::Skolem => skolem(store.alloc(), store.defs(), tree),
         Rare::Condition => condition(store.alloc(), store.defs(), tree),
         Rare::Differ => differ(store.alloc(), store.defs(), tree),
     }

@@ -1,61 +1,21 @@
 // Rules that seldom find anything: they go through trees where a fact has their shape, and else pass.
 ghost use Rattle.std.specs.Prelude.{◌≡◌, ◌<◌, length, IfOk};
 ghost use Rattle.std.specs.List.{AllByRecursion, list_any};
-ghost use Rattle.logic_rules.specs.Skolem.{skolem};
 ghost use Rattle.theory_rules.specs.Condition.{condition};
 ghost use Rattle.theory_rules.specs.Differ.{differ};
 ghost use Rattle.term_bank.specs.Numbered.{at};
 ghost use Rattle.numbered_terms.specs.Stored.{Grows};
 ghost use Rattle.numbered_branches.specs.Applied.{TriesAt};
 ghost use Rattle.numbered_branches.specs.Branches.{NumberedFact, IsFactBelow, IsBranchOver, branch_at};
-ghost use Rattle.clause_search.specs.Rare.{is_exists, has_choice, are_maps, are_unequal_maps};
+ghost use Rattle.clause_search.specs.Rare.{has_choice, are_maps, are_unequal_maps};
 
 use crate::by_trees::{Rare, through_trees};
 use logic_core::fault::NormalFault;
 use numbered_branches::branch::{Branch, Fact};
 use numbered_branches::played::Attempt;
 use numbered_facts::Store;
-use numbered_terms::Terms;
 use std::alloc::AllocError;
 use term_bank::{Node, TermId};
-
-// Whether the term of this number is an Exists.
-fn is_exists(terms: &Terms, id: TermId) -> bool
-    requires { id < length terms.now }
-    ensures { result ≡ is_exists (at terms.now id) }
-{
-    match terms.node(id) {
-        Node::Exists(_, _, _) => true,
-        _ => false,
-    }
-}
-
-// Whether a fact is an Exists.
-fn any_is_exists(terms: &Terms, facts: &[Fact]) -> bool
-    requires { AllByRecursion (IsFactBelow (length terms.now)) facts.now }
-    ensures { result ≡ list_any (λ (f : NumberedFact). is_exists (at terms.now f.term)) facts.now }
-{
-    for fact in facts {
-        if is_exists(terms, fact.term) {
-            return true;
-        }
-    }
-    false
-}
-
-/// The rule skolem. Wide exactly where applying it leaves 128 bits.
-#[tactic(auto, using(numbered_facts::proofs::Growing::same))]
-pub fn skolem(store: &mut Store, branch: Branch) -> Result<Attempt, NormalFault>
-    requires { IsBranchOver store.old.terms branch }
-    ensures grows { Grows store.old store.new }
-    ensures tries { TriesAt store.new.terms (branch_at store.old.terms branch) result (skolem store.old.defs (branch_at store.old.terms branch)) }
-{
-    let found = any_is_exists(store.terms(), &branch.facts);
-    if found {
-        return through_trees(store, Rare::Skolem, branch);
-    }
-    Ok(Attempt::Passes(branch))
-}
 
 // Whether an If stands in the term, outside quantifiers.
 fn has_choice(store: &mut Store, id: TermId) -> Result<bool, AllocError>

@@ -9,7 +9,7 @@ ghost use Rattle.tableau.specs.Search.{step};
 ghost use Rattle.term_bank.specs.Numbered.{Begins};
 ghost use Rattle.clause_search.specs.Tables.{AreRight};
 
-use crate::rare::{condition, differ, skolem};
+use crate::rare::{condition, differ};
 use logic_core::fault::NormalFault;
 use numbered_branches::branch::Branch;
 use numbered_branches::played::{Attempt, Move};
@@ -21,6 +21,7 @@ use numbered_instances::shared::Shared;
 use numbered_logic::apart::Apart;
 use numbered_logic::closing::close;
 use numbered_logic::flattening::flatten;
+use numbered_logic::skolemizing::skolem;
 use numbered_logic::splitting::split;
 use numbered_logic::unfolding::unfold;
 use numbered_terms::slots::Slots;
@@ -29,6 +30,7 @@ use numbered_theory::combining::combine;
 use numbered_theory::leads::Leads;
 use numbered_theory::past::past;
 use numbered_theory::trichotomy::trichotomy;
+use numbered_theory::tried::Tried;
 use std::alloc::{AllocError, Global};
 use tableau::rules::Rule;
 
@@ -50,13 +52,15 @@ const ORDER: [Rule; 13] = [
 ];
 
 /// What the rules keep from step to step, which may be tried on any branches: facts of which none closes
-/// one, the facts that were listed last with the counts of their atoms, and the room of other lists.
+/// one, the facts that were listed last with the counts of their atoms, the linear facts of which pairs were
+/// tried, and the room of other lists.
 pub struct Tables {
     pub apart: Apart,
     pub shared: Shared,
     pub instances: Instances,
     pub leads: Leads,
     pub places: Slots<usize>,
+    pub tried: Tried,
 }
 
 // Written out: a derived drop is proved again wherever a value is dropped.
@@ -68,6 +72,7 @@ impl Drop for Tables {
             instances: _instances,
             leads: _leads,
             places: _places,
+            tried: _tried,
         } = self;
     }
 }
@@ -83,6 +88,7 @@ impl Tables {
             instances: Instances::new(alloc),
             leads: Leads::new(alloc),
             places: Slots::new(alloc),
+            tried: Tried::new(alloc),
         }
     }
 }
@@ -97,7 +103,8 @@ fn try_rule(
     requires branch { IsBranchOver store.old.terms branch }
     requires vars { store.old.vars ≡ branch.vars }
     requires tables { AreRight store.old.terms tables.old }
-    ensures grows { Grows store.old store.new }
+    ensures terms { Begins store.old.terms store.new.terms }
+    ensures grows { OnOk result (Grows store.old store.new) }
     ensures tables { OnOk result (AreRight store.new.terms tables.new) }
     ensures tries { TriesAt store.new.terms (branch_at store.old.terms branch) result (rule_of store.old.defs rule (branch_at store.old.terms branch)) }
 {
@@ -110,7 +117,13 @@ fn try_rule(
         Rule::Split => split(store, branch),
         Rule::Unfold => unfold(store, branch),
         Rule::Back => back(store, branch),
-        Rule::Combine => combine(store, &mut tables.leads, &mut tables.places, branch),
+        Rule::Combine => combine(
+            store,
+            &mut tables.leads,
+            &mut tables.places,
+            &mut tables.tried,
+            branch,
+        ),
         Rule::Trichotomy => trichotomy(store, &mut tables.leads, branch),
         Rule::Past => past(store, branch),
         Rule::Rewrite => rewrite(store, &mut tables.shared, branch),
@@ -129,7 +142,8 @@ fn first_rule(
     requires branch { IsBranchOver store.old.terms branch }
     requires vars { store.old.vars ≡ branch.vars }
     requires tables { AreRight store.old.terms tables.old }
-    ensures grows { Grows store.old store.new }
+    ensures terms { Begins store.old.terms store.new.terms }
+    ensures grows { OnOk result (Grows store.old store.new) }
     ensures tables { OnOk result (AreRight store.new.terms tables.new) }
     ensures attempts { AttemptsAt store.new.terms result (step store.old.defs (branch_at store.old.terms branch)) }
 {

@@ -4,6 +4,7 @@ pub mod Calls
 pub mod CaseBranches
 pub mod Closed
 pub mod Denying
+pub mod ExistsFound
 pub mod Later
 pub mod NoPair
 pub mod Oldest
@@ -12,3 +13,4 @@ pub mod Rules
 pub mod SeenCalls
 pub mod Several
 pub mod TwoCases
+pub mod Witnesses

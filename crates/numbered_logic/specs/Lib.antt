@@ -1,4 +1,5 @@
 pub mod Apart
 pub mod Denied
+pub mod Exists
 pub mod Forms
 pub mod Found

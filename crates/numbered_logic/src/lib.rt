@@ -1,5 +1,5 @@
 //! The rules of the search for connectives, equations and definitions over the numbers of a store's
-//! terms: close, flatten, unfold and split. A rule is tried on a branch of numbers: it gives the branch
+//! terms: close, flatten, skolem, unfold and split. A rule is tried on a branch of numbers: it gives the branch
 //! back as it was, exactly where it can't be applied, or the move that its definition gives.
 #![tactic(auto)]
 
@@ -9,5 +9,6 @@ pub mod closing;
 pub mod flattening;
 mod forms;
 mod found;
+pub mod skolemizing;
 pub mod splitting;
 pub mod unfolding;

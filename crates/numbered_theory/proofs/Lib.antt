@@ -15,6 +15,7 @@ pub mod OpenTried
 pub mod OppositeSides
 pub mod PairMade
 pub mod Pairing
+pub mod PairsKept
 pub mod PairsTried
 pub mod Passing
 pub mod Placed
@@ -23,4 +24,5 @@ pub mod Reading
 pub mod ReadsTried
 pub mod SidesListed
 pub mod TrichotomyMove
+pub mod TriedPairs
 pub mod WaysOpen

@@ -9,16 +9,16 @@ use Rattle.tableau_branch.specs.Move.{Move}
 use Rattle.theory_rules.specs.Combining.{Entry, Combined, combined_pair, are_opposite, counted, is_known, combine_pair, pairs_from, entries, combined_by, combine}
 
 -- a pair by its parts
-abbrev pair_by : Bool → Option Combined → (Combined → Bool) → Attempt Combined
+abbrev pub pair_by : Bool → Option Combined → (Combined → Bool) → Attempt Combined
 pair_by false o says = none
 pair_by true None says = leaves
 pair_by true (Some c) says = cond (says c) none (gives c)
 
 module _ (es : List Entry) (d e : Entry) where
-  abbrev says : Combined → Bool
+  abbrev pub says : Combined → Bool
   says c = is_truth true c.fact || is_known es (tighten c.fact)
 
-  by_parts : combine_pair es (d, e) ≡ pair_by (are_opposite (lead (counted d)) (lead (counted e))) (combined_pair d e) says
+  pub by_parts : combine_pair es (d, e) ≡ pair_by (are_opposite (lead (counted d)) (lead (counted e))) (combined_pair d e) says
   by_parts = by (are_opposite (lead (counted d)) (lead (counted e))) (combined_pair d e)
     where
       last : (c : Combined) (b : Bool) → ◌≡◌ {A = Attempt Combined} (elim b [ true ↦ none | false ↦ gives c ]) (cond b none (gives c))

@@ -8,11 +8,13 @@ use Rattle.theory_rules.proofs.Attempting.{IsTaken, or_else, first_is}
 use Rattle.theory_rules.proofs.CombinedPairs.{pairs_passed, pairs_taken}
 use Rattle.numbered_terms.specs.Stored.{Numbered, Grows}
 use Rattle.numbered_theory.specs.Entries.{entry_at, entries_at, IsEntryBelow}
+use Rattle.numbered_theory.specs.Tried.{IsTried}
 use Rattle.numbered_theory.specs.declared.entries.Entry.{Entry}
 use Rattle.numbered_branches.proofs.Listing.{all_at}
 use Rattle.numbered_branches.proofs.Changing.{all_take}
 use Rattle.numbered_theory.proofs.Entered.{entry_stays, entries_stay}
 use Rattle.numbered_theory.proofs.Loops.{passed, taken}
+use Rattle.numbered_theory.proofs.PairsKept.{one_more}
 
 -- what comes of one pair, of earlier facts with one, and of all pairs from a place on
 abbrev pub one_pair : Numbered → List Entry → Entry → Entry → Attempt Combined
@@ -61,6 +63,9 @@ module _ (n m : Numbered) (g : Grows n m) (es : List Entry) (h : AllByRecursion 
 
     pub pairs_next : with_one m es e (take i es) ≡ none → pairs_on n es i ≡ all_pairs n es → pairs_on n es (i + 1) ≡ all_pairs n es
     pairs_next here so_far = pairs_passed (combine_pair (entries_at n.terms es)) (entries_at n.terms es) i (entry_at n.terms e) within there (sym same ∙ here) ∙ so_far
+
+    pub next_tried : with_one m es e (take i es) ≡ none → IsTried (entries_at n.terms es) i → IsTried (entries_at n.terms es) (i + 1)
+    next_tried here so_far = one_more (combine_pair (entries_at n.terms es)) (entries_at n.terms es) i so_far (entry_at n.terms e) within there (sym same ∙ here)
 
     pub pairs_done : (x : Attempt Combined) → IsTaken x → with_one m es e (take i es) ≡ x → pairs_on n es i ≡ all_pairs n es → all_pairs n es ≡ x
     pairs_done x t here so_far = sym so_far ∙ pairs_taken (combine_pair (entries_at n.terms es)) (entries_at n.terms es) i (entry_at n.terms e) x within there t (sym same ∙ here)

@@ -7,3 +7,4 @@ pub mod Passes
 pub mod Places
 pub mod Reads
 pub mod Sums
+pub mod Tried

@@ -1,5 +1,5 @@
 // The rule combine, by number.
-ghost use Rattle.std.specs.Prelude.{◌≡◌, ◌<◌, ◌||◌, neg_ℤ, pos, [], true, length, map, option_map, if◌then◌else◌, ◌∷◌, ◌++◌, IfOk, OnOk};
+ghost use Rattle.std.specs.Prelude.{◌≡◌, ◌<◌, ◌≤◌, ◌||◌, neg_ℤ, pos, [], true, length, map, option_map, if◌then◌else◌, ◌∷◌, ◌++◌, IfOk, OnOk};
 ghost use Rattle.std.specs.List.{AllByRecursion};
 ghost use Rattle.logic_core.specs.Combine.{combined, lead, sum_of};
 ghost use Rattle.logic_core.specs.Gives.{GivesAs};
@@ -19,9 +19,11 @@ ghost use Rattle.theory_rules.specs.Combining.{are_opposite, counted, lead_size,
 ghost use Rattle.numbered_theory.specs.Combined.{combined_at, IsCombinedBelow, CombinesAt, AttemptsAt};
 ghost use Rattle.numbered_theory.specs.Entries.{entry_at, entries_at, IsEntryBelow};
 ghost use Rattle.numbered_theory.specs.Leads.{IsNoted, IsLed, AreLed};
+ghost use Rattle.numbered_theory.specs.Tried.{IsTried, AreTried};
 
 use crate::entries::{Entry, are_opposite, entries, is_known, place_entries};
 use crate::leads::{Leads, is_one_atom, lead_atom, lead_atoms};
+use crate::tried::Tried;
 use linear_certs::gcd;
 use logic_core::NormalFault;
 use numbered_branches::branch::Branch;
@@ -243,23 +245,42 @@ fn combine_next(
     Ok(None)
 }
 
+// Notes the facts.
+fn note_each(terms: &Terms, leads: &mut Leads, entries: &[Entry]) -> Result<(), AllocError>
+    requires { AllByRecursion (IsEntryBelow (length terms.now)) entries.now }
+    ensures { OnOk result (AllByRecursion (IsNoted terms.now leads.new.above leads.new.below) entries.now) }
+{
+    leads.clear();
+    for entry in entries {
+        leads.note(terms, entry)?;
+    }
+    Ok(())
+}
+
 // The first combination of facts whose leads have these atoms: that of the oldest later fact, and then of
-// the oldest earlier one.
+// the oldest earlier one. So many of the facts, from the first on, have none.
 fn first_led(
     store: &mut Store,
     leads: &mut Leads,
     places: &Slots<usize>,
     entries: &[Entry],
     atoms: &[Option<TermId>],
+    pairs: &mut usize,
 ) -> Result<Option<Combined>, NormalFault>
     requires entries { AllByRecursion (IsEntryBelow (length store.old.terms)) entries.now }
     requires as_many { length atoms.now ≡ length entries.now }
     requires led { AreLed store.old.terms entries.now atoms.now }
+    requires within { pairs.old ≤ length entries.now }
+    requires tried { IsTried (entries_at store.old.terms entries.now) pairs.old }
     ensures grows { Grows store.old store.new }
     ensures attempts { AttemptsAt store.new.terms result (first_attempt (combine_pair (entries_at store.old.terms entries.now)) (pairs_from [] (entries_at store.old.terms entries.now))) }
+    ensures within { OnOk result (pairs.new ≤ length entries.now) }
+    ensures tried { OnOk result (IsTried (entries_at store.old.terms entries.now) pairs.new) }
 {
-    leads.clear();
-    for (i, e) in entries.iter().enumerate() {
+    let start = *pairs;
+    note_each(store.terms(), leads, &entries[..start])?;
+    for i in start..entries.len() {
+        let e = &entries[i];
         if let Some(combined) = combine_next(
             store,
             leads,
@@ -269,25 +290,30 @@ fn first_led(
             &atoms[..i],
             e,
         )? {
+            *pairs = i;
             return Ok(Some(combined));
         }
     }
+    *pairs = entries.len();
     Ok(None)
 }
 
-// The first combination of the facts.
-fn first_combined(
-    store: &mut Store,
-    leads: &mut Leads,
-    places: &Slots<usize>,
-    entries: &[Entry],
-) -> Result<Option<Combined>, NormalFault>
-    requires { AllByRecursion (IsEntryBelow (length store.old.terms)) entries.now }
-    ensures grows { Grows store.old store.new }
-    ensures attempts { AttemptsAt store.new.terms result (first_attempt (combine_pair (entries_at store.old.terms entries.now)) (pairs_from [] (entries_at store.old.terms entries.now))) }
-{
-    let atoms = lead_atoms(store.terms(), entries)?;
-    first_led(store, leads, places, entries, &atoms)
+impl Tried {
+    // The first combination of the facts that are listed.
+    fn first_combined(
+        &mut self,
+        store: &mut Store,
+        leads: &mut Leads,
+        places: &Slots<usize>,
+    ) -> Result<Option<Combined>, NormalFault>
+        requires { AreTried store.old.terms self.old }
+        ensures grows { Grows store.old store.new }
+        ensures attempts { AttemptsAt store.new.terms result (first_attempt (combine_pair (entries_at store.old.terms self.old.entries.items)) (pairs_from [] (entries_at store.old.terms self.old.entries.items))) }
+        ensures tried { OnOk result (AreTried store.new.terms self.new) }
+    {
+        let atoms = lead_atoms(store.terms(), &self.entries)?;
+        first_led(store, leads, places, &self.entries, &atoms, &mut self.pairs)
+    }
 }
 
 // The sum is added, tightened. No definition plays a part.
@@ -312,16 +338,20 @@ pub fn combine(
     store: &mut Store,
     leads: &mut Leads,
     places: &mut Slots<usize>,
+    tried: &mut Tried,
     branch: Branch,
 ) -> Result<Attempt, NormalFault>
     requires branch { IsBranchOver store.old.terms branch }
     requires vars { store.old.vars ≡ branch.vars }
+    requires tried { AreTried store.old.terms tried.old }
     ensures grows { Grows store.old store.new }
     ensures tries { TriesAt store.new.terms (branch_at store.old.terms branch) result (combine store.old.defs (branch_at store.old.terms branch)) }
+    ensures tried { OnOk result (AreTried store.new.terms tried.new) }
 {
     let entries = entries(store, &branch)?;
     place_entries(places, &entries)?;
-    match first_combined(store, leads, places, &entries)? {
+    tried.list(entries);
+    match tried.first_combined(store, leads, places)? {
         Some(combined) => Ok(Attempt::Gives(add_combined(store, branch, &combined)?)),
         None => Ok(Attempt::Passes(branch)),
     }

@@ -3,10 +3,11 @@
 //! be applied, or the move that its definition gives for what the numbers stand for.
 #![tactic(auto)]
 
-// Linear forms, the linear facts that are combined, and the ways of a number.
+// Linear forms, the linear facts that are combined and their pairs that were tried, and the ways of a number.
 pub mod entries;
 pub mod leads;
 pub mod linear;
+pub mod tried;
 pub mod ways;
 
 // Reads of Writes.

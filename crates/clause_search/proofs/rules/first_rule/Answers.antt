@@ -1,4 +1,5 @@
 use Rattle.std.proofs.Common.{◌∙◌, sym, ap, get_or, Ok}
+use Rattle.term_bank.proofs.Numbers.{begins_then}
 use Rattle.tableau_branch.specs.Branch.{Branch}
 use Rattle.tableau.specs.Rules.{rule_of}
 use Rattle.tableau.specs.Search.{step}
@@ -40,3 +41,18 @@ loop-rule-preserved c =
     let on = rule_passes (rule_of defs) order c.loop-rule.rule-index rule.Close us b d (step defs b)
     c.loop-rule-test.true c.loop-rule.invariant.ahead c.loop-rule.invariant.same.1 c.in_ok-step.field-0 c.in-Passes.same c.in-Passes.is (tried_over us c.loop-rule.store.defs defs c.loop-rule.invariant.grows.defs (λ ds. rule_of ds (get_or order c.loop-rule.rule-index rule.Close)) d (Ok c.in_ok-step.field-0) c.in_ok-step.ensures.tries) in
     record { grows = then c.args.store.now c.loop-rule.store c.try_rule.new.store c.loop-rule.invariant.grows c.in_ok-step.ensures.grows; tables = c.in_ok-step.ensures.tables; ahead = on.0; same = on.1 }
+
+pub returns-in_err-step-clause-terms : goal.returns-in_err-step-clause-terms
+returns-in_err-step-clause-terms c = begins_then c.args.store.now.terms (c.loop-rule.store).terms (c.try_rule.new.store).terms c.loop-rule.invariant.grows.terms c.try_rule.ensures.terms
+
+pub returns-in-Gives-clause-terms : goal.returns-in-Gives-clause-terms
+returns-in-Gives-clause-terms c = begins_then c.args.store.now.terms (c.loop-rule.store).terms (c.try_rule.new.store).terms c.loop-rule.invariant.grows.terms c.try_rule.ensures.terms
+
+pub returns-in-Gives-clause-grows : goal.returns-in-Gives-clause-grows
+returns-in-Gives-clause-grows c = then c.args.store.now c.loop-rule.store c.try_rule.new.store c.loop-rule.invariant.grows c.in_ok-step.ensures.grows
+
+pub returns-clause-terms : goal.returns-clause-terms
+returns-clause-terms c = c.loop-rule.invariant.grows.terms
+
+pub returns-clause-grows : goal.returns-clause-grows
+returns-clause-grows c = c.loop-rule.invariant.grows
