@@ -1,10 +1,11 @@
 -- Answers that stand: at first none, after goals are settled all, and after others are opened those of what stayed.
-use Rattle.std.proofs.Common.{◌≡◌, ◌∙◌, ◌++◌, ◌+◌, ◌-◌, ◌≤◌, ℕ, refl, sym, ap, arith, List, [], ◌∷◌, map, take, drop, length, length-drop, min}
+use Rattle.std.proofs.Common.{◌≡◌, ◌∙◌, ◌++◌, ◌+◌, ◌-◌, ◌≤◌, ℕ, refl, sym, ap, subst, arith, List, [], ◌∷◌, map, take, drop, length, length-drop, min}
 use Rattle.std.proofs.lemmas.List.{take-take, take-map, drop-map, drop-drop, take_all, length-map, take-append-drop, map-append}
 use Rattle.obligation_text.specs.Asked.{Asked, key_of, KeysTellApart}
 use Rattle.tableau.specs.Settled.{Settled, settled_by}
 use Rattle.board_core.specs.Kept.{Key}
-use Rattle.board_core.specs.Difference.{IsDifference}
+use Rattle.board_core.specs.Difference.{IsDifference, with_middle}
+use Rattle.board_core.proofs.Middle.{middle_differs, middle_keys}
 use Rattle.goal_board.specs.Standing.{StillStand}
 
 -- lists of questions with equal keys are equal
@@ -78,6 +79,18 @@ stand_after apart old new told rs first last start old_end new_end f l h d again
       starts = starts_after apart old new told h.questions rs first start f h.asked again h.starts d.before few below;
       ends = ends_after apart old new told h.questions rs last old_end new_end l h.asked again h.ends d.after d.old_ends d.new_ends h.last_asked h.last_told few_last below_last;
     }
+
+-- what stands where the first and the last goals stay, and others come between them
+pub stand_around : KeysTellApart → (old new : List Key) (told : List Settled) (mid : List Asked) (first last start end f l : ℕ) → StillStand old told first last → start + end ≤ length old → new ≡ with_middle start end (map key_of mid) old
+    → f ≤ first → f ≤ start → l ≤ last → l ≤ end → StillStand new told f l
+stand_around apart old new told mid first last start end f l h fits put few below few_last below_last =
+    let qs = h.questions in
+    let as_many : length old ≡ length qs = ap length h.asked ∙ length-map qs key_of in
+    let again : new ≡ map key_of (take start qs ++ mid ++ drop (length qs - end) qs) =
+    put ∙ ap (with_middle start end (map key_of mid)) h.asked ∙ sym (middle_keys key_of start end (length qs - end) qs mid refl) in
+    let differs : IsDifference old new start (length old - end) (length new - end) =
+    subst (λ ks. IsDifference old ks start (length old - end) (length ks - end)) (sym put) (middle_differs start end (map key_of mid) old fits _ refl) in
+    stand_after apart old new told (take start qs ++ mid ++ drop (length qs - end) qs) first last start (length old - end) (length new - end) f l h differs again few below few_last (omega (arith, below_last, fits))
 
 pub key_count : {X : Type 0} (asks : X → Asked) (xs : List X) → length (map (λ x. key_of (asks x)) xs) ≡ length xs
 key_count asks xs = length-map xs (λ x. key_of (asks x))

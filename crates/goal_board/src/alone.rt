@@ -1,8 +1,9 @@
 //! A session's board where nobody else works on it.
-ghost use Rattle.std.specs.Prelude.{◌≡◌, ◌+◌, ◌-◌, ◌^◌, ◌<◌, IsTrue, IfOk, OnOk, OnErr, List, [], length, map};
+ghost use Rattle.std.specs.Prelude.{◌≡◌, ◌+◌, ◌-◌, ◌^◌, ◌<◌, ◌≤◌, IsTrue, IfOk, OnOk, OnErr, List, [], length, map};
 ghost use Rattle.std.specs.Arc.{arc_value};
 ghost use Rattle.obligation_text.specs.Asked.{Asked as asked, key_of};
 ghost use Rattle.board_core.specs.Board.{first, open_keys};
+ghost use Rattle.board_core.specs.Difference.{with_middle};
 ghost use Rattle.board_core.specs.Handed.{open_answer};
 ghost use Rattle.board_core.specs.Kept.{kept_at};
 ghost use Rattle.board_core.specs.Step.{Steps};
@@ -77,6 +78,30 @@ fn open_noting(
     Ok(opened)
 }
 
+// The same, where the first and the last so many goals stay, and others come between them.
+fn open_middle_noting(
+    board: &mut Board<Settled>,
+    told: &mut Told,
+    first: usize,
+    last: usize,
+    middle: Vec<Arc<Asked, Global>>,
+) -> Result<Opened, AllocError>
+    requires rests { IsAtRest board.old }
+    requires stand { StillStand board.old.present (map arc_value told.old.answers.items) told.old.first told.old.last }
+    requires version { board.old.version < 2 ^ 64 - 1 }
+    requires within { first + last ≤ length board.old.present }
+    ensures step { IfOk result (λ o. Steps board.old (open_keys (with_middle first last (map (λ q. key_of (arc_value q)) middle.items) board.old.present)) board.new (open_answer o)) }
+    ensures memory { OnErr result (board.new ≡ board.old) }
+    ensures rests { IsAtRest board.new }
+    ensures stand { StillStand board.new.present (map arc_value told.new.answers.items) told.new.first told.new.last }
+{
+    keys_tell_apart();
+    let opened = board.open_middle(first, last, middle)?;
+    told.first = told.first.min(first);
+    told.last = told.last.min(last);
+    Ok(opened)
+}
+
 // The kept answers of the present goals: those at hand, or else as the board shows them.
 fn kept_answers(
     alloc: Global,
@@ -148,6 +173,16 @@ impl GoalBoard for Alone {
 
     fn open(&mut self, questions: Vec<Arc<Asked, Global>>) -> Result<Opened, AllocError> {
         open_noting(&mut self.board, &mut self.told, questions)
+    }
+
+    fn open_middle(
+        &mut self,
+        first: usize,
+        last: usize,
+        middle: Vec<Arc<Asked, Global>>,
+    ) -> Result<Option<Opened>, AllocError> {
+        let opened = open_middle_noting(&mut self.board, &mut self.told, first, last, middle)?;
+        Ok(Some(opened))
     }
 
     fn look(&mut self) -> Snapshot {

@@ -120,6 +120,16 @@ impl<'a, R: Wait, G: Gate, N: Naming> GoalBoard for Beside<'a, R, G, N> {
         opener::open(self.rt, self.board, &mut self.opener, questions)
     }
 
+    fn open_middle(
+        &mut self,
+        _first: usize,
+        _last: usize,
+        middle: Vec<Arc<Asked, Global>>,
+    ) -> Result<Option<Opened>, AllocError> {
+        drop(middle);
+        Ok(None)
+    }
+
     fn look(&mut self) -> Snapshot {
         opener::look(self.rt, self.board, &mut self.opener)
     }
