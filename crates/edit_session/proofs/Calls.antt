@@ -20,15 +20,14 @@ use Rattle.edit_session.specs.Told.{IsOpened, IsReported, AreProved}
 use Rattle.edit_session.proofs.Parts.{proofs_by_question}
 
 module _ (workers : ℕ) (s : Board) (n : List BoardCall) (t : Board) (n' : List BoardCall) (turns : ℕ) (m : Module) where
-  pub opened_told : {X : Type 0} (value : X → Asked) (new : ℕ) (xs : List X) (goals v done : ℕ) → map value xs ≡ questions turns m → goals ≡ length xs
-      → AreMade workers s n t n' (made (open_keys (map (λ x. key_of (value x)) xs)) (opened v done) ∷ []) → IsOpened workers s n t n' turns new m (accepted goals new v)
-  opened_told value new xs goals v done same many made_so =
-      let all : map (λ x. key_of (value x)) xs ≡ keys turns m = sym (map_map value key_of xs) ∙ ap (map key_of) same in
-      let count : goals ≡ length (program_goals m) = many ∙ sym (length-map xs value) ∙ ap length same ∙ length-map (program_goals m) (question turns) in
-      let version : v ≡ s.version + 1 = opens_tell_version workers s t (map (λ x. key_of (value x)) xs) v done made_so.between in
+  pub opened_told : (new : ℕ) (qs : List Asked) (goals v done : ℕ) → qs ≡ questions turns m → goals ≡ length qs
+      → AreMade workers s n t n' (made (open_keys (map key_of qs)) (opened v done) ∷ []) → IsOpened workers s n t n' turns new m (accepted goals new v)
+  opened_told new qs goals v done same many made_so =
+      let count : goals ≡ length (program_goals m) = many ∙ ap length same ∙ length-map (program_goals m) (question turns) in
+      let version : v ≡ s.version + 1 = opens_tell_version workers s t (map key_of qs) v done made_so.between in
       record {
         answer = opened v done;
-        are = subst (λ ks. AreMade workers s n t n' (made (open_keys ks) (opened v done) ∷ [])) all made_so;
+        are = subst (λ zs. AreMade workers s n t n' (made (open_keys (map key_of zs)) (opened v done) ∷ [])) same made_so;
         told = λ i. accepted (count i) new (version i);
       }
 

@@ -18,3 +18,6 @@ mod ReadRevisions
 mod Revised
 mod OnePut
 mod PutAgain
+mod SharedGoals
+mod ChangedGoals
+mod Declined

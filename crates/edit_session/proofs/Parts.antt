@@ -57,6 +57,14 @@ flat_same f g (x ∷ xs) h = λ i. h x i ++ flat_same f g xs h i
 its_verdicts : (turns : ℕ) (b : BuiltProc) → map (λ (q : Asked). (settled_by q).verdict) (map (question turns) b.goals) ≡ verdicts turns b.goals
 its_verdicts turns b = map_map (question turns) (λ (q : Asked). (settled_by q).verdict) b.goals
 
+-- procedures have as many questions as goals
+pub many_questions : (turns : ℕ) (bs : List BuiltProc) → sum (goal_counts bs) ≡ length (questions_of turns bs)
+many_questions turns [] = refl
+many_questions turns (b ∷ bs) =
+    let all : sum (goal_counts (b ∷ bs)) ≡ length b.goals + sum (goal_counts bs) = sum_by-cons (λ n. n) (length b.goals) (goal_counts bs) in
+    let questions : length (questions_of turns (b ∷ bs)) ≡ length (map (question turns) b.goals) + length (questions_of turns bs) = length-append (map (question turns) b.goals) (questions_of turns bs) in
+    omega (arith, many_questions turns bs, all, questions, length-map b.goals (question turns))
+
 -- over what the answers stand for
 module _ {X : Type 0} (value : X → Settled) (turns : ℕ) where
   pub verdicts_by_proc : (bs : List BuiltProc) (xs : List X) → map value xs ≡ map settled_by (questions_of turns bs)
@@ -67,15 +75,8 @@ module _ {X : Type 0} (value : X → Settled) (turns : ℕ) where
       ∙ map_flat (λ (b : BuiltProc). map (question turns) b.goals) (λ (q : Asked). (settled_by q).verdict) bs ∙ flat_same (λ (b : BuiltProc). map (λ (q : Asked). (settled_by q).verdict) (map (question turns) b.goals)) (λ (b : BuiltProc). verdicts turns b.goals) bs (its_verdicts turns) in
       ap (λ ns. map (map (λ x. (value x).verdict)) (in_parts ns xs)) (sym (same_counts turns bs)) ∙ parts_back (λ x. (value x).verdict) (λ (b : BuiltProc). verdicts turns b.goals) bs xs flat
 
-  many_questions : (bs : List BuiltProc) → sum (goal_counts bs) ≡ length (questions_of turns bs)
-  many_questions [] = refl
-  many_questions (b ∷ bs) =
-      let all : sum (goal_counts (b ∷ bs)) ≡ length b.goals + sum (goal_counts bs) = sum_by-cons (λ n. n) (length b.goals) (goal_counts bs) in
-      let questions : length (questions_of turns (b ∷ bs)) ≡ length (map (question turns) b.goals) + length (questions_of turns bs) = length-append (map (question turns) b.goals) (questions_of turns bs) in
-      omega (arith, many_questions bs, all, questions, length-map b.goals (question turns))
-
   pub as_many : (bs : List BuiltProc) (xs : List X) → map value xs ≡ map settled_by (questions_of turns bs) → sum (goal_counts bs) ≡ length xs
-  as_many bs xs e = omega (arith, many_questions bs, ap length e, length-map xs value, length-map (questions_of turns bs) settled_by)
+  as_many bs xs e = omega (arith, many_questions turns bs, ap length e, length-map xs value, length-map (questions_of turns bs) settled_by)
 
   -- the proofs found
   pub proofs_by_question : (qs : List Asked) (xs : List X) → map value xs ≡ map settled_by qs → map (λ x. text_or_none (value x).found) xs ≡ map proof_line qs

@@ -82,8 +82,11 @@ of_typing : (m : Module) (t : Typing) → within_limits t ≡ program m → prog
 of_typing m (typed n) h = not_large m n (program_large n) refl h
 of_typing m (ill_typed w) h = absurd (cc)
 
+pub few_within : (m : Module) → program_large m ≡ None → length (program_goals m) ≤ count_limit
+few_within m within = omega (arith, below_limit 0 0 (sizes_of (program_goals m)) (omega arith) within, length-map (program_goals m) (λ (g : Goal). length (obligation_text g.obligation)))
+
 pub few_goals : (ds : List Decl) (m : Module) → IsModuleOf ds m → length (program_goals m) ≤ count_limit
-few_goals ds m is = omega (arith, below_limit 0 0 (sizes_of (program_goals m)) (omega arith) (of_typing m (typing ds) is), length-map (program_goals m) (λ (g : Goal). length (obligation_text g.obligation)))
+few_goals ds m is = few_within m (of_typing m (typing ds) is)
 
 -- ---- what declarations are
 

@@ -12,7 +12,7 @@ use Rattle.bpl_scopes.specs.Scopes.{table_of, no_counts, counts_after}
 use Rattle.bpl_sorts.specs.Erased.{erased, told_apart}
 use Rattle.body_revision.specs.Names.{DeclareAlike, AreNamesOf, own_fault}
 use Rattle.body_revision.specs.Revised.{IsRevised}
-use Rattle.body_revision.specs.Revision.{IsNew, IsMade, AreNew, HaveNoFaults}
+use Rattle.body_revision.specs.Revision.{IsNew, IsMade, AreNew, AreRevised, HaveNoFaults}
 use Rattle.body_revision.proofs.NewInReadings.{made_is_new}
 use Rattle.body_revision.specs.declared.declared_names.DeclaredNames.{DeclaredNames}
 use Rattle.body_revision.specs.declared.revised.Revision.{Revision}
@@ -34,7 +34,7 @@ in_order ds n names = names.order ∙ ap in_number_order (sym names.alike.table)
 -- ---- one
 
 -- of what stands there it is a revision
-revised_there : (ds : List Decl) (at : ℕ) (x e : Decl) → x ≡ get_or ds at x → IsRevised x.body e.body → (d : Decl) → slice_get ds at ≡ Some d → IsRevised d.body e.body
+pub revised_there : (ds : List Decl) (at : ℕ) (x e : Decl) → x ≡ get_or ds at x → IsRevised x.body e.body → (d : Decl) → slice_get ds at ≡ Some d → IsRevised d.body e.body
 revised_there ds at x e is r d g = subst (λ (y : Decl). IsRevised y.body e.body) (is ∙ get_or_from_slice_get ds at d x g) r
 
 pub one_revision : (ds : List Decl) (r : Replacement) (x : Decl) (n : DeclaredNames) (count : ℕ) (q : Option Revision) → AreNamesOf (erased ds) n → count ≡ length (erased ds) → r.at < length ds
@@ -82,6 +82,15 @@ next_revision ds rs i r vs ws v below is pushed h one =
 
 pub all_revisions : (ds : List Decl) (rs : List Replacement) (i : ℕ) (vs : List Revision) → length rs ≤ i → AreBrought ds (take i rs) vs → AreBrought ds rs vs
 all_revisions ds rs i vs end h = subst (λ (qs : List Replacement). AreBrought ds qs vs) (take_all i rs end) h
+
+pub next_revised : (ds : List Decl) (rs : List Replacement) (i : ℕ) (r : Replacement) → i < length rs → r ≡ get_or rs i r → r.at < length ds → ((d : Decl) → slice_get ds r.at ≡ Some d → IsRevised d.body r.decl.body)
+    → AreRevised ds (changes (take i rs)) → AreRevised ds (changes (take (i + 1) rs))
+next_revised ds rs i r below is there revised h =
+    subst (λ (qs : List Replacement). AreRevised ds (changes qs)) (sym (one_behind rs i r below is))
+    (all_behind (λ (c : ℕ × Decl). (c.0 < length ds) × ((d : Decl) → slice_get ds c.0 ≡ Some d → IsRevised d.body (c.1).body)) (take i rs) r h (there, revised))
+
+pub are_revised : (ds : List Decl) (rs : List Replacement) (i : ℕ) → length rs ≤ i → AreRevised ds (changes (take i rs)) → AreRevised ds (changes rs)
+are_revised ds rs i end h = subst (λ (qs : List Replacement). AreRevised ds (changes qs)) (take_all i rs end) h
 
 -- ---- their faults
 

@@ -21,14 +21,11 @@ pub fn names(alloc: Global, procs: &[BuiltProc]) -> Result<Vec<String>, AllocErr
     Ok(found)
 }
 
-// The marks of goals.
-fn marks_of(alloc: Global, goals: &[KeptGoal]) -> Result<Vec<Mark>, AllocError>
-    ensures { IfOk result (λ v. v.items ≡ map (λ g. g.mark) goals.now) }
+// The marks of its goals.
+fn marks_of(alloc: Global, proc: &BuiltProc) -> Result<Vec<Mark>, AllocError>
+    ensures { IfOk result (λ v. v.items ≡ map (λ g. g.mark) proc.now.goals) }
 {
-    let mut found = Vec::with_capacity(alloc, goals.len())?;
-    for goal in goals {
-        found.push(goal.mark())?;
-    }
+    let found = Vec::from_slice(alloc, proc.marks())?;
     Ok(found)
 }
 
@@ -38,9 +35,16 @@ pub fn marks(alloc: Global, procs: &[BuiltProc]) -> Result<Vec<Vec<Mark>>, Alloc
 {
     let mut found = Vec::new(alloc);
     for proc in procs {
-        found.push(marks_of(alloc, proc.goals())?)?;
+        found.push(marks_of(alloc, proc)?)?;
     }
     Ok(found)
+}
+
+/// How many goals it has.
+pub fn count_of(proc: &BuiltProc) -> usize
+    ensures { result ≡ length proc.now.goals }
+{
+    proc.marks().len()
 }
 
 /// How many goals each procedure has.
@@ -49,7 +53,7 @@ pub fn counts(alloc: Global, procs: &[BuiltProc]) -> Result<Vec<usize>, AllocErr
 {
     let mut found = Vec::new(alloc);
     for proc in procs {
-        found.push(proc.goals().len())?;
+        found.push(count_of(proc))?;
     }
     Ok(found)
 }
@@ -93,6 +97,19 @@ fn push_questions(
     Ok(())
 }
 
+// The questions of its goals come behind.
+fn push_questions_of(
+    alloc: Global,
+    found: &mut Vec<Arc<Asked, Global>>,
+    proc: &BuiltProc,
+    turns: u64,
+) -> Result<(), AllocError>
+    ensures { OnOk result (map arc_value found.new.items ≡ map arc_value found.old.items ++ map (question turns) proc.now.goals) }
+{
+    push_questions(alloc, found, proc.shared(), turns)?;
+    Ok(())
+}
+
 /// The questions of all goals, procedure by procedure.
 pub fn questions(
     alloc: Global,
@@ -103,7 +120,7 @@ pub fn questions(
 {
     let mut found = Vec::new(alloc);
     for proc in procs {
-        push_questions(alloc, &mut found, proc.goals(), turns)?;
+        push_questions_of(alloc, &mut found, proc, turns)?;
     }
     Ok(found)
 }

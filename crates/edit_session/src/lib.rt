@@ -19,6 +19,9 @@ pub mod program;
 // The program after some of its procedures have got other clauses or bodies.
 mod revising;
 
+// Between which places procedures differ.
+mod changed;
+
 // Calls on the board, and the replies that tell them.
 mod board_calls;
 

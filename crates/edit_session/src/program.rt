@@ -1,16 +1,17 @@
 // The program that is open, and declarations that are to be.
-ghost use Rattle.std.specs.Prelude.{◌≡◌, ◌<◌, ◌-◌, ◌^◌, [], map, length, slice_set, IfOk, IfErr, OnErr};
+ghost use Rattle.std.specs.Prelude.{◌≡◌, ◌<◌, ◌-◌, ◌^◌, ◌≤◌, [], map, length, sum, slice_set, IfOk, IfErr, OnErr};
 ghost use Rattle.bpl_goto.specs.Forward.{AllGoForward};
 ghost use Rattle.canonical_text.specs.RoundTrip.{AreWrittenDecls};
 ghost use Rattle.rebuild_laws.specs.Resolved.{IsResolved};
+ghost use Rattle.vc_build.specs.Large.{count_limit};
 ghost use Rattle.vc_build.specs.Rebuild.{built, rebuilt};
 ghost use Rattle.fault_text.specs.FaultView.{SourcesAreShort};
 ghost use Rattle.program_opening.specs.Opening.{typing, typed as typed_as};
 ghost use Rattle.program_opening.specs.ProcGoals.{goals_by_proc};
 ghost use Rattle.request_text.specs.ReplyView.{reply_view};
 ghost use Rattle.program_edits.specs.Replaced.{with_replacements, AreThere};
-ghost use Rattle.edit_session.specs.Program.{IsModuleOf};
-ghost use Rattle.edit_session.specs.Built.{proc_goals};
+ghost use Rattle.edit_session.specs.Program.{IsModuleOf, keys};
+ghost use Rattle.edit_session.specs.Built.{proc_goals, goal_counts};
 ghost use Rattle.edit_session.specs.Judged.{IsJudged};
 ghost use Rattle.edit_session.specs.Told.{IsOpened, IsUndone};
 
@@ -143,6 +144,13 @@ fn put_decls(program: &mut Program, mut replacements: Vec<Replacement>)
     }
 }
 
+// The program's declarations.
+fn decls_of(program: &Program) -> &[Decl]
+    ensures { result.now ≡ program.now }
+{
+    program.decls.as_slice()
+}
+
 impl OpenProgram {
     /// The program without declarations, whose goals are to be searched with so many turns. Nothing in
     /// it has a fault.
@@ -219,6 +227,15 @@ impl OpenProgram {
         self.built.procs()
     }
 
+    /// What was built of it: no more goals than are allowed.
+    #[tactic(auto, using(crate::proofs::Programs::procs_are))]
+    pub fn built(&self) -> &Built
+        ensures goals { map proc_goals result.now.procs ≡ goals_by_proc self.now.typed }
+        ensures few { sum (goal_counts result.now.procs) ≤ count_limit }
+    {
+        &self.built
+    }
+
     /// Its declarations with others in the places of some of them. It stays as it is.
     pub fn with_replacements(
         &self,
@@ -249,6 +266,7 @@ impl OpenProgram {
         requires short { SourcesAreShort (with_replacements self.old.decls replacements.items) }
         requires written { AreWrittenDecls 0 (with_replacements self.old.decls replacements.items) }
         requires room { B.workers ≡ 0 → (B.state board.old).version < 2 ^ 64 - 1 }
+        requires goals { (B.state board.old).present ≡ keys turns self.old.typed }
         ensures decls { IfOk result (λ x. self.new.decls ≡ with_replacements self.old.decls replacements.items) }
         ensures is_module { IfOk result (λ x. IsModuleOf self.new.decls self.new.typed) }
         ensures opened { IfOk result (λ x. IsOpened B.workers (B.state board.old) (B.noted board.old) (B.state board.new) (B.noted board.new) turns (rebuilt (built self.old.typed) self.new.typed) self.new.typed (reply_view x)) }
@@ -258,7 +276,7 @@ impl OpenProgram {
     {
         match reopen_revised(
             alloc,
-            self.program.decls.as_slice(),
+            decls_of(&self.program),
             &mut self.typed,
             &mut self.built,
             board,

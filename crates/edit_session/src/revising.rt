@@ -1,17 +1,21 @@
 // The program after some of its procedures have got other clauses or bodies.
-ghost use Rattle.std.specs.Prelude.{◌≡◌, ◌<◌, ◌-◌, ◌^◌, length, false, is_none, IsTrue, IfOk, OnErr, IfSome, IfNone};
+ghost use Rattle.std.specs.Prelude.{◌≡◌, ◌<◌, ◌-◌, ◌^◌, map, length, false, is_none, slice_get, Some, IsTrue, IfOk, OnErr, IfSome, IfNone};
+ghost use Rattle.bpl_ast.specs.Statement.{Decl as decl_of};
 ghost use Rattle.bpl_goto.specs.Forward.{AllGoForward};
 ghost use Rattle.bpl_scopes.specs.Scopes.{table_of, no_counts, counts_after};
 ghost use Rattle.bpl_sorts.specs.Erased.{erased, told_apart};
 ghost use Rattle.canonical_text.specs.RoundTrip.{AreWrittenDecls};
 ghost use Rattle.rebuild_laws.specs.Resolved.{IsResolved};
+ghost use Rattle.vc_build.specs.Rebuild.{built};
 ghost use Rattle.body_revision.specs.Names.{AreNamesOf, own_fault};
 ghost use Rattle.body_revision.specs.Revised.{IsRevised};
-ghost use Rattle.body_revision.specs.Revision.{HaveNoFaults, all_revised};
+ghost use Rattle.body_revision.specs.Revision.{AreRevised, HaveNoFaults, all_revised};
 ghost use Rattle.program_opening.specs.NoUsers.{has_user_types};
 ghost use Rattle.program_edits.specs.Replaced.{with_replacements, AreThere};
 ghost use Rattle.request_text.specs.ReplyView.{reply_view};
-ghost use Rattle.edit_session.specs.Program.{IsModuleOf};
+ghost use Rattle.obligation_text.specs.Asked.{key_of};
+ghost use Rattle.edit_session.specs.Program.{IsModuleOf, keys};
+ghost use Rattle.edit_session.specs.Built.{questions_of};
 ghost use Rattle.edit_session.specs.Revising.{changes, AreBrought, AreRevisions, IsRevision, CanBePut, IsReopened};
 ghost use Rattle.edit_session.specs.Told.{IsUndone};
 
@@ -41,6 +45,36 @@ fn is_revision(alloc: Global, old: &Decl, new: &Decl) -> Result<bool, AllocError
     ensures { IfOk result (λ b. IsTrue b → IsRevised old.now.body new.now.body) }
 {
     is_revised(alloc, old.body(), new.body())
+}
+
+// Whether it is a revision of the declaration in whose place it comes.
+fn is_revision_at(
+    alloc: Global,
+    decls: &[Decl],
+    replacement: &Replacement,
+) -> Result<bool, AllocError>
+    requires { replacement.now.at < length decls.now }
+    ensures { IfOk result (λ b. IsTrue b → (d : decl_of) → slice_get decls.now replacement.now.at ≡ Some d → IsRevised d.body replacement.now.decl.body) }
+{
+    let at = replacement.at;
+    is_revision(alloc, &decls[at], &replacement.decl)
+}
+
+// Whether each of them is one. No names are asked for.
+fn are_revised(
+    alloc: Global,
+    decls: &[Decl],
+    replacements: &[Replacement],
+) -> Result<bool, AllocError>
+    requires { AreThere decls.now replacements.now }
+    ensures { IfOk result (λ b. IsTrue b → AreRevised decls.now (changes replacements.now)) }
+{
+    for replacement in replacements {
+        if !is_revision_at(alloc, decls, replacement)? {
+            return Ok(false);
+        }
+    }
+    Ok(true)
 }
 
 // What is new in the module, if the declaration is a revision of the one in whose place it comes, and
@@ -195,6 +229,9 @@ fn revisions_of(
     if replacements.len() > MOST_REVISIONS {
         return Ok(None);
     }
+    if !are_revised(alloc, decls, replacements)? {
+        return Ok(None);
+    }
     if has_user_types(decls) {
         read_revisions(alloc, decls, count, replacements)
     } else {
@@ -215,12 +252,13 @@ fn reopen<B: GoalBoard, L: Ledger>(
     requires forward { AllGoForward typed.now }
     requires resolved { IsResolved typed.now }
     requires room { B.workers ≡ 0 → (B.state board.old).version < 2 ^ 64 - 1 }
+    requires goals { (B.state board.old).present ≡ map key_of (questions_of turns kept.old.procs) }
     ensures opened { IfOk result (λ x. IsReopened B.workers (B.state board.old) (B.noted board.old) (B.state board.new) (B.noted board.new) turns typed.now kept.old.procs kept.new.procs (reply_view x)) }
     ensures kept { OnErr result (kept.new ≡ kept.old) }
     ensures board { OnErr result (IsUndone B.workers (B.state board.old) (B.noted board.old) (B.state board.new) (B.noted board.new)) }
 {
     let new = rebuild(alloc, kept, typed, steps)?;
-    let reply = open_goals(alloc, board, new.procs(), new.rebuilt(), turns)?;
+    let reply = open_goals(alloc, board, kept, &new, new.rebuilt(), turns)?;
     *kept = new;
     Ok(reply)
 }
@@ -241,6 +279,7 @@ fn reopen_with<B: GoalBoard, L: Ledger>(
     requires forward { AllGoForward (all_revised typed.old revisions.old.items) }
     requires resolved { IsResolved (all_revised typed.old revisions.old.items) }
     requires room { B.workers ≡ 0 → (B.state board.old).version < 2 ^ 64 - 1 }
+    requires goals { (B.state board.old).present ≡ map key_of (questions_of turns kept.old.procs) }
     ensures revised { IfSome result (λ x. typed.new ≡ all_revised typed.old revisions.old.items) }
     ensures opened { IfSome result (λ x. IsReopened B.workers (B.state board.old) (B.noted board.old) (B.state board.new) (B.noted board.new) turns typed.new kept.old.procs kept.new.procs (reply_view x)) }
     ensures typed { IfNone result (typed.new ≡ typed.old) }
@@ -290,6 +329,8 @@ pub fn reopen_revised<B: GoalBoard, L: Ledger>(
     requires there { AreThere decls.now replacements.now }
     requires written { AreWrittenDecls 0 (with_replacements decls.now replacements.now) }
     requires room { B.workers ≡ 0 → (B.state board.old).version < 2 ^ 64 - 1 }
+    requires goals { (B.state board.old).present ≡ keys turns typed.old }
+    requires built { kept.old.procs ≡ built typed.old }
     ensures is_module { IfSome result (λ x. IsModuleOf (with_replacements decls.now replacements.now) typed.new) }
     ensures opened { IfSome result (λ x. IsReopened B.workers (B.state board.old) (B.noted board.old) (B.state board.new) (B.noted board.new) turns typed.new kept.old.procs kept.new.procs (reply_view x)) }
     ensures typed { IfNone result (typed.new ≡ typed.old) }

@@ -254,7 +254,8 @@ impl<B: GoalBoard, L: Ledger> Session<B, L> {
         let reply = open_goals(
             self.alloc,
             &mut self.board,
-            program.procs(),
+            self.opened.built(),
+            program.built(),
             rebuilt,
             self.turns,
         )?;

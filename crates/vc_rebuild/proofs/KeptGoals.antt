@@ -2,7 +2,7 @@
 use Rattle.std.specs.Prelude.{◌≡◌, refl, ℕ, Bool, true, false, cond, List, [], ◌∷◌, is_some, Some, Contains, bytes_eq}
 use Rattle.std.proofs.Common.{ap, sym, subst, ◌∙◌, inl, inr}
 use Rattle.std.proofs.lemmas.Slice.Eq.{bytes_eq-Decides}
-use Rattle.passive_form.proofs.Lists.{contains_first, contains_later, from_map, filter_has}
+use Rattle.passive_form.proofs.Lists.{contains_none, contains_first, contains_later, from_map, filter_has}
 use Rattle.bpl_model.specs.Module.{Proc, Module}
 use Rattle.bpl_goto.specs.Removed.{removed, remove_gotos}
 use Rattle.rebuild_laws.specs.Resolved.{IsResolved, EqualDependencyTextsHaveEqualObligations}
@@ -10,7 +10,7 @@ use Rattle.vc_build.specs.Depends.{depends}
 use Rattle.vc_build.specs.Goals.{goals_by_passes, goals}
 use Rattle.vc_build.specs.Rebuild.{BuiltProc, with_body, built}
 use Rattle.vc_rebuild.specs.Kept.{with_text}
-use Rattle.vc_rebuild.specs.Inside.{AreOfProgram, AreBuilt, each_obligation, SameObligations, TextsDecide}
+use Rattle.vc_rebuild.specs.Inside.{AreOfProgram, AreBuilt, each_obligation, SameObligations, TextsDecide, TextsFix}
 use Rattle.vc_rebuild.proofs.Programs.{is_left, depends_same}
 
 -- a procedure that is found is one of those, and has the text
@@ -52,3 +52,11 @@ module _ (law : EqualDependencyTextsHaveEqualObligations) (m : Module) (resolved
 pub same_as_candidate : (old : List BuiltProc) (m : Module) → TextsDecide old m → (p : Proc) → Contains m.procs p → is_some p.body ≡ true → (text : List ℕ) → text ≡ depends m p
     → (b : BuiltProc) → Some b ≡ with_text old text → SameObligations b.goals (goals_by_passes m p)
 same_as_candidate old m decided p there body text is b found = decided p there body b (ap (with_text old) (sym is) ∙ sym found)
+
+-- procedures of two programs that have equal dependency texts have equal obligations
+pub texts_fix : EqualDependencyTextsHaveEqualObligations → (bs cs : List BuiltProc) → AreBuilt bs → AreBuilt cs → TextsFix bs cs
+texts_fix law bs cs (inl none) k b c inside there e = absurd (contains_none b (subst (λ xs. Contains xs b) none inside))
+texts_fix law bs cs (inr f) (inl none) b c inside there e = absurd (contains_none c (subst (λ xs. Contains xs c) none there))
+texts_fix law bs cs (inr f) (inr s) b c inside there e =
+    let r = from_map (λ (x : Proc). record { name = x.name; depends = depends s.typed x; goals = goals s.typed x }) (with_body s.typed) c (subst (λ xs. Contains xs c) s.are there) in
+    same_as_before law s.typed s.resolved r.0 r.1 f.typed f.resolved b (subst (λ xs. Contains xs b) f.are inside) (ap (λ (x : BuiltProc). x.depends) r.2 ∙ sym e) ∙ ap (λ (x : BuiltProc). each_obligation x.goals) r.2

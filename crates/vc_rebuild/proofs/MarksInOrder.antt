@@ -1,18 +1,12 @@
 -- Goals that take marks, one after another.
-use Rattle.std.specs.Prelude.{◌≡◌, refl, ℕ, zero, suc, min, List, [], ◌∷◌, map, length, drop}
+use Rattle.std.specs.Prelude.{◌≡◌, refl, List, [], ◌∷◌, map, length}
 use Rattle.std.proofs.Common.{ap, arith, ◌∙◌}
+use Rattle.std.proofs.lemmas.List.{length-map}
 use Rattle.flow_core.specs.declared.mark.Mark.{Mark}
 use Rattle.logic_core.specs.Def.{Obligation}
 use Rattle.vc_build.specs.declared.goal.Goal.{Goal}
 use Rattle.vc_rebuild.specs.Inside.{each_obligation, SameObligations}
 use Rattle.vc_rebuild.specs.Marks.{remarked}
-
--- where the shorter list ends
-pub none_remarked : (ms : List Mark) (gs : List Goal) (i : ℕ) → i ≡ min (length ms) (length gs) → remarked (drop i ms) (drop i gs) ≡ []
-none_remarked [] gs i e = let z : i ≡ 0 = omega arith in rw z refl
-none_remarked (m ∷ ms) [] i e = let z : i ≡ 0 = omega arith in rw z refl
-none_remarked (m ∷ ms) (g ∷ gs) zero e = absurd (omega arith)
-none_remarked (m ∷ ms) (g ∷ gs) (suc i) e = none_remarked ms gs i (omega arith)
 
 -- each obligation with its mark
 abbrev with_marks : List Mark → List Obligation → List Goal
@@ -32,3 +26,19 @@ marked_again (g ∷ gs) = ap (λ hs. g ∷ hs) (marked_again gs)
 -- goals with the obligations of others and their marks are those
 pub goals_again : (gs hs : List Goal) → SameObligations gs hs → remarked (map (λ (h : Goal). h.mark) hs) gs ≡ hs
 goals_again gs hs same = remarked_by (map (λ (h : Goal). h.mark) hs) gs ∙ ap (with_marks (map (λ (h : Goal). h.mark) hs)) same ∙ marked_again hs
+
+-- goals of as many marks have these marks, and the obligations that they had
+pub marks_of_remarked : (ms : List Mark) (gs : List Goal) → length ms ≡ length gs → ms ≡ map (λ (g : Goal). g.mark) (remarked ms gs)
+marks_of_remarked [] gs e = refl
+marks_of_remarked (m ∷ ms) [] e = absurd (omega (e, arith))
+marks_of_remarked (m ∷ ms) (g ∷ gs) e = ap (λ ns. m ∷ ns) (marks_of_remarked ms gs (omega (e, arith)))
+
+pub obligations_of_remarked : (ms : List Mark) (gs : List Goal) → length ms ≡ length gs → SameObligations gs (remarked ms gs)
+obligations_of_remarked [] [] e = refl
+obligations_of_remarked [] (g ∷ gs) e = absurd (omega (e, arith))
+obligations_of_remarked (m ∷ ms) [] e = absurd (omega (e, arith))
+obligations_of_remarked (m ∷ ms) (g ∷ gs) e = ap (λ os. g.obligation ∷ os) (obligations_of_remarked ms gs (omega (e, arith)))
+
+-- goals of the same obligations are as many
+pub as_many_goals : (gs hs : List Goal) → SameObligations gs hs → length gs ≡ length hs
+as_many_goals gs hs same = omega (arith, length-map gs (λ (g : Goal). g.obligation), length-map hs (λ (g : Goal). g.obligation), ap length same)

@@ -1,5 +1,5 @@
 -- Goals whose number and whose bytes are within the limits exceed none.
-use Rattle.std.specs.Prelude.{◌≡◌, refl, ℕ, ◌+◌, ◌-◌, ◌^◌, ◌<◌, ◌≤◌, nat_lt, nat_le, min, Bool, true, false, ◌&&◌, cond, List, [], ◌∷◌, ◌++◌, length, sum, None, Some}
+use Rattle.std.specs.Prelude.{◌≡◌, refl, ℕ, ◌+◌, ◌-◌, ◌^◌, ◌<◌, ◌≤◌, nat_lt, nat_le, min, Bool, true, false, ◌&&◌, cond, List, [], ◌∷◌, ◌++◌, map, length, sum, None, Some}
 use Rattle.std.proofs.Common.{ap, sym, arith, ◌∙◌}
 use Rattle.std.proofs.lemmas.Bool.{leb-true}
 use Rattle.std.proofs.lemmas.Bool.Decides.{nat_tests}
@@ -13,6 +13,7 @@ use Rattle.vc_build.specs.declared.fault.Measure.TheVariants.{Count, Bytes}
 use Rattle.vc_build.specs.Large.{count_limit, byte_limit, large_after, sizes_of, large}
 use Rattle.vc_build.specs.Rebuild.{BuiltProc}
 use Rattle.vc_rebuild.specs.Kept.{all_goals}
+use Rattle.vc_rebuild.specs.Inside.{each_obligation, SameObligations}
 use Rattle.vc_rebuild.specs.Within.{are_within}
 
 not_above : (a b : ℕ) → b ≤ a → nat_lt a b ≡ false
@@ -53,6 +54,14 @@ room_for gs hs count bytes n b c s few small counted summed =
     let first = left_of n count count_limit few ∙ ap (λ k. nat_le k count_limit) many in
     let second = ap (λ k. nat_le k (byte_limit - bytes)) summed ∙ left_of_capped (sum (sizes_of hs)) bytes byte_limit small (omega arith) ∙ ap (λ k. nat_le k byte_limit) total in
     λ i. first i && second i
+
+-- goals of the same obligations have the same sizes
+sizes_by : (gs : List Goal) → sizes_of gs ≡ map (λ o. length (obligation_text o)) (each_obligation gs)
+sizes_by [] = refl
+sizes_by (g ∷ gs) = ap (λ ns. length (obligation_text g.obligation) ∷ ns) (sizes_by gs)
+
+pub sizes_same : (gs hs : List Goal) → SameObligations gs hs → sizes_of gs ≡ sizes_of hs
+sizes_same gs hs same = sizes_by gs ∙ ap (map (λ o. length (obligation_text o))) same ∙ sym (sizes_by hs)
 
 pub append_nil : (gs : List Goal) → gs ++ [] ≡ gs
 append_nil [] = refl

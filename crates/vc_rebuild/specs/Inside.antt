@@ -32,6 +32,10 @@ SameObligations gs hs = each_obligation gs ≡ each_obligation hs
 abbrev pub TextsDecide : List BuiltProc → Module → Type 0
 TextsDecide old m = (p : Proc) → Contains m.procs p → is_some p.body ≡ true → (b : BuiltProc) → with_text old (depends m p) ≡ Some b → SameObligations b.goals (goals_by_passes m p)
 
+-- procedures of the one and of the other that have equal dependency texts have equal obligations
+abbrev pub TextsFix : List BuiltProc → List BuiltProc → Type 0
+TextsFix bs cs = (b c : BuiltProc) → Contains bs b → Contains cs c → b.depends ≡ c.depends → SameObligations b.goals c.goals
+
 abbrev pub digests_of : List BuiltProc → List (List ℕ)
 digests_of bs = map (λ (b : BuiltProc). sha256 b.depends) bs
 

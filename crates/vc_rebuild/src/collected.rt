@@ -23,6 +23,20 @@ fn bytes_of(goals: &[KeptGoal]) -> u64
     bytes
 }
 
+// How many goals it has.
+fn count_in(proc: &BuiltProc) -> u64
+    ensures { result ≡ length proc.now.goals }
+{
+    proc.shared().len() as u64
+}
+
+// The bytes of the texts of its goals' obligations, or 2^64 - 1 where these are more.
+fn bytes_in(proc: &BuiltProc) -> u64
+    ensures { result ≡ capped (sum (sizes_of proc.now.goals)) }
+{
+    bytes_of(proc.shared())
+}
+
 /// Procedures whose goals together exceed no limit.
 #[derive(Drop)]
 pub struct Collected {
@@ -69,12 +83,12 @@ impl Collected {
         self.procs.len()
     }
 
-    /// Whether no limit is exceeded with these goals behind.
+    /// Whether no limit is exceeded with this procedure's goals behind.
     #[tactic(auto, using(crate::proofs::WithinLimits::room_for))]
-    pub fn has_room(&self, goals: &[KeptGoal]) -> bool
-        ensures { result ≡ are_within (all_goals self.now ++ goals.now) }
+    pub fn has_room(&self, proc: &BuiltProc) -> bool
+        ensures { result ≡ are_within (all_goals self.now ++ proc.now.goals) }
     {
-        goals.len() as u64 <= COUNT_LIMIT - self.count && bytes_of(goals) <= BYTE_LIMIT - self.bytes
+        count_in(proc) <= COUNT_LIMIT - self.count && bytes_in(proc) <= BYTE_LIMIT - self.bytes
     }
 
     /// One procedure more, for whose goals there is room.
@@ -82,9 +96,8 @@ impl Collected {
         requires { are_within (all_goals self.old ++ proc.goals) ≡ true }
         ensures { OnOk result (self.new ≡ self.old ++ proc ∷ []) }
     {
-        let goals = proc.goals();
-        let count = self.count.saturating_add(goals.len() as u64);
-        let bytes = self.bytes.saturating_add(bytes_of(goals));
+        let count = self.count.saturating_add(count_in(&proc));
+        let bytes = self.bytes.saturating_add(bytes_in(&proc));
         self.procs.push(proc)?;
         self.count = count;
         self.bytes = bytes;

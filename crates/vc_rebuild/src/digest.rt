@@ -2,10 +2,10 @@
 ghost use Rattle.std.specs.Prelude.{◌≡◌, IfOk};
 ghost use Rattle.sha2.specs.Sha256.{sha256};
 
-use logic_core::Sequence;
 use sha2::{Digest, Sha256};
 use std::alloc::{AllocError, Global};
 use std::marker::Model;
+use std::sync::Arc;
 
 // The SHA-256 of the text.
 fn digest_of(text: &[u8]) -> [u8; 32]
@@ -16,22 +16,43 @@ fn digest_of(text: &[u8]) -> [u8; 32]
     hasher.finalize()
 }
 
-/// A text with its SHA-256.
+// A text and its SHA-256.
+#[derive(Drop)]
+struct Digested {
+    text: Vec<u8>,
+    digest: Vec<u8>,
+}
+
+impl Digested {
+    fn text(&self) -> &[u8]
+        ensures { result.now ≡ self.now.text.items }
+    {
+        self.text.as_slice()
+    }
+
+    fn digest(&self) -> &[u8]
+        ensures { result.now ≡ self.now.digest.items }
+    {
+        self.digest.as_slice()
+    }
+}
+
+/// A text with its SHA-256. Before and after an edit it may be the same one in memory.
 #[derive(Drop)]
 pub struct DigestedText {
-    text: Sequence<u8>,
-    digest: Sequence<u8>,
+    shared: Arc<Digested, Global>,
 }
 
 impl Model for DigestedText {
     ghost use Rattle.std.specs.Prelude.{◌≡◌, ℕ, List};
+    ghost use Rattle.std.specs.Arc.{arc_value};
     ghost use Rattle.sha2.specs.Sha256.{sha256};
 
     ghost Value = { List ℕ };
 
-    ghost view = { λ a. a.text };
+    ghost view = { λ a. (arc_value a.shared).text.items };
 
-    ghost invariant = { λ a. a.digest ≡ sha256 a.text };
+    ghost invariant = { λ a. (arc_value a.shared).digest.items ≡ sha256 (arc_value a.shared).text.items };
 }
 
 impl DigestedText {
@@ -40,13 +61,11 @@ impl DigestedText {
         ensures { IfOk result (λ d. d ≡ text.items) }
     {
         let digest = Vec::from_slice(alloc, &digest_of(&text))?;
-        Ok(DigestedText {
-            text: Sequence::of(text),
-            digest: Sequence::of(digest),
-        })
+        let shared = Arc::new(alloc, Digested { text, digest })?;
+        Ok(DigestedText { shared })
     }
 
-    /// The text; where the other one is the same, its digest is taken over.
+    /// The text; where the other one is the same, it is shared with it.
     pub fn like(
         alloc: Global,
         text: Vec<u8>,
@@ -57,24 +76,21 @@ impl DigestedText {
         if text.as_slice() != other.text() {
             return DigestedText::of(alloc, text);
         }
-        let digest = Vec::from_slice(alloc, other.digest())?;
-        Ok(DigestedText {
-            text: Sequence::of(text),
-            digest: Sequence::of(digest),
-        })
+        let shared = Arc::try_clone(&other.shared)?;
+        Ok(DigestedText { shared })
     }
 
     /// It.
     pub fn text(&self) -> &[u8]
         ensures { result.now ≡ self.now }
     {
-        self.text.as_slice()
+        self.shared.text()
     }
 
     /// Its SHA-256.
     pub fn digest(&self) -> &[u8]
         ensures { result.now ≡ sha256 self.now }
     {
-        self.digest.as_slice()
+        self.shared.digest()
     }
 }

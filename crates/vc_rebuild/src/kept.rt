@@ -1,42 +1,63 @@
 // What is kept of a procedure.
-ghost use Rattle.std.specs.Prelude.{◌≡◌};
+ghost use Rattle.std.specs.Prelude.{◌≡◌, map, length, bytes_eq};
+ghost use Rattle.std.specs.Arc.{arc_value};
+ghost use Rattle.vc_rebuild.specs.Inside.{SameObligations};
+ghost use Rattle.vc_rebuild.specs.Marks.{remarked};
 
 use crate::digest::DigestedText;
 use crate::shared::KeptGoal;
 use bpl_model::Name;
+use flow_core::Mark;
 use logic_core::Sequence;
+use std::alloc::Global;
 use std::marker::Model;
+use std::sync::Arc;
 
 /// A procedure with a body: its dependency text, which is the canonical texts of its declarations and
 /// those without bodies of the others that its names reach, and its goals, by block of its graph and
-/// then by place.
+/// then by place. Before and after an edit the obligations may be the same ones in memory; the marks are
+/// the procedure's own.
 #[derive(Drop)]
 pub struct BuiltProc {
     name: Name,
     depends: DigestedText,
-    goals: Sequence<KeptGoal>,
+    marks: Sequence<Mark>,
+    // their own marks may be those of an earlier text
+    shared: Arc<Sequence<KeptGoal>, Global>,
 }
 
 impl Model for BuiltProc {
+    ghost use Rattle.std.specs.Prelude.{◌≡◌, length};
+    ghost use Rattle.std.specs.Arc.{arc_value};
     ghost use Rattle.vc_build.specs.Rebuild.{BuiltProc as built_proc};
     ghost use Rattle.vc_rebuild.specs.Codes.{coded_proc};
+    ghost use Rattle.vc_rebuild.specs.Marks.{remarked};
 
     ghost Value = { built_proc };
 
     ghost coded = { coded_proc };
 
-    ghost view = { λ a. record { name = a.name; depends = a.depends; goals = a.goals } };
+    ghost view = { λ a. record { name = a.name; depends = a.depends; goals = remarked a.marks (arc_value a.shared) } };
+
+    ghost invariant = { λ a. length a.marks ≡ length (arc_value a.shared) };
 }
 
 impl BuiltProc {
     /// Of these parts.
-    pub(crate) fn of(name: Name, depends: DigestedText, goals: Sequence<KeptGoal>) -> BuiltProc
-        ensures { result ≡ record { name = name; depends = depends; goals = goals } }
+    pub(crate) fn of(
+        name: Name,
+        depends: DigestedText,
+        marks: Sequence<Mark>,
+        shared: Arc<Sequence<KeptGoal>, Global>,
+    ) -> BuiltProc
+        requires { length marks ≡ length (arc_value shared) }
+        ensures { result ≡ record { name = name; depends = depends; goals = remarked marks (arc_value shared) } }
     {
         BuiltProc {
             name,
             depends,
-            goals,
+            marks,
+            shared,
         }
     }
 
@@ -54,10 +75,34 @@ impl BuiltProc {
         &self.depends
     }
 
-    /// Its goals.
-    pub fn goals(&self) -> &[KeptGoal]
-        ensures { result.now ≡ self.now.goals }
+    /// Whether the other one has the same dependency text.
+    pub fn has_text_of(&self, other: &BuiltProc) -> bool
+        ensures { result ≡ bytes_eq self.now.depends other.now.depends }
     {
-        self.goals.as_slice()
+        self.depends.text() == other.depends.text()
+    }
+
+    /// The marks of its goals.
+    #[tactic(auto, using(crate::proofs::MarksInOrder::marks_of_remarked))]
+    pub fn marks(&self) -> &[Mark]
+        ensures { result.now ≡ map (λ g. g.mark) self.now.goals }
+    {
+        self.marks.as_slice()
+    }
+
+    /// Its goals but for their marks.
+    #[tactic(auto, using(crate::proofs::MarksInOrder::obligations_of_remarked))]
+    pub fn shared(&self) -> &[KeptGoal]
+        ensures { SameObligations result.now self.now.goals }
+    {
+        self.shared.as_slice()
+    }
+
+    /// The same, to be shared.
+    #[tactic(auto, using(crate::proofs::MarksInOrder::obligations_of_remarked))]
+    pub(crate) fn sharing(&self) -> &Arc<Sequence<KeptGoal>, Global>
+        ensures { SameObligations (arc_value result.now) self.now.goals }
+    {
+        &self.shared
     }
 }

@@ -25,5 +25,5 @@ pub mod program;
 
 pub use built::Built;
 pub use kept::BuiltProc;
-pub use program::rebuild;
+pub use program::{rebuild, texts_fix_obligations};
 pub use shared::KeptGoal;

@@ -1,5 +1,6 @@
 // A procedure whose obligations are kept or built.
 ghost use Rattle.std.specs.Prelude.{◌≡◌, ◌+◌, cond, map, Contains, IfOk, IsSome, OnOk};
+ghost use Rattle.std.specs.Arc.{arc_value};
 ghost use Rattle.bpl_model.specs.NoGoto.{BodyHasNoGoto};
 ghost use Rattle.vc_build.specs.Depends.{depends};
 ghost use Rattle.vc_build.specs.Goals.{goals_by_passes};
@@ -10,12 +11,13 @@ ghost use Rattle.vc_rebuild.specs.Looked.{IsBefore};
 use crate::candidate::{Before, candidate};
 use crate::digest::DigestedText;
 use crate::kept::BuiltProc;
-use crate::shared::{KeptGoal, remarked, share_all};
+use crate::shared::{KeptGoal, share_all};
 use crate::text::depends;
 use bpl_model::{Links, Proc};
 use bv_base::Steps;
 use logic_core::Sequence;
 use std::alloc::{AllocError, Global};
+use std::sync::Arc;
 use std::sync::ledger::Ledger;
 use vc_build::procedure::add_goals;
 use vc_build::tally::Tally;
@@ -30,7 +32,7 @@ pub struct MadeProc {
     pub is_new: bool,
 }
 
-// The procedure's dependency text. Where a procedure before has the same one, its digest is taken over.
+// The procedure's dependency text. Where the procedure before has the same one, it is shared with it.
 fn text_of(
     alloc: Global,
     links: &Links<'_>,
@@ -46,19 +48,22 @@ fn text_of(
     }
 }
 
-// The goals of the candidate, with the marks of the present procedure.
-#[tactic(auto, using(crate::proofs::MarksInOrder::goals_again))]
-fn kept_goals(
+// The procedure with these obligations, and the marks that it has in the present program.
+#[tactic(auto, using(crate::proofs::MarksInOrder::goals_again, crate::proofs::MarksInOrder::as_many_goals))]
+fn with_marks(
     alloc: Global,
     links: &Links<'_>,
     proc: &Proc,
-    kept: &BuiltProc,
-) -> Result<Sequence<KeptGoal>, AllocError>
-    requires { SameObligations kept.now.goals (goals_by_passes links.now proc.now) }
-    ensures { IfOk result (λ gs. gs ≡ goals_by_passes links.now proc.now) }
+    text: DigestedText,
+    shared: Arc<Sequence<KeptGoal>, Global>,
+) -> Result<BuiltProc, AllocError>
+    requires text { text ≡ depends links.now proc.now }
+    requires same { SameObligations (arc_value shared) (goals_by_passes links.now proc.now) }
+    ensures { IfOk result (λ b. b ≡ kept_of links.now proc.now) }
 {
     let marks = marks_of(alloc, links.parts(), proc)?;
-    remarked(alloc, &marks, kept.goals())
+    let name = proc.name.copy(alloc)?;
+    Ok(BuiltProc::of(name, text, Sequence::of(marks), shared))
 }
 
 // The goals, built, and asked for in so many turns.
@@ -67,14 +72,16 @@ fn built_goals(
     links: &Links<'_>,
     proc: &Proc,
     turns: u64,
-) -> Result<Sequence<KeptGoal>, BuildFault>
+) -> Result<Arc<Sequence<KeptGoal>, Global>, BuildFault>
     requires there { Contains links.now.procs proc.now }
     requires no_goto { BodyHasNoGoto proc.now.body }
-    ensures { IfOk result (λ gs. gs ≡ goals_by_passes links.now proc.now) }
+    ensures { IfOk result (λ gs. arc_value gs ≡ goals_by_passes links.now proc.now) }
 {
     let mut tally = Tally::new(alloc);
     add_goals(alloc, &mut tally, links, proc)?;
-    Ok(share_all(alloc, tally.into_goals().into_vec(), turns)?)
+    let goals = share_all(alloc, tally.into_goals().into_vec(), turns)?;
+    let shared = Arc::new(alloc, goals)?;
+    Ok(shared)
 }
 
 // The procedure with the candidate's obligations.
@@ -89,9 +96,8 @@ fn kept_proc(
     requires same { SameObligations kept.now.goals (goals_by_passes links.now proc.now) }
     ensures { IfOk result (λ b. b ≡ kept_of links.now proc.now) }
 {
-    let goals = kept_goals(alloc, links, proc, kept)?;
-    let name = proc.name.copy(alloc)?;
-    Ok(BuiltProc::of(name, text, goals))
+    let shared = Arc::try_clone(kept.sharing())?;
+    Ok(with_marks(alloc, links, proc, text, shared)?)
 }
 
 // The procedure, built; its goals are asked for in so many turns.
@@ -107,9 +113,8 @@ fn new_proc(
     requires text { text ≡ depends links.now proc.now }
     ensures { IfOk result (λ b. b ≡ kept_of links.now proc.now) }
 {
-    let goals = built_goals(alloc, links, proc, turns)?;
-    let name = proc.name.copy(alloc)?;
-    Ok(BuiltProc::of(name, text, goals))
+    let shared = built_goals(alloc, links, proc, turns)?;
+    Ok(with_marks(alloc, links, proc, text, shared)?)
 }
 
 // The procedure with this dependency text: kept, or else built, which is one step.

@@ -8,7 +8,7 @@ ghost use Rattle.vc_build.specs.Large.{large, program_large};
 ghost use Rattle.vc_build.specs.Exceeds.{IsFaultBy, IsFaultOf};
 ghost use Rattle.vc_build.specs.Rebuild.{with_body, built, rebuilt};
 ghost use Rattle.vc_rebuild.specs.Kept.{all_goals, having_body, kept_of, is_new, new_in, program_after};
-ghost use Rattle.vc_rebuild.specs.Inside.{AreBuilt, HaveNoGoto, TextsDecide};
+ghost use Rattle.vc_rebuild.specs.Inside.{AreBuilt, HaveNoGoto, TextsDecide, TextsFix};
 ghost use Rattle.vc_rebuild.specs.Looked.{IsBefore};
 
 use crate::built::Built;
@@ -44,7 +44,7 @@ fn add_made(
     ensures told { IfOk result (λ n. n ≡ cond made.is_new 1 0) }
     ensures fault { IfErr result (IsFaultOf (flat_map (goals_by_passes links.now) links.now.procs)) }
 {
-    if found.has_room(made.built.goals()) {
+    if found.has_room(&made.built) {
         let count = one_if(made.is_new);
         found.push(made.built)?;
         Ok(count)
@@ -178,4 +178,14 @@ pub fn rebuild<L: Ledger>(
     let plain = plain_of(&removed, module);
     let links = Links::of(alloc, plain)?;
     rebuild_plain(alloc, old, &links, steps)
+}
+
+/// What is known of all that was built of two programs: where procedures of them have equal dependency
+/// texts, they have equal obligations.
+pub fn texts_fix_obligations(old: &Built, new: &Built)
+    ensures { TextsFix old.now.procs new.now.procs }
+{
+    equal_dependency_texts_have_equal_obligations();
+    old.is_built();
+    new.is_built();
 }

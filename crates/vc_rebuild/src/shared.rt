@@ -2,7 +2,6 @@
 ghost use Rattle.std.specs.Prelude.{◌≡◌, IfOk, length};
 ghost use Rattle.std.specs.Arc.{arc_value};
 ghost use Rattle.obligation_text.specs.Text.{obligation_text};
-ghost use Rattle.vc_rebuild.specs.Marks.{remarked};
 
 use flow_core::Mark;
 use logic_core::Sequence;
@@ -75,17 +74,6 @@ impl KeptGoal {
     {
         self.bytes
     }
-
-    /// The same obligation with another mark.
-    pub fn with_mark(&self, mark: Mark) -> Result<KeptGoal, AllocError>
-        ensures { IfOk result (λ g. g ≡ record { mark = mark; obligation = self.now.obligation }) }
-    {
-        Ok(KeptGoal {
-            mark,
-            asked: Arc::try_clone(&self.asked)?,
-            bytes: self.bytes,
-        })
-    }
 }
 
 /// The goals, whose obligations may be shared from now on; each is asked for in so many turns.
@@ -101,20 +89,4 @@ pub fn share_all(
         shared.push(KeptGoal::new(alloc, goal, turns)?)?;
     }
     Ok(Sequence::of(shared))
-}
-
-/// The goals' obligations with these marks.
-pub fn remarked(
-    alloc: Global,
-    marks: &[Mark],
-    goals: &[KeptGoal],
-) -> Result<Sequence<KeptGoal>, AllocError>
-    ensures { IfOk result (λ gs. gs ≡ remarked marks.now goals.now) }
-{
-    let both = marks.len().min(goals.len());
-    let mut found = Vec::with_capacity(alloc, both)?;
-    for i in 0..both {
-        found.push(goals[i].with_mark(marks[i])?)?;
-    }
-    Ok(Sequence::of(found))
 }

@@ -53,7 +53,7 @@ reopen_with-requires g t c =
           outlives.1,
           (
             subst (λ (n : Module). CanBePut n rest) (sym put) last.rest,
-            (subst (λ (n : Module). AllGoForward (all_revised n rest)) (sym put) (subst AllGoForward whole c.requires.forward), (subst (λ (n : Module). IsResolved (all_revised n rest)) (sym put) (subst IsResolved whole c.requires.resolved), c.requires.room)),
+            (subst (λ (n : Module). AllGoForward (all_revised n rest)) (sym put) (subst AllGoForward whole c.requires.forward), (subst (λ (n : Module). IsResolved (all_revised n rest)) (sym put) (subst IsResolved whole c.requires.resolved), (c.requires.room, c.requires.goals))),
           ),
         ),
       ),

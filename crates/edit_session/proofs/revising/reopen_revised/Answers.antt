@@ -1,6 +1,8 @@
-use Rattle.std.proofs.Common.{◌∙◌, subst}
+use Rattle.std.proofs.Common.{◌∙◌, ap, sym, subst, map}
+use Rattle.obligation_text.specs.Asked.{key_of}
 use Rattle.std.specs.Prelude.{IfSome}
 use Rattle.edit_session.specs.Revising.{AreRevisions}
+use Rattle.edit_session.proofs.Programs.{procs_are, questions_by}
 use Rattle.edit_session.proofs.Revised.{as_many_declared, each_put, forward_after, resolved_after, is_opened}
 use Rattle.edit_session.proofs.Unchanged.{undone_none}
 use Rattle.edit_session.proofs.revising.reopen_revised.Goals as goal
@@ -21,6 +23,10 @@ pub returns-in-Ok-Some-clause-is_module : goal.returns-in-Ok-Some-clause-is_modu
 returns-in-Ok-Some-clause-is_module g c =
     let opened = c.reopen_with in
     is_opened c.args.decls.now c.args.replacements.now c.in-Ok-Some.revisions.items c.args.typed.now c.requires.is_module (subst (λ o. IfSome o (λ v. AreRevisions c.args.decls.now c.args.replacements.now v.items)) c.in-Ok-Some.field-0-is c.in-Ok-Some.ensures) _ _ _ _ _ c.args.turns opened.new.typed c.args.kept.now.procs opened.new.kept.procs opened.result opened.ensures.revised opened.ensures.opened
+
+pub reopen_with-requires-clause-goals : goal.reopen_with-requires-clause-goals
+reopen_with-requires-clause-goals g c =
+    c.requires.goals ∙ ap (map key_of) (sym (questions_by c.args.turns c.args.typed.now c.args.kept.now.procs (procs_are c.args.typed.now c.args.kept.now.procs c.requires.built)))
 
 pub returns-in-Ok-None-clause-board : goal.returns-in-Ok-None-clause-board
 returns-in-Ok-None-clause-board g c = undone_none _ _ _

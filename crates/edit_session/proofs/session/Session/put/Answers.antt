@@ -12,6 +12,9 @@ revise-requires-clause-room g c =
     let room : HasRoom (session i.turns _ i.opened.decls i.version _ _) = subst HasRoom (sym c.self.view_is) c.requires.room in
     board_room i.turns _ i.version i.opened.typed _ c.self.invariant room.version
 
+pub revise-requires-clause-goals : goal.revise-requires-clause-goals
+revise-requires-clause-goals g c = c.self.invariant.goals
+
 pub invariant_of-self : goal.invariant_of-self
 invariant_of-self g c =
     let i = c.self.inside in
