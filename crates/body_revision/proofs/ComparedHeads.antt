@@ -1,10 +1,10 @@
 -- Whether one declaration is a revision of another, by what stands before their clauses and bodies.
-use Rattle.std.proofs.Common.{◌≡◌, sym, ap, ◌∙◌, inl, inr, Bool, true, false, List, Option}
+use Rattle.std.proofs.Common.{◌≡◌, sym, ap, ◌∙◌, ◌⊎◌, inl, inr, Bool, true, false, List, Option}
 use Rattle.std.specs.Prelude.{is_some}
 use Rattle.std.proofs.lemmas.Bool.{false≢true}
 use Rattle.bpl_ast.specs.Place.{Name, Params}
-use Rattle.bpl_ast.specs.Statement.{DeclBody, Signature, Spec, procedure, implementation}
-use Rattle.body_revision.specs.Revised.{names_modified, HasParts, IsImplementation, IsOtherImplementation, IsRevised}
+use Rattle.bpl_ast.specs.Statement.{DeclBody, Signature, Spec, axiom_of, procedure, implementation}
+use Rattle.body_revision.specs.Revised.{names_modified, HasParts, IsImplementation, IsOtherImplementation, IsOtherAxiom, IsRevised}
 use Rattle.body_revision.specs.Procedures.{is_procedure, is_implementation}
 
 -- two procedures are alike but for clauses and bodies
@@ -37,7 +37,8 @@ module _ (d e : DeclBody) (n m : Name) (ps qs : Option Params) (g h : Signature)
         let before : p.body ≡ r.before = cc x in
         let after : q.body ≡ r.after = cc y in
         (ap names_modified new_specs ∙ r.modified ∙ sym (ap names_modified specs), (cc (x, y), (cc (x, y), (cc (x, y), p.told ∙ ap is_some before ∙ sym r.bodies ∙ sym (ap is_some after) ∙ sym q.told))))
-    revised_alike (inr r) = let x : procedure n ps g ss p.body ≡ implementation r.name r.params r.signature r.before = sym p.is ∙ r.old in absurd (cc)
+    revised_alike (inr (inl r)) = let x : procedure n ps g ss p.body ≡ implementation r.name r.params r.signature r.before = sym p.is ∙ r.old in absurd (cc)
+    revised_alike (inr (inr r)) = let x : procedure n ps g ss p.body ≡ axiom_of r.before = sym p.is ∙ r.old in absurd (cc)
 
   module _ (p : IsImplementation d n ps g) (q : IsImplementation e m qs h) where
     pub alike_implements : (n ≡ m) × ((ps ≡ qs) × (g ≡ h)) → IsOtherImplementation d e
@@ -57,14 +58,15 @@ module _ (d e : DeclBody) (n m : Name) (ps qs : Option Params) (g h : Signature)
         let y : implementation m qs h q.body ≡ implementation r.name r.params r.signature r.after = sym q.is ∙ r.new in
         (cc (x, y), (cc (x, y), cc (x, y)))
 
--- what is no procedure is revised as an implementation, and what is one not by what is none
-pub no_procedure : (d e : DeclBody) → is_procedure d ≡ false → IsRevised d e → IsOtherImplementation d e
+-- what is no procedure is revised as an implementation or an axiom, and what is one not by what is none
+pub no_procedure : (d e : DeclBody) → is_procedure d ≡ false → IsRevised d e → IsOtherImplementation d e ⊎ IsOtherAxiom d e
 no_procedure d e h (inl r) = absurd (false≢true (sym h ∙ ap is_procedure r.old))
 no_procedure d e h (inr r) = r
 
 pub no_procedure_new : (d e : DeclBody) → is_procedure d ≡ true → is_procedure e ≡ false → IsRevised d e → ⊥
 no_procedure_new d e h k (inl r) = false≢true (sym k ∙ ap is_procedure r.new)
-no_procedure_new d e h k (inr r) = false≢true (sym (ap is_procedure r.old) ∙ h)
+no_procedure_new d e h k (inr (inl r)) = false≢true (sym (ap is_procedure r.old) ∙ h)
+no_procedure_new d e h k (inr (inr r)) = false≢true (sym (ap is_procedure r.old) ∙ h)
 
 pub no_implementation : (d e : DeclBody) → is_implementation d ≡ false → IsOtherImplementation d e → ⊥
 no_implementation d e h r = false≢true (sym h ∙ ap is_implementation r.old)

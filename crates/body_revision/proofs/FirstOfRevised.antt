@@ -23,7 +23,7 @@ bodies_stay n ps g ss zs (Some a) None h = absurd (false≢true h)
 bodies_stay n ps g ss zs (Some a) (Some b) h = refl
 
 revised_before : (b : Before) (d e : DeclBody) → IsRevised d e → before_with b e ≡ before_with b d
-revised_before b = of_revised (before_with b) (λ n ps g ss zs x y same h. λ i. record { names = n.text ∷ b.names; bodies = bodies_stay n ps g ss zs x y h i ++ b.bodies }) (λ n ps g x y. refl)
+revised_before b = of_revised (before_with b) (λ n ps g ss zs x y same h. λ i. record { names = n.text ∷ b.names; bodies = bodies_stay n ps g ss zs x y h i ++ b.bodies }) (λ n ps g x y. refl) (λ x y. refl)
 
 none_in : (k : ℕ) (f : Option Fault) (later : Option (ℕ × Fault)) → in_decl k f later ≡ None → (f ≡ None) × (later ≡ None)
 none_in k None later h = (refl, h)

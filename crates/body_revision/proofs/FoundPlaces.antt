@@ -9,7 +9,7 @@ use Rattle.bpl_ast.specs.Statement.{Body, Signature, Spec, DeclBody, constant, f
 use Rattle.bpl_scopes.specs.Scopes.{Text}
 use Rattle.bpl_resolve.proofs.Ways.{same_text}
 use Rattle.body_revision.specs.Revised.{IsRevised}
-use Rattle.body_revision.specs.Procedures.{is_procedure, lacks_body, gives_body, any_decl, only_place, if_at, procedure_place, procedure_by}
+use Rattle.body_revision.specs.Procedures.{is_procedure, is_axiom, lacks_body, gives_body, any_decl, only_place, if_at, procedure_place, procedure_by}
 use Rattle.body_revision.proofs.KeptBodies.{of_revised, parted}
 
 -- ---- the place of the only one
@@ -86,13 +86,16 @@ lacking_stays m n ps g ss zs (Some a) None h = absurd (false≢true h)
 lacking_stays m n ps g ss zs (Some a) (Some b) h = refl
 
 pub lacks_stays : (m : Text) (d e : DeclBody) → IsRevised d e → lacks_body m e ≡ lacks_body m d
-lacks_stays m = of_revised (lacks_body m) (λ n ps g ss zs a b same h. lacking_stays m n ps g ss zs a b h) (λ n ps g a b. refl)
+lacks_stays m = of_revised (lacks_body m) (λ n ps g ss zs a b same h. lacking_stays m n ps g ss zs a b h) (λ n ps g a b. refl) (λ x y. refl)
 
 pub gives_stays : (m : Text) (d e : DeclBody) → IsRevised d e → gives_body m e ≡ gives_body m d
-gives_stays m = of_revised (gives_body m) (λ n ps g ss zs a b same h. refl) (λ n ps g a b. refl)
+gives_stays m = of_revised (gives_body m) (λ n ps g ss zs a b same h. refl) (λ n ps g a b. refl) (λ x y. refl)
 
 pub kind_stays : (d e : DeclBody) → IsRevised d e → is_procedure e ≡ is_procedure d
-kind_stays = of_revised is_procedure (λ n ps g ss zs a b same h. refl) (λ n ps g a b. refl)
+kind_stays = of_revised is_procedure (λ n ps g ss zs a b same h. refl) (λ n ps g a b. refl) (λ x y. refl)
+
+pub axiom_stays : (d e : DeclBody) → IsRevised d e → is_axiom e ≡ is_axiom d
+axiom_stays = of_revised is_axiom (λ n ps g ss zs a b same h. refl) (λ n ps g a b. refl) (λ x y. refl)
 
 -- what is found is so with a revision
 pub place_stays : (ds : List Decl) (at : ℕ) (d e : Decl) → slice_get ds at ≡ Some d → IsRevised d.body e.body → (k : ℕ) (f : DeclBody) → procedure_place (slice_set ds at e) k f ≡ procedure_place ds k f
@@ -177,8 +180,11 @@ lacking_found ds at n ps g ss zs None None place m found same h = subst (λ k. a
 lacking_found ds at n ps g ss zs None (Some b) place m found same h = absurd (false≢true (sym same))
 lacking_found ds at n ps g ss zs (Some a) b place m found same h = absurd (false≢true h)
 
-pub apart : (ds : List Decl) (at : ℕ) (d e : Decl) (place : ℕ) (n : Text) (k other : ℕ) → slice_get ds at ≡ Some d → IsRevised d.body e.body → procedure_place ds at e.body ≡ Some place → IsGiven ds n k other → at ≢ other
-apart ds at d e place n k other g r found is same = by r
+abbrev pub IsFound : List Decl → ℕ → DeclBody → Type 0
+IsFound ds at e = is_procedure e ≡ true → (place : ℕ) × (procedure_place ds at e ≡ Some place)
+
+pub apart : (ds : List Decl) (at : ℕ) (d e : Decl) (n : Text) (k other : ℕ) → slice_get ds at ≡ Some d → IsRevised d.body e.body → IsFound ds at e.body → IsGiven ds n k other → at ≢ other
+apart ds at d e n k other g r found is same = by r
   where
     here : lacks_body n d.body ≡ true
     here = ap (λ (x : Decl). lacks_body n x.body) (some_is d (get_or ds other d) (sym (ap (slice_get ds) (sym same) ∙ g) ∙ stood)) ∙ only_is (lacks_body n) ds other d is.lacks
@@ -187,8 +193,11 @@ apart ds at d e place n k other g r found is same = by r
         stood = slice_get-get_or ds other d (only_there (lacks_body n) ds other is.lacks)
 
     by : IsRevised d.body e.body → ⊥
-    by (inl q) = false≢true (sym (lacking_found ds at q.name q.params q.signature q.specs q.new_specs q.before q.after place n (ap (procedure_place ds at) (sym q.new) ∙ found) q.bodies (ap (lacks_body n) (sym q.old) ∙ here)) ∙ some_only (gives_body n) ds k is.alone)
-    by (inr q) = false≢true (ap (lacks_body n) (sym q.old) ∙ here)
+    by (inl q) =
+        let there = found (ap is_procedure q.new) in
+        false≢true (sym (lacking_found ds at q.name q.params q.signature q.specs q.new_specs q.before q.after there.0 n (ap (procedure_place ds at) (sym q.new) ∙ there.1) q.bodies (ap (lacks_body n) (sym q.old) ∙ here)) ∙ some_only (gives_body n) ds k is.alone)
+    by (inr (inl q)) = false≢true (ap (lacks_body n) (sym q.old) ∙ here)
+    by (inr (inr q)) = false≢true (ap (lacks_body n) (sym q.old) ∙ here)
 
 -- ---- the place, by what the code finds
 

@@ -1,26 +1,30 @@
--- A revision leaves what depends on no clause and no body, and what other procedures are.
+-- A revision leaves what depends on no clause, no body and no axiom, and what other procedures are.
 use Rattle.std.proofs.Common.{◌≡◌, refl, sym, ap, ◌∙◌, inl, inr, ℕ, zero, suc, true, false, List, [], ◌∷◌, set, slice_get, Option, Some, None}
 use Rattle.std.specs.Prelude.{is_some}
 use Rattle.logic_terms.proofs.Booleans.{neither}
 use Rattle.bpl_ast.specs.Place.{Name, Params}
+use Rattle.bpl_ast.specs.Tree.{Expr}
 use Rattle.bpl_ast.specs.Statement.{Body, Signature, Spec, DeclBody, constant, function, axiom_of, variables, synonym, procedure, implementation, Decl}
 use Rattle.bpl_scopes.specs.Scopes.{Text, Table, Counts}
 use Rattle.bpl_resolve.specs.Elaborate.{Implemented, or_else, own_body, implements, implementation_of, proc_of, procs_in}
 use Rattle.body_revision.specs.Revised.{names_modified, IsRevised}
 use Rattle.body_revision.specs.Procedures.{gives_body, any_decl}
 
--- ---- what depends on no clause and no body
+-- ---- what depends on no clause, no body and no axiom
 
 pub of_revised : {A : Type 0} (f : DeclBody → A)
     → ((n : Name) (ps : Option Params) (g : Signature) (ss zs : List Spec) (a b : Option Body) → names_modified zs ≡ names_modified ss → is_some b ≡ is_some a → f (procedure n ps g zs b) ≡ f (procedure n ps g ss a))
-    → ((n : Name) (ps : Option Params) (g : Signature) (a b : Body) → f (implementation n ps g b) ≡ f (implementation n ps g a)) → (d e : DeclBody) → IsRevised d e → f e ≡ f d
-of_revised f p q d e (inl r) = ap f r.new ∙ (p r.name r.params r.signature r.specs r.new_specs r.before r.after r.modified r.bodies ∙ sym (ap f r.old))
-of_revised f p q d e (inr r) = ap f r.new ∙ (q r.name r.params r.signature r.before r.after ∙ sym (ap f r.old))
+    → ((n : Name) (ps : Option Params) (g : Signature) (a b : Body) → f (implementation n ps g b) ≡ f (implementation n ps g a))
+    → ((x y : Expr) → f (axiom_of y) ≡ f (axiom_of x)) → (d e : DeclBody) → IsRevised d e → f e ≡ f d
+of_revised f p q s d e (inl r) = ap f r.new ∙ (p r.name r.params r.signature r.specs r.new_specs r.before r.after r.modified r.bodies ∙ sym (ap f r.old))
+of_revised f p q s d e (inr (inl r)) = ap f r.new ∙ (q r.name r.params r.signature r.before r.after ∙ sym (ap f r.old))
+of_revised f p q s d e (inr (inr r)) = ap f r.new ∙ (s r.before r.after ∙ sym (ap f r.old))
 
 -- two of one and the same
 pub of_itself : (d e : DeclBody) → IsRevised d e → IsRevised d d
 of_itself d e (inl r) = inl (record { name = r.name; params = r.params; signature = r.signature; specs = r.specs; new_specs = r.specs; before = r.before; after = r.before; modified = refl; bodies = refl; old = r.old; new = r.old })
-of_itself d e (inr r) = inr (record { name = r.name; params = r.params; signature = r.signature; before = r.before; after = r.before; old = r.old; new = r.old })
+of_itself d e (inr (inl r)) = inr (inl (record { name = r.name; params = r.params; signature = r.signature; before = r.before; after = r.before; old = r.old; new = r.old }))
+of_itself d e (inr (inr r)) = inr (inr (record { before = r.before; after = r.before; old = r.old; new = r.old }))
 
 pub parted : (d e f : DeclBody) → IsRevised d e → IsRevised d f → IsRevised e f
 parted d e f (inl r) (inl s) =
@@ -40,11 +44,16 @@ parted d e f (inl r) (inl s) =
       old = r.new ∙ cc same;
       new = s.new;
     })
-parted d e f (inl r) (inr s) = let same : procedure r.name r.params r.signature r.specs r.before ≡ implementation s.name s.params s.signature s.before = sym r.old ∙ s.old in absurd (cc)
-parted d e f (inr r) (inl s) = let same : implementation r.name r.params r.signature r.before ≡ procedure s.name s.params s.signature s.specs s.before = sym r.old ∙ s.old in absurd (cc)
-parted d e f (inr r) (inr s) =
+parted d e f (inl r) (inr (inl s)) = let same : procedure r.name r.params r.signature r.specs r.before ≡ implementation s.name s.params s.signature s.before = sym r.old ∙ s.old in absurd (cc)
+parted d e f (inl r) (inr (inr s)) = let same : procedure r.name r.params r.signature r.specs r.before ≡ axiom_of s.before = sym r.old ∙ s.old in absurd (cc)
+parted d e f (inr (inl r)) (inl s) = let same : implementation r.name r.params r.signature r.before ≡ procedure s.name s.params s.signature s.specs s.before = sym r.old ∙ s.old in absurd (cc)
+parted d e f (inr (inl r)) (inr (inl s)) =
     let same : implementation r.name r.params r.signature r.before ≡ implementation s.name s.params s.signature s.before = sym r.old ∙ s.old in
-    inr (record { name = s.name; params = s.params; signature = s.signature; before = r.after; after = s.after; old = r.new ∙ cc same; new = s.new })
+    inr (inl (record { name = s.name; params = s.params; signature = s.signature; before = r.after; after = s.after; old = r.new ∙ cc same; new = s.new }))
+parted d e f (inr (inl r)) (inr (inr s)) = let same : implementation r.name r.params r.signature r.before ≡ axiom_of s.before = sym r.old ∙ s.old in absurd (cc)
+parted d e f (inr (inr r)) (inl s) = let same : axiom_of r.before ≡ procedure s.name s.params s.signature s.specs s.before = sym r.old ∙ s.old in absurd (cc)
+parted d e f (inr (inr r)) (inr (inl s)) = let same : axiom_of r.before ≡ implementation s.name s.params s.signature s.before = sym r.old ∙ s.old in absurd (cc)
+parted d e f (inr (inr r)) (inr (inr s)) = inr (inr (record { before = r.after; after = s.after; old = r.new; new = s.new }))
 
 -- ---- implementations
 

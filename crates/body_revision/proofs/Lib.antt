@@ -2,14 +2,17 @@ pub mod Injective
 pub mod KeptBodies
 pub mod FoundPlaces
 pub mod ComparedHeads
+pub mod OtherAxioms
 pub mod SameTable
 pub mod SameTexts
 pub mod FirstOfRevised
 pub mod OwnFaults
 pub mod SetParts
 pub mod RevisedModule
+pub mod RevisedAxiom
 pub mod StillNew
 pub mod StayFaultless
 pub mod HeadNames
 pub mod ReadBodies
 pub mod NewInReadings
+pub mod PutBack

@@ -51,7 +51,8 @@ own_by t c b d e (inl r) none =
     let others : List Fault = signature_faults t r.params r.signature ++ (parameter_clause_faults t c r.signature ++ (again twice [] (names_in_body r.signature (optional_locals r.after)) ++ (flat_map (spec_faults t c r.signature) r.new_specs
     ++ optional_body_faults t c r.signature (Some (modified_by t (contract_with r.signature r.new_specs))) r.after))) in
     ap (decl_faults t c b) r.new ∙ (λ i. once i ++ (still i ++ others)) ∙ sym (ap (decl_faults t c nothing_before) r.new)
-own_by t c b d e (inr r) none =
+own_by t c b d e (inr (inr r)) none = ap (decl_faults t c b) r.new ∙ sym (ap (decl_faults t c nothing_before) r.new)
+own_by t c b d e (inr (inl r)) none =
     let n = r.name in
     let old : decl_faults t c b (implementation r.name r.params r.signature r.before) ≡ [] = ap (decl_faults t c b) (sym r.old) ∙ none in
     let alone : if_so (is_among b.bodies n.text) twice n.at ≡ [] = front_empty (if_so (is_among b.bodies n.text) twice n.at) _ old in

@@ -11,7 +11,7 @@ use Rattle.bpl_ast.specs.Statement.{DeclBody, constant, function, axiom_of, vari
 use Rattle.bpl_scopes.specs.Scopes.{Text, Table, table_of}
 use Rattle.bpl_sorts.specs.Erased.{users_with, replaced_body, replaced_from, replaced, uniques_in, Unique, uniques, one_more, axioms_from, axioms_after, carrier_axioms, as_integers, erased, maps_over, told_apart}
 use Rattle.body_revision.specs.Revised.{IsRevised}
-use Rattle.body_revision.specs.Procedures.{is_procedure, lacks_body, gives_body, any_decl, only_place, if_at, procedure_place, procedure_by}
+use Rattle.body_revision.specs.Procedures.{is_procedure, is_axiom, lacks_body, gives_body, any_decl, only_place, if_at, procedure_place, procedure_by}
 use Rattle.body_revision.specs.Revision.{all_put, AreRevised}
 use Rattle.body_revision.proofs.SameTable.{same_table}
 use Rattle.body_revision.proofs.SetParts.{same_parts}
@@ -36,8 +36,8 @@ take_front [] ys i h = absurd (omega (arith, h))
 take_front (x ∷ xs) ys zero h = refl
 take_front (x ∷ xs) ys (suc i) h = ap (λ zs. x ∷ zs) (take_front xs ys i (omega (arith, h)))
 
-abbrev one : Decl → ℕ
-one d = cond (is_procedure d.body) 1 0
+abbrev one : (DeclBody → Bool) → Decl → ℕ
+one p d = cond (p d.body) 1 0
 
 -- ---- one revision
 
@@ -49,18 +49,20 @@ module _ (f : ℕ → Place → Ty) (t : Table) where
   -- it stays
   old_stays : (k : ℕ) (d e : DeclBody) → IsRevised d e → replaced_body f t k d ≡ d
   old_stays k d e (inl r) = ap (replaced_body f t k) r.old ∙ sym r.old
-  old_stays k d e (inr r) = ap (replaced_body f t k) r.old ∙ sym r.old
+  old_stays k d e (inr (inl r)) = ap (replaced_body f t k) r.old ∙ sym r.old
+  old_stays k d e (inr (inr r)) = ap (replaced_body f t k) r.old ∙ sym r.old
 
   new_stays : (k : ℕ) (d e : DeclBody) → IsRevised d e → replaced_body f t k e ≡ e
   new_stays k d e (inl r) = ap (replaced_body f t k) r.new ∙ sym r.new
-  new_stays k d e (inr r) = ap (replaced_body f t k) r.new ∙ sym r.new
+  new_stays k d e (inr (inl r)) = ap (replaced_body f t k) r.new ∙ sym r.new
+  new_stays k d e (inr (inr r)) = ap (replaced_body f t k) r.new ∙ sym r.new
 
   pub as_long : (k : ℕ) (ds : List Decl) → length (replaced_from f t k ds) ≡ length ds
   as_long k [] = refl
   as_long k (d ∷ ds) = ap suc (as_long (users_with k d.body) ds)
 
   same_users : (k : ℕ) (d e : DeclBody) → IsRevised d e → users_with k e ≡ users_with k d
-  same_users k = of_revised (users_with k) (λ n ps g ss zs a b q h. refl) (λ n ps g a b. refl)
+  same_users k = of_revised (users_with k) (λ n ps g ss zs a b q h. refl) (λ n ps g a b. refl) (λ x y. refl)
 
   from_set : (k : ℕ) (ds : List Decl) (at : ℕ) (e : Decl) → RevisedAt ds at e → replaced_from f t k (slice_set ds at e) ≡ slice_set (replaced_from f t k ds) at e
   from_set k [] at e r = refl
@@ -81,7 +83,6 @@ module _ (f : ℕ → Place → Ty) (t : Table) where
       some_is y z q = cc
   from_revised k (x ∷ xs) (suc at) e r d g = from_revised (users_with k x.body) xs at e r d g
 
-  -- as many procedures stand before
   kind_stays : (k : ℕ) (b : DeclBody) → is_procedure (replaced_body f t k b) ≡ is_procedure b
   kind_stays k (constant u ns s) = refl
   kind_stays k (synonym n None) = refl
@@ -92,19 +93,30 @@ module _ (f : ℕ → Place → Ty) (t : Table) where
   kind_stays k (procedure n ps s ss b) = refl
   kind_stays k (implementation n ps s b) = refl
 
-  as_many : (k : ℕ) (ds : List Decl) (at : ℕ) → count_by (λ (d : Decl). is_procedure d.body) (take at (replaced_from f t k ds)) ≡ count_by (λ (d : Decl). is_procedure d.body) (take at ds)
-  as_many k [] at = refl
-  as_many k (x ∷ xs) zero = refl
-  as_many k (x ∷ xs) (suc at) =
+  axiom_stays : (k : ℕ) (b : DeclBody) → is_axiom (replaced_body f t k b) ≡ is_axiom b
+  axiom_stays k (constant u ns s) = refl
+  axiom_stays k (synonym n None) = refl
+  axiom_stays k (synonym n (Some s)) = refl
+  axiom_stays k (function n ps ins r x) = refl
+  axiom_stays k (axiom_of x) = refl
+  axiom_stays k (variables gs) = refl
+  axiom_stays k (procedure n ps s ss b) = refl
+  axiom_stays k (implementation n ps s b) = refl
+
+  -- as many that are so stand before
+  as_many : (p : DeclBody → Bool) → ((k : ℕ) (b : DeclBody) → p (replaced_body f t k b) ≡ p b) → (k : ℕ) (ds : List Decl) (at : ℕ) → count_by (λ (d : Decl). p d.body) (take at (replaced_from f t k ds)) ≡ count_by (λ (d : Decl). p d.body) (take at ds)
+  as_many p stays k [] at = refl
+  as_many p stays k (x ∷ xs) zero = refl
+  as_many p stays k (x ∷ xs) (suc at) =
       let u = users_with k x.body in
-      sum_by-cons one (record x { body = replaced_body f t u x.body }) (take at (replaced_from f t u xs))
-      ∙ (λ i. cond (kind_stays u x.body i) 1 0 + as_many u xs at i) ∙ sym (sum_by-cons one x (take at xs))
+      sum_by-cons (one p) (record x { body = replaced_body f t u x.body }) (take at (replaced_from f t u xs))
+      ∙ (λ i. cond (stays u x.body i) 1 0 + as_many p stays u xs at i) ∙ sym (sum_by-cons (one p) x (take at xs))
 
 -- ---- carriers
 
 axioms_stay : (k : ℕ) (ds : List Decl) (at : ℕ) (e : Decl) → RevisedAt ds at e → axioms_after k (slice_set ds at e) ≡ axioms_after k ds
 axioms_stay k [] at e r = refl
-axioms_stay k (x ∷ xs) zero e r = ap (λ n. axioms_after n xs) (of_revised (axioms_with k) (λ n ps g ss zs a b q h. refl) (λ n ps g a b. refl) x.body e.body (r x refl))
+axioms_stay k (x ∷ xs) zero e r = ap (λ n. axioms_after n xs) (of_revised (axioms_with k) (λ n ps g ss zs a b q h. refl) (λ n ps g a b. refl) (λ y z. refl) x.body e.body (r x refl))
 axioms_stay k (x ∷ xs) (suc at) e r = axioms_stay (axioms_with k x.body) xs at e r
 
 module _ (ds : List Decl) (at : ℕ) (e : Decl) (there : at < length ds) (r : RevisedAt ds at e) where
@@ -116,7 +128,7 @@ module _ (ds : List Decl) (at : ℕ) (e : Decl) (there : at < length ds) (r : Re
 
   uniques_set : (t : Table) → uniques t (slice_set ds at e) ≡ uniques t ds
   uniques_set t = same_parts (λ (d : Decl). uniques_in t d.body) ds at (get_or ds at e) e stood
-      (of_revised (uniques_in t) (λ n ps g ss zs a b q h. refl) (λ n ps g a b. refl) (get_or ds at e).body e.body (r (get_or ds at e) stood))
+      (of_revised (uniques_in t) (λ n ps g ss zs a b q h. refl) (λ n ps g a b. refl) (λ x y. refl) (get_or ds at e).body e.body (r (get_or ds at e) stood))
 
   read_set : (f : ℕ → Place → Ty) → replaced f (slice_set ds at e) ≡ slice_set (replaced f ds) at e
   read_set f = (λ i. replaced_from f (tables i) 0 (slice_set ds at e)) ∙ from_set f (table_of ds) 0 ds at e r
@@ -212,10 +224,16 @@ place_read ds at (axiom_of x) = refl
 place_read ds at (variables gs) = refl
 place_read ds at (synonym n s) = refl
 
--- as many procedures stand before
-pub counted_read : (ds : List Decl) (k : ℕ) → k < length ds → count_by (λ (d : Decl). is_procedure d.body) (take k (erased ds)) ≡ count_by (λ (d : Decl). is_procedure d.body) (take k ds)
-counted_read ds k there =
-    ap (count_by (λ (d : Decl). is_procedure d.body)) (take_front (replaced as_integers ds) (carrier_axioms ds) k (omega (arith, there, as_long as_integers (table_of ds) 0 ds))) ∙ as_many as_integers (table_of ds) 0 ds k
+-- as many procedures stand before, and as many axioms
+counted_read : (p : DeclBody → Bool) → ((t : Table) (k : ℕ) (b : DeclBody) → p (replaced_body as_integers t k b) ≡ p b) → (ds : List Decl) (k : ℕ) → k < length ds → count_by (λ (d : Decl). p d.body) (take k (erased ds)) ≡ count_by (λ (d : Decl). p d.body) (take k ds)
+counted_read p stays ds k there =
+    ap (count_by (λ (d : Decl). p d.body)) (take_front (replaced as_integers ds) (carrier_axioms ds) k (omega (arith, there, as_long as_integers (table_of ds) 0 ds))) ∙ as_many as_integers (table_of ds) p (stays (table_of ds)) 0 ds k
+
+pub procedures_read : (ds : List Decl) (k : ℕ) → k < length ds → count_by (λ (d : Decl). is_procedure d.body) (take k (erased ds)) ≡ count_by (λ (d : Decl). is_procedure d.body) (take k ds)
+procedures_read = counted_read is_procedure (kind_stays as_integers)
+
+pub axioms_read : (ds : List Decl) (k : ℕ) → k < length ds → count_by (λ (d : Decl). is_axiom d.body) (take k (erased ds)) ≡ count_by (λ (d : Decl). is_axiom d.body) (take k ds)
+axioms_read = counted_read is_axiom (axiom_stays as_integers)
 
 -- a procedure is itself
 procedure_stays : (f : ℕ → Place → Ty) (t : Table) (k : ℕ) (b : DeclBody) → is_procedure b ≡ true → replaced_body f t k b ≡ b

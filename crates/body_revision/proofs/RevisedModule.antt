@@ -1,18 +1,19 @@
 -- The module with one revision.
 use Rattle.std.proofs.Common.{◌≡◌, refl, sym, ap, ◌∙◌, subst, arith, inl, inr, ℕ, zero, suc, ◌<◌, true, false, bytes_eq, List, [], ◌∷◌, map, length, take, set, get_or, flat_map, slice_get, Option, Some, None, cond, sum_by, count_by}
 use Rattle.std.proofs.lemmas.List.{length-set, length-map, map-set}
-use Rattle.std.proofs.lemmas.Option.{slice_get-get_or, slice_get_within, get_or_from_slice_get}
+use Rattle.std.proofs.lemmas.Option.{none-some, slice_get-get_or, slice_get_within, get_or_from_slice_get}
 use Rattle.std.proofs.lemmas.Bool.{false≢true}
 use Rattle.std.proofs.lemmas.List.Concat.{length-flat_map}
 use Rattle.std.proofs.lemmas.List.Folds.{length-flat_map-take}
 use Rattle.bpl_ast.specs.Statement.{Body, DeclBody, constant, function, axiom_of, variables, synonym, procedure, implementation, Decl}
+use Rattle.logic_core.specs.Tree.{Tree}
 use Rattle.bpl_model.specs.Module.{Proc, with_procedure}
 use Rattle.bpl_scopes.specs.Functions.{function_in, in_number_order}
 use Rattle.bpl_scopes.specs.Scopes.{Text, Table, table_of, Counts, no_counts, counts_after, entity_of}
 use Rattle.bpl_resolve.specs.Elaborate.{or_else, implements, proc_of, implementation_of, consts_in, globals_in, axioms_in, function_def, procs_in, decl_text, typed_module, module_of}
 use Rattle.bpl_resolve.proofs.GoesForward.{not_equal}
 use Rattle.bpl_resolve.proofs.Ways.{same_text, text_itself}
-use Rattle.body_revision.specs.Revised.{IsOtherProcedure, IsOtherImplementation, IsRevised}
+use Rattle.body_revision.specs.Revised.{IsOtherProcedure, IsOtherImplementation, IsOtherAxiom, IsRevised}
 use Rattle.body_revision.proofs.SameTable.{same_table, same_counts}
 use Rattle.body_revision.specs.Procedures.{is_procedure, lacks_body, gives_body, procedure_place, procedure_by}
 use Rattle.body_revision.proofs.SetParts.{same_parts, other_part, only_part}
@@ -33,15 +34,14 @@ how_many : (ds : List Decl) (t : Table) (c : Counts) (xs : List Decl) → length
 how_many ds t c xs = length-flat_map (λ (d : Decl). procs_in ds t c d.body) xs ∙ (λ i. sum_by (λ (x : Decl). one_each ds t c x.body i) xs)
 
 module _ (ds : List Decl) (at : ℕ) (d e : Decl) (g : slice_get ds at ≡ Some d) where
-  -- what all but its procedure gives the module, over any table and counts
-  parts_revised : IsRevised d.body e.body → (t : Table) (c : Counts) (k : ℕ) (p : Proc)
-      → flat_map (λ (x : Decl). procs_in (set ds at e) t c x.body) (set ds at e) ≡ set (flat_map (λ (x : Decl). procs_in ds t c x.body) ds) k p
-      → typed_module (set ds at e) t c ≡ with_procedure k p at (decl_text t (length ds) e) (typed_module ds t c)
-  parts_revised r t c k p procs = λ i. record {
-    consts = same_parts (λ (x : Decl). consts_in t c x.body) ds at d e g (of_revised (consts_in t c) (λ n ps s ss zs a b q h. refl) (λ n ps s a b. refl) d.body e.body r) i;
-    axioms = same_parts (λ (x : Decl). axioms_in t c x.body) ds at d e g (of_revised (axioms_in t c) (λ n ps s ss zs a b q h. refl) (λ n ps s a b. refl) d.body e.body r) i;
+  -- what all but its procedure or axiom gives the module, over any table and counts
+  pub parts_revised : IsRevised d.body e.body → (t : Table) (c : Counts) (fs : List Tree) (qs : List Proc) → flat_map (λ (x : Decl). axioms_in t c x.body) (set ds at e) ≡ fs → flat_map (λ (x : Decl). procs_in (set ds at e) t c x.body) (set ds at e) ≡ qs
+      → typed_module (set ds at e) t c ≡ record (typed_module ds t c) { axioms = fs; procs = qs; texts = set (map (decl_text t (length ds)) ds) at (decl_text t (length ds) e) }
+  parts_revised r t c fs qs axioms procs = λ i. record {
+    consts = same_parts (λ (x : Decl). consts_in t c x.body) ds at d e g (of_revised (consts_in t c) (λ n ps s ss zs a b q h. refl) (λ n ps s a b. refl) (λ x y. refl) d.body e.body r) i;
+    axioms = axioms i;
     functions = flat_map (λ n. function_def t c n (function_in (entity_of t n))) (in_number_order t);
-    globals = same_parts (λ (x : Decl). globals_in t c x.body) ds at d e g (of_revised (globals_in t c) (λ n ps s ss zs a b q h. refl) (λ n ps s a b. refl) d.body e.body r) i;
+    globals = same_parts (λ (x : Decl). globals_in t c x.body) ds at d e g (of_revised (globals_in t c) (λ n ps s ss zs a b q h. refl) (λ n ps s a b. refl) (λ x y. refl) d.body e.body r) i;
     procs = procs i;
     texts = texts i;
   }
@@ -124,16 +124,28 @@ module _ (ds : List Decl) (at : ℕ) (d e : Decl) (g : slice_get ds at ≡ Some 
         by (synonym m s) q h made = absurd (false≢true h)
         by (implementation m ps s b) q h made = absurd (false≢true h)
 
+  pub texts_there : at < length (module_of ds).texts
+  texts_there = subst (λ n. at < n) (sym (length-map ds (decl_text (table_of ds) (length ds)))) (slice_get_within ds at d g)
+
   -- ---- each
 
   module _ (r : IsRevised d.body e.body) (place : ℕ) (found : procedure_place ds at e.body ≡ Some place) where
+    no_axiom : IsOtherAxiom d.body e.body → ⊥
+    no_axiom q = none-some place (ap (procedure_place ds at) (sym q.new) ∙ found)
+
+    axioms_stay : IsRevised d.body e.body → (t : Table) (c : Counts) → axioms_in t c e.body ≡ axioms_in t c d.body
+    axioms_stay (inl q) t c = ap (axioms_in t c) q.new ∙ sym (ap (axioms_in t c) q.old)
+    axioms_stay (inr (inl q)) t c = ap (axioms_in t c) q.new ∙ sym (ap (axioms_in t c) q.old)
+    axioms_stay (inr (inr q)) t c = absurd (no_axiom q)
+
     procs_revised : IsRevised d.body e.body → (t : Table) (c : Counts) (p : Proc) → procs_in (e ∷ []) t c (procedure_by ds place e) ≡ p ∷ []
         → flat_map (λ (x : Decl). procs_in (set ds at e) t c x.body) (set ds at e) ≡ set (flat_map (λ (x : Decl). procs_in ds t c x.body) ds) (count_by (λ (x : Decl). is_procedure x.body) (take place ds)) p
     procs_revised (inl q) t c p made =
         let here : at ≡ place = own_place ds at q.name q.params q.signature q.new_specs q.after place (ap (procedure_place ds at) (sym q.new) ∙ found) in
         own_procs q t c p place found (sym (ap (procs_in (e ∷ []) t c) (ap (λ b. cond b e.body (get_or ds place e).body) (ap is_procedure q.new))) ∙ made)
         ∙ (λ i. set (flat_map (λ (x : Decl). procs_in ds t c x.body) ds) (count_by (λ (x : Decl). is_procedure x.body) (take (here i) ds)) p)
-    procs_revised (inr q) t c p made =
+    procs_revised (inr (inr q)) t c p made = absurd (no_axiom q)
+    procs_revised (inr (inl q)) t c p made =
         let is = given ds at q.name q.params q.signature q.after place (ap (procedure_place ds at) (sym q.new) ∙ found) in
         given_procs q t c p place is (get_or ds place e) (slice_get-get_or ds place e (only_there (lacks_body q.name.text) ds place is.lacks)) (only_is (lacks_body q.name.text) ds place e is.lacks)
         (sym (ap (procs_in (e ∷ []) t c) (ap (λ b. cond b e.body (get_or ds place e).body) (ap is_procedure q.new))) ∙ made)
@@ -143,7 +155,9 @@ module _ (ds : List Decl) (at : ℕ) (d e : Decl) (g : slice_get ds at ≡ Some 
     module_revised p made =
         let t : Table = table_of ds in
         let c : Counts = counts_after no_counts ds in
-        (λ i. typed_module (set ds at e) (same_table ds at d e g r i) (same_counts ds at d e g r i)) ∙ parts_revised r t c (count_by (λ (x : Decl). is_procedure x.body) (take place ds)) p (procs_revised r t c p made)
+        (λ i. typed_module (set ds at e) (same_table ds at d e g r i) (same_counts ds at d e g r i))
+        ∙ parts_revised r t c (flat_map (λ (x : Decl). axioms_in t c x.body) ds) (set (flat_map (λ (x : Decl). procs_in ds t c x.body) ds) (count_by (λ (x : Decl). is_procedure x.body) (take place ds)) p)
+        (same_parts (λ (x : Decl). axioms_in t c x.body) ds at d e g (axioms_stay r t c)) (procs_revised r t c p made)
 
     pub procs_there : count_by (λ (x : Decl). is_procedure x.body) (take place ds) < length (module_of ds).procs
     procs_there =
@@ -157,9 +171,7 @@ module _ (ds : List Decl) (at : ℕ) (d e : Decl) (g : slice_get ds at ≡ Some 
         stands (inl q) =
             let here : at ≡ place = own_place ds at q.name q.params q.signature q.new_specs q.after place (ap (procedure_place ds at) (sym q.new) ∙ found) in
             ap (λ k. is_procedure (get_or ds k e).body) (sym here) ∙ ap (λ (x : Decl). is_procedure x.body) (get_or_from_slice_get ds at d e g) ∙ ap is_procedure q.old
-        stands (inr q) =
+        stands (inr (inr q)) = absurd (no_axiom q)
+        stands (inr (inl q)) =
             let is = given ds at q.name q.params q.signature q.after place (ap (procedure_place ds at) (sym q.new) ∙ found) in
             lacks_procedure q.name.text (get_or ds place e).body (only_is (lacks_body q.name.text) ds place e is.lacks)
-
-    pub texts_there : at < length (module_of ds).texts
-    texts_there = subst (λ n. at < n) (sym (length-map ds (decl_text (table_of ds) (length ds)))) (slice_get_within ds at d g)

@@ -8,10 +8,10 @@ use Rattle.body_revision.proofs.KeptBodies.{of_revised}
 
 revised_entries : (c : Counts) (k : ℕ) (d e : DeclBody) → IsRevised d e → entries_of c k e ≡ entries_of c k d
 revised_entries c k = of_revised (entries_of c k)
-    (λ n ps g ss zs a b same h. λ i. record { name = n.text; decl = k; entity = a_procedure c.procedures (record { signature = g; modified = same i }) } ∷ []) (λ n ps g a b. refl)
+    (λ n ps g ss zs a b same h. λ i. record { name = n.text; decl = k; entity = a_procedure c.procedures (record { signature = g; modified = same i }) } ∷ []) (λ n ps g a b. refl) (λ x y. refl)
 
 revised_counts : (c : Counts) (d e : DeclBody) → IsRevised d e → counts_with c e ≡ counts_with c d
-revised_counts c = of_revised (counts_with c) (λ n ps g ss zs a b same h. refl) (λ n ps g a b. refl)
+revised_counts c = of_revised (counts_with c) (λ n ps g ss zs a b same h. refl) (λ n ps g a b. refl) (λ x y. refl)
 
 -- the one that stands first
 pub revised_first : (x d e : Decl) → Some x ≡ Some d → IsRevised d.body e.body → IsRevised x.body e.body

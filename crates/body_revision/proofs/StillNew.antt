@@ -1,37 +1,44 @@
 -- What is new where no other declaration is revised is so where some are.
-use Rattle.std.proofs.Common.{◌≡◌, ◌≢◌, refl, sym, ap, ◌∙◌, subst, ℕ, zero, suc, ◌+◌, ◌<◌, List, [], ◌∷◌, length, take, slice_get, slice_set, get_or, cond, count_by, Some, None}
+use Rattle.std.proofs.Common.{◌≡◌, ◌≢◌, refl, sym, ap, ◌∙◌, subst, inl, inr, ℕ, zero, suc, ◌+◌, ◌<◌, Bool, true, List, [], ◌∷◌, length, take, slice_get, slice_set, get_or, cond, count_by, Some, None}
 use Rattle.std.proofs.lemmas.List.{length-set}
 use Rattle.std.proofs.lemmas.List.Sums.{sum_by-cons}
 use Rattle.std.proofs.lemmas.Option.{slice_get-get_or}
+use Rattle.std.proofs.lemmas.Bool.{false≢true}
+use Rattle.logic_core.specs.Tree.{Tree}
 use Rattle.bpl_ast.specs.Statement.{DeclBody, constant, function, axiom_of, variables, synonym, procedure, implementation, Decl}
 use Rattle.bpl_declaration_faults.specs.DeclFaults.{fault_of}
-use Rattle.bpl_model.specs.Module.{with_procedure}
-use Rattle.bpl_resolve.specs.Elaborate.{decl_text, procs_in, module_of}
-use Rattle.body_revision.specs.Revised.{IsRevised}
-use Rattle.body_revision.specs.Procedures.{is_procedure, procedure_place, procedure_by}
+use Rattle.bpl_scopes.specs.Scopes.{Table, table_of, Counts, no_counts, counts_after}
+use Rattle.bpl_model.specs.Module.{DeclText, with_procedure}
+use Rattle.bpl_resolve.specs.Elaborate.{decl_text, procs_in, axioms_in, module_of}
+use Rattle.body_revision.specs.Revised.{IsOtherAxiom, IsRevised}
+use Rattle.body_revision.specs.Procedures.{is_procedure, is_axiom, procedure_place, procedure_by}
 use Rattle.body_revision.specs.Names.{own_fault}
-use Rattle.body_revision.specs.Revision.{IsNew, AreNew, revised, all_put}
+use Rattle.body_revision.specs.Revision.{IsPartOf, IsNew, AreNew, with_axiom, with_part, revised, IsThere, HasPlaces, all_put}
 use Rattle.body_revision.specs.Laws.{RevisionsGoTogether}
+use Rattle.body_revision.specs.declared.revised.ModulePart.{ModulePart}
+use Rattle.body_revision.specs.declared.revised.ModulePart.TheVariants.{Procedure, Axiom}
 use Rattle.body_revision.specs.declared.revised.Revision.{Revision}
-use Rattle.body_revision.proofs.FoundPlaces.{place_stays, kind_stays, still_revised, given, apart}
+use Rattle.body_revision.proofs.FoundPlaces.{place_stays, kind_stays, axiom_stays, still_revised, given, IsFound, apart}
 use Rattle.body_revision.proofs.SameTable.{same_table, same_counts}
 use Rattle.body_revision.proofs.OwnFaults.{none_by_itself}
 use Rattle.body_revision.proofs.RevisedModule.{module_revised, procs_there, texts_there}
+use Rattle.body_revision.proofs.RevisedAxiom.{axiom_revised, axioms_there}
 
-abbrev Counted : List Decl → ℕ
-Counted ds = count_by (λ (d : Decl). is_procedure d.body) ds
+abbrev Counted : (DeclBody → Bool) → List Decl → ℕ
+Counted p ds = count_by (λ (d : Decl). p d.body) ds
 
-abbrev one : Decl → ℕ
-one d = cond (is_procedure d.body) 1 0
+abbrev one : (DeclBody → Bool) → Decl → ℕ
+one p d = cond (p d.body) 1 0
 
-as_many : (ds : List Decl) (at k : ℕ) (e : Decl) → ((d : Decl) → slice_get ds at ≡ Some d → IsRevised d.body e.body) → Counted (take k (slice_set ds at e)) ≡ Counted (take k ds)
-as_many [] at k e r = refl
-as_many (x ∷ xs) zero zero e r = refl
-as_many (x ∷ xs) zero (suc k) e r =
-    sum_by-cons one e (take k xs) ∙ (λ i. cond (kind_stays x.body e.body (r x refl) i) 1 0 + Counted (take k xs)) ∙ sym (sum_by-cons one x (take k xs))
-as_many (x ∷ xs) (suc at) zero e r = refl
-as_many (x ∷ xs) (suc at) (suc k) e r =
-    sum_by-cons one x (take k (slice_set xs at e)) ∙ (λ i. one x + as_many xs at k e r i) ∙ sym (sum_by-cons one x (take k xs))
+module _ (p : DeclBody → Bool) (stays : (d e : DeclBody) → IsRevised d e → p e ≡ p d) where
+  as_many : (ds : List Decl) (at k : ℕ) (e : Decl) → ((d : Decl) → slice_get ds at ≡ Some d → IsRevised d.body e.body) → Counted p (take k (slice_set ds at e)) ≡ Counted p (take k ds)
+  as_many [] at k e r = refl
+  as_many (x ∷ xs) zero zero e r = refl
+  as_many (x ∷ xs) zero (suc k) e r =
+      sum_by-cons (one p) e (take k xs) ∙ (λ i. cond (stays x.body e.body (r x refl) i) 1 0 + Counted p (take k xs)) ∙ sym (sum_by-cons (one p) x (take k xs))
+  as_many (x ∷ xs) (suc at) zero e r = refl
+  as_many (x ∷ xs) (suc at) (suc k) e r =
+      sum_by-cons (one p) x (take k (slice_set xs at e)) ∙ (λ i. one p x + as_many xs at k e r i) ∙ sym (sum_by-cons (one p) x (take k xs))
 
 get_other : (ds : List Decl) (at k : ℕ) (e f : Decl) → at ≢ k → get_or (slice_set ds at e) k f ≡ get_or ds k f
 get_other [] at k e f h = refl
@@ -40,44 +47,76 @@ get_other (x ∷ xs) zero (suc k) e f h = refl
 get_other (x ∷ xs) (suc at) zero e f h = refl
 get_other (x ∷ xs) (suc at) (suc k) e f h = get_other xs at k e f (λ s. h (ap suc s))
 
+-- what states no axiom has its procedure
+procedure_found : (t : Table) (c : Counts) (ds : List Decl) (at : ℕ) (e : Decl) (part : ModulePart) → IsPartOf t c ds at e part → IsFound ds at e.body
+procedure_found t c ds at e (Procedure k p) is h = (is.place, is.found)
+procedure_found t c ds at e (Axiom k f) is h = absurd (by e.body is.made h)
+  where
+    by : (b : DeclBody) → axioms_in t c b ≡ f ∷ [] → is_procedure b ≡ true → ⊥
+    by (procedure n ps s ss b) none h = cc
+    by (implementation n ps s b) none h = false≢true h
+    by (constant u ns s) none h = false≢true h
+    by (function n ps ins s x) none h = false≢true h
+    by (axiom_of x) none h = false≢true h
+    by (variables gs) none h = false≢true h
+    by (synonym n s) none h = false≢true h
+
 -- its procedure is the same
-still_by : (ds : List Decl) (at : ℕ) (d e : Decl) (p : ℕ) (k : ℕ) (f : Decl) (q : ℕ) → slice_get ds at ≡ Some d → IsRevised d.body e.body → procedure_place ds at e.body ≡ Some p → procedure_place ds k f.body ≡ Some q
+still_by : (ds : List Decl) (at : ℕ) (d e : Decl) (k : ℕ) (f : Decl) (q : ℕ) → slice_get ds at ≡ Some d → IsRevised d.body e.body → IsFound ds at e.body → procedure_place ds k f.body ≡ Some q
     → procedure_by (slice_set ds at e) q f ≡ procedure_by ds q f
-still_by ds at d e p k f q g r found there = by f.body there
+still_by ds at d e k f q g r found there = by f.body there
   where
     by : (b : DeclBody) → procedure_place ds k b ≡ Some q → cond (is_procedure b) b (get_or (slice_set ds at e) q f).body ≡ cond (is_procedure b) b (get_or ds q f).body
     by (procedure n ps s ss b) h = refl
-    by (implementation n ps s b) h = ap (λ (x : Decl). x.body) (get_other ds at q e f (apart ds at d e p n.text k q g r found (given ds k n ps s b q h)))
+    by (implementation n ps s b) h = ap (λ (x : Decl). x.body) (get_other ds at q e f (apart ds at d e n.text k q g r found (given ds k n ps s b q h)))
     by (constant u ns s) h = absurd (cc)
     by (function n ps ins s x) h = absurd (cc)
     by (axiom_of x) h = absurd (cc)
     by (variables gs) h = absurd (cc)
     by (synonym n s) h = absurd (cc)
 
-still_new : (ds : List Decl) (at : ℕ) (e : Decl) (x : Revision) (k : ℕ) (f : Decl) (y : Revision) → IsNew ds at e x → IsNew ds k f y → IsNew (slice_set ds at e) k f y
-still_new ds at e x k f y a b =
-    let d = get_or ds at e in
-    let g = slice_get-get_or ds at e a.there in
-    let r = a.revised d g in
-    let tables = same_table ds at d e g r in
-    let counts = same_counts ds at d e g r in
-    record {
-      there = subst (λ n. k < n) (sym (length-set ds at e)) b.there;
-      revised = still_revised ds at e k f a.revised b.revised;
-      faultless = (λ i. own_fault (tables i) (counts i) f.body) ∙ b.faultless;
-      placed = b.placed;
-      place = b.place;
-      found = place_stays ds at d e g r k f.body ∙ b.found;
-      counted = b.counted ∙ sym (as_many ds at b.place e a.revised);
-      made = (λ i. procs_in (f ∷ []) (tables i) (counts i) (still_by ds at d e a.place k f b.place g r a.found b.found i)) ∙ b.made;
-      text = b.text ∙ sym (λ i. decl_text (tables i) (length-set ds at e i) f);
-    }
+module _ (ds : List Decl) (at : ℕ) (e : Decl) (x : Revision) (a : IsNew ds at e x) where
+  abbrev d : Decl
+  d = get_or ds at e
+
+  stands : slice_get ds at ≡ Some d
+  stands = slice_get-get_or ds at e a.there
+
+  tables : table_of (slice_set ds at e) ≡ table_of ds
+  tables = same_table ds at d e stands (a.revised d stands)
+
+  counts : counts_after no_counts (slice_set ds at e) ≡ counts_after no_counts ds
+  counts = same_counts ds at d e stands (a.revised d stands)
+
+  still_part : (k : ℕ) (f : Decl) (part : ModulePart) → IsPartOf (table_of ds) (counts_after no_counts ds) ds k f part → IsPartOf (table_of (slice_set ds at e)) (counts_after no_counts (slice_set ds at e)) (slice_set ds at e) k f part
+  still_part k f (Procedure j p) b =
+      let r = a.revised d stands in
+      record {
+        place = b.place;
+        found = place_stays ds at d e stands r k f.body ∙ b.found;
+        counted = b.counted ∙ sym (as_many is_procedure kind_stays ds at b.place e a.revised);
+        made = (λ i. procs_in (f ∷ []) (tables i) (counts i) (still_by ds at d e k f b.place stands r (procedure_found (table_of ds) (counts_after no_counts ds) ds at e x.part a.part) b.found i)) ∙ b.made;
+      }
+  still_part k f (Axiom j h) b = record {
+    counted = b.counted ∙ sym (as_many is_axiom axiom_stays ds at k e a.revised);
+    made = (λ i. axioms_in (tables i) (counts i) f.body) ∙ b.made;
+  }
+
+  still_new : (k : ℕ) (f : Decl) (y : Revision) → IsNew ds k f y → IsNew (slice_set ds at e) k f y
+  still_new k f y b = record {
+    there = subst (λ n. k < n) (sym (length-set ds at e)) b.there;
+    revised = still_revised ds at e k f a.revised b.revised;
+    faultless = (λ i. own_fault (tables i) (counts i) f.body) ∙ b.faultless;
+    placed = b.placed;
+    part = still_part k f y.part b.part;
+    text = b.text ∙ sym (λ i. decl_text (tables i) (length-set ds at e i) f);
+  }
 
 pub over_all : (ds : List Decl) (cs : List (ℕ × Decl)) (rs : List Revision) (k : ℕ) (f : Decl) (y : Revision) → AreNew ds cs rs → IsNew ds k f y → IsNew (all_put ds cs) k f y
 over_all ds [] [] k f y are new = new
 over_all ds [] (r ∷ rs) k f y are new = absurd are
 over_all ds (c ∷ cs) [] k f y are new = absurd are
-over_all ds (c ∷ cs) (r ∷ rs) k f y are new = still_new (all_put ds cs) c.0 c.1 r k f y (over_all ds cs rs c.0 c.1 r are.1 are.0) (over_all ds cs rs k f y are.1 new)
+over_all ds (c ∷ cs) (r ∷ rs) k f y are new = still_new (all_put ds cs) c.0 c.1 r (over_all ds cs rs c.0 c.1 r are.1 are.0) k f y (over_all ds cs rs k f y are.1 new)
 
 -- one more
 one_faultless : (ds : List Decl) (at : ℕ) (e : Decl) (r : Revision) → IsNew ds at e r → fault_of ds ≡ None → fault_of (slice_set ds at e) ≡ None
@@ -85,18 +124,35 @@ one_faultless ds at e r n none =
     let g = slice_get-get_or ds at e n.there in
     none_by_itself ds at (get_or ds at e) e g (n.revised (get_or ds at e) g) none n.faultless
 
+-- what states an axiom is revised as one
+revised_axiom : (t : Table) (c : Counts) (d e : DeclBody) (f : Tree) → IsRevised d e → axioms_in t c e ≡ f ∷ [] → IsOtherAxiom d e
+revised_axiom t c d e f (inl r) made = let none : [] ≡ f ∷ [] = ap (axioms_in t c) (sym r.new) ∙ made in absurd (cc none)
+revised_axiom t c d e f (inr (inl r)) made = let none : [] ≡ f ∷ [] = ap (axioms_in t c) (sym r.new) ∙ made in absurd (cc none)
+revised_axiom t c d e f (inr (inr r)) made = r
+
+part_revised : (ds : List Decl) (at : ℕ) (d e : Decl) (part : ModulePart) (k : ℕ) (x : DeclText) → slice_get ds at ≡ Some d → IsRevised d.body e.body → IsPartOf (table_of ds) (counts_after no_counts ds) ds at e part
+    → k ≡ at → x ≡ decl_text (table_of ds) (length ds) e → module_of (slice_set ds at e) ≡ with_part part k x (module_of ds)
+part_revised ds at d e (Procedure j p) k x g r n placed text =
+    module_revised ds at d e g r n.place n.found p n.made ∙ sym (λ i. with_procedure (n.counted i) p (placed i) (text i) (module_of ds))
+part_revised ds at d e (Axiom j f) k x g r n placed text =
+    axiom_revised ds at d e g (revised_axiom (table_of ds) (counts_after no_counts ds) d.body e.body f r n.made) f n.made ∙ sym (λ i. with_axiom (n.counted i) f (placed i) (text i) (module_of ds))
+
 one_revised : (ds : List Decl) (at : ℕ) (e : Decl) (r : Revision) → IsNew ds at e r → module_of (slice_set ds at e) ≡ revised r (module_of ds)
 one_revised ds at e r n =
     let g = slice_get-get_or ds at e n.there in
-    module_revised ds at (get_or ds at e) e g (n.revised (get_or ds at e) g) n.place n.found r.declared.proc n.made
-    ∙ sym (λ i. with_procedure (n.counted i) r.declared.proc (n.placed i) (n.text i) (module_of ds))
+    part_revised ds at (get_or ds at e) e r.part r.decl_at r.text g (n.revised (get_or ds at e) g) n.part n.placed n.text
 
 -- its places are in the module
-pub new_there : (ds : List Decl) (at : ℕ) (e : Decl) (r : Revision) → IsNew ds at e r → (r.proc_at < length (module_of ds).procs) × (r.decl_at < length (module_of ds).texts)
+part_there : (ds : List Decl) (at : ℕ) (d e : Decl) (part : ModulePart) → slice_get ds at ≡ Some d → IsRevised d.body e.body → IsPartOf (table_of ds) (counts_after no_counts ds) ds at e part → IsThere part (module_of ds)
+part_there ds at d e (Procedure j p) g r n = subst (λ k. k < length (module_of ds).procs) (sym n.counted) (procs_there ds at d e g r n.place n.found)
+part_there ds at d e (Axiom j f) g r n =
+    subst (λ k. k < length (module_of ds).axioms) (sym n.counted) (axioms_there ds at d e g (revised_axiom (table_of ds) (counts_after no_counts ds) d.body e.body f r n.made))
+
+pub new_there : (ds : List Decl) (at : ℕ) (e : Decl) (r : Revision) → IsNew ds at e r → HasPlaces (module_of ds) r
 new_there ds at e r n =
     let d = get_or ds at e in
     let g = slice_get-get_or ds at e n.there in
-    (subst (λ k. k < length (module_of ds).procs) (sym n.counted) (procs_there ds at d e g (n.revised d g) n.place n.found), subst (λ k. k < length (module_of ds).texts) (sym n.placed) (texts_there ds at d e g (n.revised d g) n.place n.found))
+    (part_there ds at d e r.part g (n.revised d g) n.part, subst (λ k. k < length (module_of ds).texts) (sym n.placed) (texts_there ds at d e g))
 
 pub go_together : RevisionsGoTogether
 go_together ds [] [] none are = (none, refl)

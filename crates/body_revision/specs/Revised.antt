@@ -1,7 +1,8 @@
--- A procedure with other clauses or another body, or an implementation with another body.
+-- A procedure with other clauses or another body, an implementation with another body, or an axiom with another expression.
 use Rattle.std.specs.Prelude.{◌≡◌, ◌⊎◌, Bool, List, flat_map, Option, is_some}
 use Rattle.bpl_ast.specs.Place.{Name, Params}
-use Rattle.bpl_ast.specs.Statement.{Body, DeclBody, Signature, Spec, procedure, implementation}
+use Rattle.bpl_ast.specs.Tree.{Expr}
+use Rattle.bpl_ast.specs.Statement.{Body, DeclBody, Signature, Spec, axiom_of, procedure, implementation}
 use Rattle.bpl_scopes.specs.Scopes.{Text, texts_of, spec_names}
 
 -- the names in the clauses `modifies`, in order
@@ -43,5 +44,12 @@ pub record IsOtherImplementation (d e : DeclBody) : Type 0 where
   pub old : d ≡ implementation name params signature before
   pub new : e ≡ implementation name params signature after
 
+-- two axioms
+pub record IsOtherAxiom (d e : DeclBody) : Type 0 where
+  pub before : Expr
+  pub after : Expr
+  pub old : d ≡ axiom_of before
+  pub new : e ≡ axiom_of after
+
 abbrev pub IsRevised : DeclBody → DeclBody → Type 0
-IsRevised d e = IsOtherProcedure d e ⊎ IsOtherImplementation d e
+IsRevised d e = IsOtherProcedure d e ⊎ (IsOtherImplementation d e ⊎ IsOtherAxiom d e)

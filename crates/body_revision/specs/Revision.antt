@@ -1,41 +1,74 @@
--- What of a program's module is new where procedures have other clauses or bodies.
-use Rattle.std.specs.Prelude.{◌≡◌, ⊤, ℕ, ◌<◌, List, [], ◌∷◌, length, take, count_by, slice_get, slice_set, Some, None}
+-- What of a program's module is new where declarations are revisions of others.
+use Rattle.std.specs.Prelude.{◌≡◌, ⊤, ℕ, ◌<◌, Bool, not, ◌&&◌, List, [], ◌∷◌, length, take, count_by, slice_get, slice_set, Some, None, is_none}
 use Rattle.std.specs.List.{AllByRecursion}
-use Rattle.bpl_ast.specs.Statement.{Decl}
-use Rattle.bpl_model.specs.Module.{Module, with_procedure}
-use Rattle.bpl_scopes.specs.Scopes.{table_of, no_counts, counts_after}
-use Rattle.bpl_resolve.specs.Elaborate.{decl_text, procs_in}
+use Rattle.bpl_ast.specs.Statement.{DeclBody, Decl}
+use Rattle.logic_core.specs.Tree.{Tree}
+use Rattle.bpl_model.specs.Module.{Proc, DeclText, Module, with_procedure}
+use Rattle.bpl_scopes.specs.Scopes.{Table, table_of, Counts, no_counts, counts_after}
+use Rattle.bpl_resolve.specs.Elaborate.{decl_text, procs_in, axioms_in}
 use Rattle.body_revision.specs.Names.{own_fault}
-use Rattle.body_revision.specs.Procedures.{is_procedure, procedure_place, procedure_by}
+use Rattle.body_revision.specs.Procedures.{is_procedure, is_axiom, procedure_place, procedure_by}
 use Rattle.body_revision.specs.Revised.{IsRevised}
 use Rattle.body_revision.specs.declared.declared_names.DeclaredNames.{DeclaredNames}
+use Rattle.body_revision.specs.declared.revised.ModulePart.{ModulePart}
+use Rattle.body_revision.specs.declared.revised.ModulePart.TheVariants.{Procedure, Axiom}
 use Rattle.body_revision.specs.declared.revised.Revision.{Revision}
 
--- e takes the place `at` in ds, of a declaration of which it is a revision: it has no fault of its own, and its procedure and its texts are these
+-- the procedure that a declaration declares or implements, and which of the module's procedures it is
+pub record IsProcedureOf (t : Table) (c : Counts) (ds : List Decl) (at : ℕ) (e : Decl) (k : ℕ) (p : Proc) : Type 0 where
+  pub place : ℕ
+  pub found : procedure_place ds at e.body ≡ Some place
+  pub counted : k ≡ count_by (λ (d : Decl). is_procedure d.body) (take place ds)
+  pub made : procs_in (e ∷ []) t c (procedure_by ds place e) ≡ p ∷ []
+
+-- the axiom that a declaration states, and which of the module's axioms it is
+pub record IsAxiomOf (t : Table) (c : Counts) (ds : List Decl) (at : ℕ) (e : Decl) (k : ℕ) (f : Tree) : Type 0 where
+  pub counted : k ≡ count_by (λ (d : Decl). is_axiom d.body) (take at ds)
+  pub made : axioms_in t c e.body ≡ f ∷ []
+
+abbrev pub IsPartOf : Table → Counts → List Decl → ℕ → Decl → ModulePart → Type 0
+IsPartOf t c ds at e (Procedure k p) = IsProcedureOf t c ds at e k p
+IsPartOf t c ds at e (Axiom k f) = IsAxiomOf t c ds at e k f
+
+-- e takes the place `at` in ds, of a declaration of which it is a revision: it has no fault of its own, and its part of the module and its texts are these
 pub record IsNew (ds : List Decl) (at : ℕ) (e : Decl) (r : Revision) : Type 0 where
   pub there : at < length ds
   pub revised : (d : Decl) → slice_get ds at ≡ Some d → IsRevised d.body e.body
   pub faultless : own_fault (table_of ds) (counts_after no_counts ds) e.body ≡ None
   pub placed : r.decl_at ≡ at
-  pub place : ℕ
-  pub found : procedure_place ds at e.body ≡ Some place
-  pub counted : r.proc_at ≡ count_by (λ (d : Decl). is_procedure d.body) (take place ds)
-  pub made : procs_in (e ∷ []) (table_of ds) (counts_after no_counts ds) (procedure_by ds place e) ≡ r.declared.proc ∷ []
-  pub text : r.declared.text ≡ decl_text (table_of ds) (length ds) e
+  pub part : IsPartOf (table_of ds) (counts_after no_counts ds) ds at e r.part
+  pub text : r.text ≡ decl_text (table_of ds) (length ds) e
 
 -- the same, over the names of a program of so many declarations, by its own declarations
 pub record IsMade (n : DeclaredNames) (ds : List Decl) (at count : ℕ) (e : Decl) (r : Revision) : Type 0 where
   pub faultless : own_fault (table_of n.declarations) (counts_after no_counts n.declarations) e.body ≡ None
   pub placed : r.decl_at ≡ at
-  pub place : ℕ
-  pub found : procedure_place ds at e.body ≡ Some place
-  pub counted : r.proc_at ≡ count_by (λ (d : Decl). is_procedure d.body) (take place ds)
-  pub made : procs_in (e ∷ []) (table_of n.declarations) (counts_after no_counts n.declarations) (procedure_by ds place e) ≡ r.declared.proc ∷ []
-  pub text : r.declared.text ≡ decl_text (table_of n.declarations) count e
+  pub part : IsPartOf (table_of n.declarations) (counts_after no_counts n.declarations) ds at e r.part
+  pub text : r.text ≡ decl_text (table_of n.declarations) count e
+
+-- nothing is found of it in the module: it states no axiom, and its procedure is nowhere
+abbrev pub is_nowhere : List Decl → ℕ → DeclBody → Bool
+is_nowhere ds at e = not (is_axiom e) && is_none (procedure_place ds at e)
+
+-- an axiom and the texts of its declaration in the place of those that stand there
+abbrev pub with_axiom : ℕ → Tree → ℕ → DeclText → Module → Module
+with_axiom k f d x m = record m { axioms = slice_set m.axioms k f; texts = slice_set m.texts d x }
+
+abbrev pub with_part : ModulePart → ℕ → DeclText → Module → Module
+with_part (Procedure k p) d x m = with_procedure k p d x m
+with_part (Axiom k f) d x m = with_axiom k f d x m
 
 -- the module with what is new
 abbrev pub revised : Revision → Module → Module
-revised r m = with_procedure r.proc_at r.declared.proc r.decl_at r.declared.text m
+revised r m = with_part r.part r.decl_at r.text m
+
+abbrev pub IsThere : ModulePart → Module → Type 0
+IsThere (Procedure k p) m = k < length m.procs
+IsThere (Axiom k f) m = k < length m.axioms
+
+-- the module has its places
+abbrev pub HasPlaces : Module → Revision → Type 0
+HasPlaces m r = IsThere r.part m × (r.decl_at < length m.texts)
 
 -- each stands in the place of a declaration of which it is a revision
 abbrev pub AreRevised : List Decl → List (ℕ × Decl) → Type 0

@@ -42,7 +42,7 @@ pub one_revision : (ds : List Decl) (r : Replacement) (x : Decl) (n : DeclaredNa
 one_revision ds r x n count None names all there is same made = tt
 one_revision ds r x n count (Some v) names all there is same made =
     let revised = revised_there ds r.at x r.decl is same in
-    record { there = there; revised = revised; new = made_is_new ds r.at r.decl n count v names there revised all made }
+    record { there = there; revised = revised; new = made_is_new ds r.at r.decl n names there count v revised all made }
 
 -- ---- several
 

@@ -1,5 +1,5 @@
 -- A program in which declarations take the places of others.
-use Rattle.std.proofs.Common.{◌≡◌, ◌∙◌, refl, sym, ap, subst, ℕ, zero, suc, ◌<◌, ◌^◌, List, [], ◌∷◌, ◌++◌, length, slice_get, slice_set, Option, Some, None, option_map}
+use Rattle.std.proofs.Common.{◌≡◌, ◌∙◌, refl, sym, ap, subst, ℕ, ◌<◌, ◌^◌, List, [], ◌∷◌, ◌++◌, length, slice_set, Option, Some, None, option_map}
 use Rattle.std.specs.Prelude.{IfSome}
 use Rattle.std.proofs.lemmas.List.{length-set}
 use Rattle.bv_base.specs.declared.place.Place.{Place}
@@ -7,7 +7,7 @@ use Rattle.bpl_ast.specs.Statement.{Decl}
 use Rattle.bpl_scopes.specs.declared.fault.Fault.{Fault}
 use Rattle.bpl_declaration_faults.specs.DeclFaults.{fault_of}
 use Rattle.bpl_goto.specs.Forward.{AllGoForward}
-use Rattle.bpl_model.specs.Module.{Proc, DeclText, Module, with_procedure}
+use Rattle.bpl_model.specs.Module.{Module}
 use Rattle.bpl_model.specs.Typed.{IsTypedModule}
 use Rattle.bpl_sorts.specs.Erased.{erased, told_apart}
 use Rattle.bpl_sorts.proofs.TypedModules.{no_fault}
@@ -17,7 +17,7 @@ use Rattle.bpl_resolve.specs.Elaborate.{module_of}
 use Rattle.bpl_resolve.proofs.GoesForward.{goes_forward}
 use Rattle.bpl_resolve.proofs.TypedModules.{module_typed}
 use Rattle.rebuild_laws.specs.Resolved.{IsResolved}
-use Rattle.body_revision.specs.Revision.{AreNew, revised, all_put, all_revised}
+use Rattle.body_revision.specs.Revision.{AreNew, HasPlaces, revised, all_put, all_revised}
 use Rattle.body_revision.proofs.StayFaultless.{as_many_put, stay_faultless}
 use Rattle.body_revision.proofs.StillNew.{go_together, new_there, over_all}
 use Rattle.body_revision.specs.declared.revised.Revision.{Revision}
@@ -46,24 +46,6 @@ puts_are : (ds : List Decl) (rs : List Replacement) → all_put ds (changes rs) 
 puts_are ds [] = refl
 puts_are ds (r ∷ rs) = ap (λ (es : List Decl). slice_set es r.at r.decl) (puts_are ds rs)
 
--- ---- what stood there is put back
-
-set_back : {A : Type 0} (xs : List A) (at : ℕ) (x y : A) → Some x ≡ slice_get xs at → slice_set (slice_set xs at y) at x ≡ xs
-set_back [] at x y h = refl
-set_back (z ∷ zs) zero x y h = let same : x ≡ z = cc in ap (λ w. w ∷ zs) same
-set_back (z ∷ zs) (suc at) x y h = ap (λ ws. z ∷ ws) (set_back zs at x y h)
-
-pub put_back : (m n : Module) (k at : ℕ) (p q : Proc) (x y : DeclText) → n ≡ with_procedure k p at x m → Some q ≡ slice_get m.procs k → Some y ≡ slice_get m.texts at → with_procedure k q at y n ≡ m
-put_back m n k at p q x y put proc text =
-    ap (with_procedure k q at y) put ∙ (λ i. record m { procs = set_back m.procs k q p proc i; texts = set_back m.texts at y x text i })
-
--- its places are there still
-pub still_there : (m n : Module) (k at : ℕ) (p : Proc) (x : DeclText) → n ≡ with_procedure k p at x m → k < length m.procs → at < length m.texts → (k < length n.procs) × (at < length n.texts)
-still_there m n k at p x put proc text = (
-  subst (λ l. k < l) (sym (ap (λ (y : Module). length y.procs) put ∙ length-set m.procs k p)) proc,
-  subst (λ l. at < l) (sym (ap (λ (y : Module). length y.texts) put ∙ length-set m.texts at x)) text,
-)
-
 -- ---- the last is put first
 
 revised_last : (m : Module) (vs : List Revision) (v : Revision) → all_revised m (vs ++ v ∷ []) ≡ all_revised (revised v m) vs
@@ -71,22 +53,20 @@ revised_last m [] v = refl
 revised_last m (w ∷ vs) v = ap (revised w) (revised_last m vs v)
 
 pub record LastPut (m : Module) (vs : List Revision) (v : Revision) : Type 0 where
-  pub proc : v.proc_at < length m.procs
-  pub text : v.decl_at < length m.texts
+  pub places : HasPlaces m v
   pub before : IsTypedModule m
   pub after : IsTypedModule (revised v m)
   pub rest : CanBePut (revised v m) vs
 
 pub last_put : (m : Module) (vs : List Revision) (v : Revision) → CanBePut m (vs ++ v ∷ []) → LastPut m vs v
-last_put m [] v h = record { proc = h.1; text = h.2; before = h.0; after = h.3; rest = h.3 }
+last_put m [] v h = record { places = h.1.0; before = h.0; after = h.1.1; rest = h.1.1 }
 last_put m (w ∷ vs) v h =
     let r = last_put m vs v h.0 in
     record {
-      proc = r.proc;
-      text = r.text;
+      places = r.places;
       before = r.before;
       after = r.after;
-      rest = (r.rest, subst (λ (x : Module). w.proc_at < length x.procs) (revised_last m vs v) h.1, subst (λ (x : Module). w.decl_at < length x.texts) (revised_last m vs v) h.2, subst IsTypedModule (revised_last m (w ∷ vs) v) h.3);
+      rest = (r.rest, (subst (λ (x : Module). HasPlaces x w) (revised_last m vs v) h.1.0, subst IsTypedModule (revised_last m (w ∷ vs) v) h.1.1));
     }
 
 pub none_revised : (m : Module) (vs : List Revision) → vs ≡ [] → all_revised m vs ≡ m
@@ -104,9 +84,7 @@ can_be_put ds (c ∷ cs) (v ∷ vs) none new =
     let all = go_together ds (c ∷ cs) (v ∷ vs) none new in
     let there = new_there (all_put ds cs) c.0 c.1 v (over_all ds cs vs c.0 c.1 v new.1 new.0) in (
       can_be_put ds cs vs none new.1,
-      subst (λ (x : Module). v.proc_at < length x.procs) rest.1 there.0,
-      subst (λ (x : Module). v.decl_at < length x.texts) rest.1 there.1,
-      subst IsTypedModule all.1 (module_typed (all_put ds (c ∷ cs)) all.0),
+      (subst (λ (x : Module). HasPlaces x v) rest.1 there, subst IsTypedModule all.1 (module_typed (all_put ds (c ∷ cs)) all.0)),
     )
 
 -- ---- the module with what is new

@@ -5,7 +5,7 @@ use Rattle.bpl_model.specs.Module.{Module}
 use Rattle.bpl_model.specs.Typed.{IsTypedModule}
 use Rattle.bpl_sorts.specs.Erased.{erased, told_apart}
 use Rattle.body_revision.specs.Revised.{IsRevised}
-use Rattle.body_revision.specs.Revision.{IsNew, AreNew, AreRevised, HaveNoFaults, all_revised}
+use Rattle.body_revision.specs.Revision.{IsNew, AreNew, AreRevised, HaveNoFaults, HasPlaces, all_revised}
 use Rattle.body_revision.specs.declared.revised.Revision.{Revision}
 use Rattle.vc_build.specs.Large.{program_large}
 use Rattle.vc_build.specs.Rebuild.{BuiltProc, built, rebuilt}
@@ -36,7 +36,7 @@ pub record IsRevision (ds : List Decl) (r : Replacement) (v : Revision) : Type 0
 -- each has its places in the module, and every module on the way is one
 abbrev pub CanBePut : Module → List Revision → Type 0
 CanBePut m [] = IsTypedModule m
-CanBePut m (v ∷ vs) = CanBePut m vs × (v.proc_at < length (all_revised m vs).procs) × (v.decl_at < length (all_revised m vs).texts) × IsTypedModule (all_revised m (v ∷ vs))
+CanBePut m (v ∷ vs) = CanBePut m vs × (HasPlaces (all_revised m vs) v × IsTypedModule (all_revised m (v ∷ vs)))
 
 -- the module exceeds no limit and is built, where this was built before, and the board has its goals
 pub record IsReopened (workers : ℕ) (s : Board) (noted : List BoardCall) (t : Board) (noted' : List BoardCall) (turns : ℕ) (m : Module) (old new : List BuiltProc) (x : Reply) : Type 0 where

@@ -1,4 +1,4 @@
-// The program after some of its procedures have got other clauses or bodies.
+// The program after some of its declarations have given way to revisions.
 ghost use Rattle.std.specs.Prelude.{◌≡◌, ◌<◌, ◌-◌, ◌^◌, map, length, false, is_none, slice_get, Some, IsTrue, IfOk, OnErr, IfSome, IfNone};
 ghost use Rattle.bpl_ast.specs.Statement.{Decl as decl_of};
 ghost use Rattle.bpl_goto.specs.Forward.{AllGoForward};
@@ -23,7 +23,7 @@ use crate::board_calls::open_goals;
 use crate::program::count_decls;
 use body_revision::faultless::own_fault;
 use body_revision::module::revision;
-use body_revision::{DeclaredNames, Revision, is_revised, read_heads};
+use body_revision::{DeclaredNames, Revision, is_revised, put_revision, read_heads};
 use bpl_ast::Decl;
 use bpl_model::Module;
 use bpl_sorts::Reading;
@@ -292,19 +292,14 @@ fn reopen_with<B: GoalBoard, L: Ledger>(
             Err(_) => None,
         },
         Some(revision) => {
-            let Revision {
-                proc_at,
-                decl_at,
-                declared,
-            } = revision;
-            let before = typed.put_procedure(proc_at, decl_at, declared);
+            let before = put_revision(alloc, typed, revision);
             match reopen_with(alloc, typed, kept, board, revisions, turns, steps) {
                 Some(reply) => {
                     drop(before);
                     Some(reply)
                 }
                 None => {
-                    drop(typed.put_procedure(proc_at, decl_at, before));
+                    drop(put_revision(alloc, typed, before));
                     None
                 }
             }

@@ -3,9 +3,9 @@ use Rattle.std.proofs.Common.{◌≡◌, ◌∙◌, ℕ, Bool, true, false, cond
 use Rattle.bpl_ast.specs.Statement.{Decl}
 use Rattle.bpl_grammar.specs.Fault.{Fault}
 use Rattle.request_text.specs.Request.{Put, Request, edit}
-use Rattle.program_edits.specs.Edited.{Edited, other_name, Texts, is_axiom, declares, the_one, put_as, and_then, puts_of, after_puts, changed, edited_by}
+use Rattle.program_edits.specs.Edited.{Edited, other_name, Texts, declares, the_one, put_as, and_then, puts_of, after_puts, changed, edited_by}
 use Rattle.program_edits.specs.Refusals.{Tells, RefusedBy, reading}
-use Rattle.program_edits.specs.Replaced.{only_place, are_named, unless_axiom, plain, placed, with_all, all_placed, plain_puts}
+use Rattle.program_edits.specs.Replaced.{is_misnamed, only_place, are_named, unless_misnamed, plain, placed, with_all, all_placed, plain_puts}
 use Rattle.program_edits.specs.declared.fault.EditFault.{EditFault}
 use Rattle.program_edits.specs.declared.replaced.Replacement.{Replacement}
 use Rattle.program_edits.proofs.Steps.{after_refused}
@@ -31,7 +31,7 @@ put_name p (Ok ds) d is = by (the_one p.name ds) refl is
 -- one that has no place
 unplaced : (old : List Decl) (p : Put) (r : Result Decl Edited) → ((d : Decl) → r ≡ Ok d → d.name ≡ p.name) → only_place p.name old ≡ None → placed old (plain r) ≡ None
 unplaced old p (Err e) named none = refl
-unplaced old p (Ok d) named none = by (is_axiom d.body)
+unplaced old p (Ok d) named none = by (is_misnamed d)
   where
     by : (b : Bool) → placed old (cond b None (Some d)) ≡ None
     by true = refl
@@ -50,19 +50,19 @@ unnamed_placed s old (p ∷ ps) h = by (only_place p.name old) refl (λ k. unnam
     by (Some at) e rest k = sym (ap (with_all (placed old (plain (put_as p (s p.text))))) (sym (rest k)) ∙ none_with (placed old (plain (put_as p (s p.text)))))
 
 -- all are read
-plain_are : (s : Texts) (ps : List Put) (ds : List Decl) → puts_of s ps ≡ Ok ds → plain_puts s ps ≡ map unless_axiom ds
-plain_are s [] ds is = let none : [] ≡ ds = cc in ap (map unless_axiom) none
+plain_are : (s : Texts) (ps : List Put) (ds : List Decl) → puts_of s ps ≡ Ok ds → plain_puts s ps ≡ map unless_misnamed ds
+plain_are s [] ds is = let none : [] ≡ ds = cc in ap (map unless_misnamed) none
 plain_are s (p ∷ ps) ds is = by (put_as p (s p.text)) refl (puts_of s ps) (λ es f. plain_are s ps es f) is
   where
-    by : (o : Result Decl Edited) → put_as p (s p.text) ≡ o → (os : Result (List Decl) Edited) → ((es : List Decl) → os ≡ Ok es → plain_puts s ps ≡ map unless_axiom es)
-        → and_then o os ≡ Ok ds → plain_puts s (p ∷ ps) ≡ map unless_axiom ds
+    by : (o : Result Decl Edited) → put_as p (s p.text) ≡ o → (os : Result (List Decl) Edited) → ((es : List Decl) → os ≡ Ok es → plain_puts s ps ≡ map unless_misnamed es)
+        → and_then o os ≡ Ok ds → plain_puts s (p ∷ ps) ≡ map unless_misnamed ds
     by (Err e) q os f h = absurd (cc)
     by (Ok d) q (Err e) f h = absurd (cc)
     by (Ok d) q (Ok es) f h =
         let same : d ∷ es ≡ ds = cc in
-        (λ i. plain (q i) ∷ f es refl i) ∙ ap (map unless_axiom) same
+        (λ i. plain (q i) ∷ f es refl i) ∙ ap (map unless_misnamed) same
 
-pub read_placed : (s : Texts) (old : List Decl) (ps : List Put) (ds : List Decl) → puts_of s ps ≡ Ok ds → all_placed old (map unless_axiom ds) ≡ all_placed old (plain_puts s ps)
+pub read_placed : (s : Texts) (old : List Decl) (ps : List Put) (ds : List Decl) → puts_of s ps ≡ Ok ds → all_placed old (map unless_misnamed ds) ≡ all_placed old (plain_puts s ps)
 read_placed s old ps ds is = ap (all_placed old) (sym (plain_are s ps ds is))
 
 -- the first put that is refused refuses an edit without a drop

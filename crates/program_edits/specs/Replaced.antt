@@ -1,29 +1,33 @@
 -- The declarations that take the places of others, where an edit does nothing else.
-use Rattle.std.specs.Prelude.{◌≡◌, ℕ, suc, ◌<◌, ◌||◌, ◌&&◌, Bool, true, is_some, cond, List, [], ◌∷◌, map, length, slice_set, Option, Some, None, option_map, Result, Ok, Err, bytes_eq}
+use Rattle.std.specs.Prelude.{◌≡◌, ℕ, suc, ◌<◌, ◌||◌, ◌&&◌, Bool, true, not, is_some, cond, List, [], ◌∷◌, map, length, slice_set, Option, Some, None, option_map, Result, Ok, Err, bytes_eq}
 use Rattle.std.specs.List.{AllByRecursion}
 use Rattle.bpl_ast.specs.Statement.{Decl}
 use Rattle.bv_base.specs.Text.{is_among}
 use Rattle.request_text.specs.Request.{Put, Request, open_text, edit, status, report, sums, proofs, quit}
-use Rattle.program_edits.specs.Edited.{Edited, Texts, TellsTexts, is_axiom, names, put_as}
+use Rattle.program_edits.specs.Edited.{Edited, Texts, TellsTexts, is_axiom, is_axiom_name, names, put_as}
 use Rattle.program_edits.specs.declared.replaced.Replacement.{Replacement}
 
--- the place of the only declaration of this name, where that is no axiom
+-- an axiom whose name is not one of axioms, or another declaration whose name is
+abbrev pub is_misnamed : Decl → Bool
+is_misnamed d = cond (is_axiom d.body) (not (is_axiom_name d.name)) (is_axiom_name d.name)
+
+-- the place of the only declaration of this name, where that is not misnamed
 abbrev pub only_place : List ℕ → List Decl → Option ℕ
 only_place n [] = None
-only_place n (d ∷ ds) = cond (bytes_eq n d.name) (cond (is_axiom d.body || is_among (names ds) n) None (Some 0)) (option_map suc (only_place n ds))
+only_place n (d ∷ ds) = cond (bytes_eq n d.name) (cond (is_misnamed d || is_among (names ds) n) None (Some 0)) (option_map suc (only_place n ds))
 
 -- each put's name is that of such a declaration
 abbrev pub are_named : List Decl → List Put → Bool
 are_named old [] = true
 are_named old (p ∷ ps) = is_some (only_place p.name old) && are_named old ps
 
-abbrev pub unless_axiom : Decl → Option Decl
-unless_axiom d = cond (is_axiom d.body) None (Some d)
+abbrev pub unless_misnamed : Decl → Option Decl
+unless_misnamed d = cond (is_misnamed d) None (Some d)
 
--- a put that is put in, and is no axiom
+-- a put that is put in, and is not misnamed
 abbrev pub plain : Result Decl Edited → Option Decl
 plain (Err e) = None
-plain (Ok d) = unless_axiom d
+plain (Ok d) = unless_misnamed d
 
 abbrev pub placed : List Decl → Option Decl → Option Replacement
 placed old None = None

@@ -4,12 +4,12 @@ ghost use Rattle.std.specs.Prelude.{◌≡◌, ◌<◌, ◌-◌, ◌^◌, ◌||�
 ghost use Rattle.bv_base.specs.Text.{is_among};
 ghost use Rattle.fault_text.specs.FaultView.{SourcesAreShort};
 ghost use Rattle.request_text.specs.RequestView.{put_view, request_view};
-ghost use Rattle.program_edits.specs.Edited.{Edited, edited, names, is_axiom, numbered, puts_of, edited_by, IsEdited};
+ghost use Rattle.program_edits.specs.Edited.{Edited, edited, names, numbered, puts_of, edited_by, IsEdited};
 ghost use Rattle.program_edits.specs.Refusals.{TextsAreShort, RefusedBy, Tells, IsRefused, reading};
-ghost use Rattle.program_edits.specs.Replaced.{only_place, are_named, unless_axiom, placed, all_placed, plain_puts, replaced_by, Replaces, with_replacements, AreThere};
+ghost use Rattle.program_edits.specs.Replaced.{is_misnamed, only_place, are_named, unless_misnamed, placed, all_placed, plain_puts, replaced_by, Replaces, with_replacements, AreThere};
 
 use crate::fault::EditFault;
-use crate::names::is_axiom;
+use crate::names::{is_axiom, is_axiom_name};
 use crate::puts::put_decls;
 use bpl_ast::Decl;
 use request_text::{Put, Request};
@@ -34,17 +34,27 @@ fn is_named(name: &[u8], decls: &[Decl]) -> bool
     false
 }
 
-// The place of a declaration of this name, unless it is an axiom or a later one has the name too.
-fn place_of(name: &[u8], at: usize, decl: &Decl, later: &[Decl]) -> Option<usize>
-    ensures { result ≡ cond (is_axiom decl.now.body || is_among (names later.now) name.now) None (Some at) }
+// Whether it is an axiom whose name is not one of axioms, or another declaration whose name is.
+fn is_misnamed(decl: &Decl) -> bool
+    ensures { result ≡ is_misnamed decl.now }
 {
-    if is_axiom(decl) || is_named(name, later) {
+    if is_axiom(decl) {
+        return !is_axiom_name(decl.name.as_bytes());
+    }
+    is_axiom_name(decl.name.as_bytes())
+}
+
+// The place of a declaration of this name, unless it is misnamed or a later one has the name too.
+fn place_of(name: &[u8], at: usize, decl: &Decl, later: &[Decl]) -> Option<usize>
+    ensures { result ≡ cond (is_misnamed decl.now || is_among (names later.now) name.now) None (Some at) }
+{
+    if is_misnamed(decl) || is_named(name, later) {
         return None;
     }
     Some(at)
 }
 
-// The place of the only declaration of this name, where that is no axiom.
+// The place of the only declaration of this name, where that is not misnamed.
 #[tactic(auto, using(crate::proofs::Replacing::place_begins, crate::proofs::Replacing::place_found, crate::proofs::Replacing::place_behind))]
 fn only_place(name: &[u8], decls: &[Decl]) -> Option<usize>
     ensures { result ≡ only_place name.now decls.now }
@@ -57,7 +67,7 @@ fn only_place(name: &[u8], decls: &[Decl]) -> Option<usize>
     None
 }
 
-// Whether each put's name is that of exactly one declaration, which is no axiom.
+// Whether each put's name is that of exactly one declaration, which is not misnamed.
 fn are_named(old: &[Decl], puts: &[Put]) -> bool
     ensures { result ≡ are_named old.now (map put_view puts.now) }
 {
@@ -82,21 +92,21 @@ fn placed(old: &[Decl], decl: Decl) -> Option<Replacement>
     }
 }
 
-fn unless_axiom(decl: Decl) -> Option<Decl>
-    ensures { result ≡ unless_axiom decl }
+fn unless_misnamed(decl: Decl) -> Option<Decl>
+    ensures { result ≡ unless_misnamed decl }
 {
-    if is_axiom(&decl) {
+    if is_misnamed(&decl) {
         drop(decl);
         return None;
     }
     Some(decl)
 }
 
-// The declaration, where it is no axiom, in the place of the only one of its name.
+// The declaration, where it is not misnamed, in the place of the only one of its name.
 fn plain_placed(old: &[Decl], decl: Decl) -> Option<Replacement>
-    ensures { result ≡ placed old.now (unless_axiom decl) }
+    ensures { result ≡ placed old.now (unless_misnamed decl) }
 {
-    match unless_axiom(decl) {
+    match unless_misnamed(decl) {
         Some(decl) => placed(old, decl),
         None => None,
     }
@@ -109,7 +119,7 @@ fn all_placed(
     old: &[Decl],
     decls: Vec<Decl>,
 ) -> Result<Option<Vec<Replacement>>, AllocError>
-    ensures { IfOk result (λ o. option_map (λ v. v.items) o ≡ all_placed old.now (map unless_axiom decls.items)) }
+    ensures { IfOk result (λ o. option_map (λ v. v.items) o ≡ all_placed old.now (map unless_misnamed decls.items)) }
 {
     let mut found = Vec::new(alloc);
     for decl in decls {
@@ -172,10 +182,10 @@ fn replaced_exactly(
 
 /// The declarations that an edit puts in the places of others, in the order of its puts, where it does
 /// nothing else: it has no drop, each put's text is one declaration of its name, exactly one old
-/// declaration has that name, and neither is an axiom. Each other request gives `None`, and no text of
-/// it is read where a put's name is that of no such declaration. Where all names are, the first put that
-/// is refused is told, as `edited` tells it. The old declarations, whose axioms have their numbers, are
-/// lent; the others stay as they are.
+/// declaration has that name, and both are axioms, whose name is `@k`, or neither is one. Each other
+/// request gives `None`, and no text of it is read where a put's name is that of no such declaration.
+/// Where all names are, the first put that is refused is told, as `edited` tells it. The old
+/// declarations, whose axioms have their numbers, are lent; the others stay as they are.
 pub fn replacements_of(
     alloc: Global,
     old: &[Decl],

@@ -4,9 +4,9 @@ use Rattle.bpl_goto.specs.Forward.{AllGoForward}
 use Rattle.bpl_model.specs.Typed.{IsTypedModule}
 use Rattle.bpl_model.specs.Module.{Module}
 use Rattle.rebuild_laws.specs.Resolved.{IsResolved}
-use Rattle.body_revision.specs.Revision.{all_revised}
+use Rattle.body_revision.specs.Revision.{HasPlaces, revised, all_revised}
 use Rattle.edit_session.specs.Revising.{CanBePut}
-use Rattle.edit_session.proofs.Revised.{last_put, last_revised, none_revised, put_back, still_there}
+use Rattle.edit_session.proofs.Revised.{last_put, last_revised, none_revised}
 use Rattle.edit_session.proofs.revising.+reopen_with.Goals as goal
 
 pub reopen-requires-clause-forward : goal.reopen-requires-clause-forward
@@ -24,16 +24,12 @@ returns-in-Ok-clause-revised g t c =
     let none : c.args.revisions.now.items ≡ [] = grind (arith, common_steps) in
     sym (none_revised c.args.typed.now c.args.revisions.now.items none)
 
-pub put_procedure-before-requires-clause-procs : goal.put_procedure-before-requires-clause-procs
-put_procedure-before-requires-clause-procs g t c =
-    (last_put c.args.typed.now c.pop.new.self.items c.in-Some.revision (subst (CanBePut c.args.typed.now) c.in-Some.ensures.items c.requires.each)).proc
+pub put_revision-before-requires-clause-places : goal.put_revision-before-requires-clause-places
+put_revision-before-requires-clause-places g t c =
+    (last_put c.args.typed.now c.pop.new.self.items c.in-Some.revision (subst (CanBePut c.args.typed.now) c.in-Some.ensures.items c.requires.each)).places
 
-pub put_procedure-before-requires-clause-texts : goal.put_procedure-before-requires-clause-texts
-put_procedure-before-requires-clause-texts g t c =
-    (last_put c.args.typed.now c.pop.new.self.items c.in-Some.revision (subst (CanBePut c.args.typed.now) c.in-Some.ensures.items c.requires.each)).text
-
-pub put_procedure-before-requires-clause-typed : goal.put_procedure-before-requires-clause-typed
-put_procedure-before-requires-clause-typed g t c =
+pub put_revision-before-requires-clause-typed : goal.put_revision-before-requires-clause-typed
+put_revision-before-requires-clause-typed g t c =
     (last_put c.args.typed.now c.pop.new.self.items c.in-Some.revision (subst (CanBePut c.args.typed.now) c.in-Some.ensures.items c.requires.each)).after
 
 pub reopen_with-requires : goal.reopen_with-requires
@@ -42,7 +38,7 @@ reopen_with-requires g t c =
     let v = c.in-Some.revision in
     let rest = c.pop.new.self.items in
     let m = c.args.typed.now in
-    let put = c.put_procedure-before.ensures.put in
+    let put = c.put_revision-before.ensures.put in
     let last = last_put m rest v (subst (CanBePut m) popped c.requires.each) in
     let whole = last_revised m rest c.args.revisions.now.items v popped in
     λ κs outlives. (
@@ -62,33 +58,22 @@ reopen_with-requires g t c =
 pub returns-in-Some-reopen_with-clause-revised : goal.returns-in-Some-reopen_with-clause-revised
 returns-in-Some-reopen_with-clause-revised g t c =
     let rest = c.pop.new.self.items in
-    c.in-Some-reopen_with.ensures.revised ∙ ap (λ (n : Module). all_revised n rest) c.put_procedure-before.ensures.put ∙ sym (last_revised c.args.typed.now rest c.args.revisions.now.items c.in-Some.revision c.in-Some.ensures.items)
+    c.in-Some-reopen_with.ensures.revised ∙ ap (λ (n : Module). all_revised n rest) c.put_revision-before.ensures.put ∙ sym (last_revised c.args.typed.now rest c.args.revisions.now.items c.in-Some.revision c.in-Some.ensures.items)
 
-pub put_procedure-requires-clause-procs : goal.put_procedure-requires-clause-procs
-put_procedure-requires-clause-procs g t c =
+pub put_revision-requires-clause-places : goal.put_revision-requires-clause-places
+put_revision-requires-clause-places g t c =
+    let put = c.put_revision-before in
+    subst (λ (n : Module). HasPlaces n put.result) (sym c.in-None-reopen_with.ensures.typed) put.ensures.places
+
+pub put_revision-requires-clause-typed : goal.put_revision-requires-clause-typed
+put_revision-requires-clause-typed g t c =
     let v = c.in-Some.revision in
     let m = c.args.typed.now in
+    let put = c.put_revision-before in
     let last = last_put m c.pop.new.self.items v (subst (CanBePut m) c.in-Some.ensures.items c.requires.each) in
-    (still_there m c.reopen_with.new.typed v.proc_at v.decl_at v.declared.proc v.declared.text (c.in-None-reopen_with.ensures.typed ∙ c.put_procedure-before.ensures.put) last.proc last.text).0
-
-pub put_procedure-requires-clause-texts : goal.put_procedure-requires-clause-texts
-put_procedure-requires-clause-texts g t c =
-    let v = c.in-Some.revision in
-    let m = c.args.typed.now in
-    let last = last_put m c.pop.new.self.items v (subst (CanBePut m) c.in-Some.ensures.items c.requires.each) in
-    (still_there m c.reopen_with.new.typed v.proc_at v.decl_at v.declared.proc v.declared.text (c.in-None-reopen_with.ensures.typed ∙ c.put_procedure-before.ensures.put) last.proc last.text).1
-
-pub put_procedure-requires-clause-typed : goal.put_procedure-requires-clause-typed
-put_procedure-requires-clause-typed g t c =
-    let v = c.in-Some.revision in
-    let m = c.args.typed.now in
-    let put = c.put_procedure-before in
-    let last = last_put m c.pop.new.self.items v (subst (CanBePut m) c.in-Some.ensures.items c.requires.each) in
-    let back = put_back m c.reopen_with.new.typed v.proc_at v.decl_at v.declared.proc put.result.proc v.declared.text put.result.text (c.in-None-reopen_with.ensures.typed ∙ put.ensures.put) put.ensures.proc put.ensures.text in
-    subst IsTypedModule (sym back) last.before
+    subst IsTypedModule (sym (ap (revised put.result) c.in-None-reopen_with.ensures.typed ∙ put.ensures.back)) last.before
 
 pub returns-in-None-reopen_with-clause-typed : goal.returns-in-None-reopen_with-clause-typed
 returns-in-None-reopen_with-clause-typed g t c =
-    let v = c.in-Some.revision in
-    let put = c.put_procedure-before in
-    c.put_procedure.ensures.put ∙ put_back c.args.typed.now c.reopen_with.new.typed v.proc_at v.decl_at v.declared.proc put.result.proc v.declared.text put.result.text (c.in-None-reopen_with.ensures.typed ∙ put.ensures.put) put.ensures.proc put.ensures.text
+    let put = c.put_revision-before in
+    c.put_revision.ensures.put ∙ (ap (revised put.result) c.in-None-reopen_with.ensures.typed ∙ put.ensures.back)

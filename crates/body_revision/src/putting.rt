@@ -1,0 +1,143 @@
+// What is new is put into a module.
+ghost use Rattle.std.specs.Prelude.{◌≡◌, ◌<◌, length, slice_get, Some};
+ghost use Rattle.bpl_model.specs.Module.{with_procedure};
+ghost use Rattle.bpl_model.specs.Typed.{IsTypedModule};
+ghost use Rattle.body_revision.specs.Revision.{with_axiom, revised, HasPlaces};
+
+use crate::revised::{ModulePart, Revision};
+use bpl_model::{DeclText, DeclaredProc, Module, Parts};
+use logic_core::Formula;
+use std::alloc::Global;
+use std::mem;
+
+// An axiom, and the texts of its declaration.
+#[derive(Drop)]
+struct DeclaredAxiom {
+    formula: Formula,
+    text: DeclText,
+}
+
+fn empty_module(alloc: Global) -> Module {
+    let consts = Vec::new(alloc);
+    let axioms = Vec::new(alloc);
+    let functions = Vec::new(alloc);
+    let globals = Vec::new(alloc);
+    let procs = Vec::new(alloc);
+    let texts = Vec::new(alloc);
+    Module::new(Parts {
+        consts,
+        axioms,
+        functions,
+        globals,
+        procs,
+        texts,
+    })
+}
+
+// Puts an axiom and the texts of its declaration among the parts, in the place of others, which are given
+// back.
+fn put_among(
+    parts: &mut Parts,
+    axiom_at: usize,
+    decl_at: usize,
+    declared: DeclaredAxiom,
+) -> DeclaredAxiom
+    requires axioms { axiom_at < length parts.old.axioms }
+    requires texts { decl_at < length parts.old.texts }
+    ensures put { parts.new ≡ with_axiom axiom_at declared.formula decl_at declared.text parts.old }
+    ensures formula { Some result.formula ≡ slice_get parts.old.axioms axiom_at }
+    ensures text { Some result.text ≡ slice_get parts.old.texts decl_at }
+{
+    let DeclaredAxiom { formula, text } = declared;
+    let formula = mem::replace(&mut parts.axioms[axiom_at], formula);
+    let text = mem::replace(&mut parts.texts[decl_at], text);
+    DeclaredAxiom { formula, text }
+}
+
+// The same, in a module.
+fn put_axiom(
+    alloc: Global,
+    typed: &mut Module,
+    axiom_at: usize,
+    decl_at: usize,
+    declared: DeclaredAxiom,
+) -> DeclaredAxiom
+    requires axioms { axiom_at < length typed.old.axioms }
+    requires texts { decl_at < length typed.old.texts }
+    requires typed { IsTypedModule (with_axiom axiom_at declared.formula decl_at declared.text typed.old) }
+    ensures put { typed.new ≡ with_axiom axiom_at declared.formula decl_at declared.text typed.old }
+    ensures formula { Some result.formula ≡ slice_get typed.old.axioms axiom_at }
+    ensures text { Some result.text ≡ slice_get typed.old.texts decl_at }
+{
+    let module = mem::replace(typed, empty_module(alloc));
+    let mut parts = module.into_parts();
+    let before = put_among(&mut parts, axiom_at, decl_at, declared);
+    *typed = Module::new(parts);
+    before
+}
+
+// What stood where a procedure is put.
+fn put_proc(typed: &mut Module, at: usize, decl_at: usize, declared: DeclaredProc) -> Revision
+    requires procs { at < length typed.old.procs }
+    requires texts { decl_at < length typed.old.texts }
+    requires typed { IsTypedModule (with_procedure at declared.proc decl_at declared.text typed.old) }
+    ensures put { typed.new ≡ with_procedure at declared.proc decl_at declared.text typed.old }
+    ensures places { HasPlaces typed.new result }
+    ensures back { revised result typed.new ≡ typed.old }
+{
+    let before = typed.put_procedure(at, decl_at, declared);
+    let DeclaredProc { proc, text } = before;
+    Revision {
+        decl_at,
+        part: ModulePart::Procedure { at, proc },
+        text,
+    }
+}
+
+// What stood where an axiom is put.
+fn put_formula(
+    alloc: Global,
+    typed: &mut Module,
+    at: usize,
+    decl_at: usize,
+    declared: DeclaredAxiom,
+) -> Revision
+    requires axioms { at < length typed.old.axioms }
+    requires texts { decl_at < length typed.old.texts }
+    requires typed { IsTypedModule (with_axiom at declared.formula decl_at declared.text typed.old) }
+    ensures put { typed.new ≡ with_axiom at declared.formula decl_at declared.text typed.old }
+    ensures places { HasPlaces typed.new result }
+    ensures back { revised result typed.new ≡ typed.old }
+{
+    let before = put_axiom(alloc, typed, at, decl_at, declared);
+    let DeclaredAxiom { formula, text } = before;
+    Revision {
+        decl_at,
+        part: ModulePart::Axiom { at, formula },
+        text,
+    }
+}
+
+/// Puts what is new into the module, and gives back what stood there: put in again, it makes the module
+/// what it was.
+pub fn put_revision(alloc: Global, typed: &mut Module, revision: Revision) -> Revision
+    requires places { HasPlaces typed.old revision }
+    requires typed { IsTypedModule (revised revision typed.old) }
+    ensures put { typed.new ≡ revised revision typed.old }
+    ensures places { HasPlaces typed.new result }
+    ensures back { revised result typed.new ≡ typed.old }
+{
+    let Revision {
+        decl_at,
+        part,
+        text,
+    } = revision;
+    match part {
+        ModulePart::Procedure { at, proc } => {
+            put_proc(typed, at, decl_at, DeclaredProc { proc, text })
+        }
+        ModulePart::Axiom { at, formula } => {
+            put_formula(alloc, typed, at, decl_at, DeclaredAxiom { formula, text })
+        }
+    }
+}
