@@ -2,9 +2,10 @@
 ghost use Rattle.obligation_board.specs.Passes.{IsPassOf};
 ghost use Rattle.edit_server.specs.Shared.{IsUnused};
 
+use bv_base::Answered;
 use core::scope::Scope;
 use core::thread::Stack;
-use obligation_board::{Gate, Pass, SharedBoard, work};
+use obligation_board::{Gate, Pass, Prover, SharedBoard, work};
 use shared_goals::searcher::Searcher;
 use std::sync::Wait;
 use std::thread;
@@ -45,27 +46,34 @@ pub trait Opening {
         ensures { gives self result };
 }
 
-// Works on a pass of its own, by a searcher of its own.
-fn work_as<G: Gate, R: AllocGlobal + Wait>(
+// Works on a pass of its own.
+fn work_as<P: Prover, G: Gate, R: AllocGlobal + Wait>(
     rt: &R,
-    board: &SharedBoard<Settled>,
-    mut pass: Pass<Settled>,
+    board: &SharedBoard<P::A>,
+    mut pass: Pass<P::A>,
+    prover: &P,
     gate: &G,
 ) -> u64
+where
+    P::A: Drop,
+    <P::A as Answered>::Q: Drop,
     requires { IsPassOf board.now pass }
 {
-    let searcher = Searcher::new(rt.alloc());
-    work(rt, rt.alloc(), board, &mut pass, &searcher, gate).deposits
+    work(rt, rt.alloc(), board, &mut pass, prover, gate).deposits
 }
 
 // Starts a worker, whatever it answers, if there can be a thread for it.
-fn start<'s, E, G: Gate + Sync, R: AllocGlobal + Wait + Sync>(
+fn start<'s, E, P: Prover + Sync, G: Gate + Sync, R: AllocGlobal + Wait + Sync>(
     scope: &Scope<'s, E>,
     rt: &'s R,
-    board: &'s SharedBoard<Settled>,
-    pass: Pass<Settled>,
+    board: &'s SharedBoard<P::A>,
+    pass: Pass<P::A>,
+    prover: &'s P,
     gate: &'s G,
 )
+where
+    P::A: Drop + Send + Sync,
+    <P::A as Answered>::Q: Drop + Send + Sync,
     requires { IsPassOf board.now pass }
 {
     let started = Stack::new().stack_size(STACK).spawn_scoped_with(
@@ -73,7 +81,7 @@ fn start<'s, E, G: Gate + Sync, R: AllocGlobal + Wait + Sync>(
         Nothing,
         move || -> u64
             requires { IsPassOf board.now pass }
-        { work_as(rt, board, pass, gate) },
+        { work_as(rt, board, pass, prover, gate) },
     );
     drop(started);
 }
@@ -93,6 +101,8 @@ pub fn run_beside<O: Opening + Drop, G: Gate + Sync, R: AllocGlobal + Threads + 
     requires unused { IsUnused opener }
     ensures { O.gives opening result }
 {
+    let searcher = Searcher { alloc: rt.alloc() };
+    let prover = &searcher;
     thread::scope(
         thread::scope_env(),
         rt,
@@ -104,8 +114,8 @@ pub fn run_beside<O: Opening + Drop, G: Gate + Sync, R: AllocGlobal + Threads + 
             for _ in 0..workers {
                 let pass = board.split(&mut opener);
                 // Copies, since what is lent out of the loop's own would be lent for the whole scope.
-                let (rt, board, gate) = (rt, board, gate);
-                start(scope, rt, board, pass, gate);
+                let (rt, board, prover, gate) = (rt, board, prover, gate);
+                start(scope, rt, board, pass, prover, gate);
             }
             opening.run(rt, board, opener)
         },

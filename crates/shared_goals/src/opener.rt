@@ -11,7 +11,7 @@ ghost use Rattle.obligation_board.specs.Passes.{StaysPassOf};
 ghost use Rattle.shared_goals.specs.Known.{board_of, IsLaterPass, MakesNoPass};
 ghost use Rattle.shared_goals.specs.Opener.{IsOpenerOf, StaysOpener, HasSettled, HasWorked};
 
-use crate::searcher::Searcher;
+use crate::searcher::OwnSearcher;
 use board_core::{Opened, Snapshot};
 use obligation_board::{Gate, Pass, SharedBoard, work_once};
 use obligation_text::Asked;
@@ -55,7 +55,7 @@ fn settle_one<R: Wait, G: Gate>(
     alloc: Global,
     board: &SharedBoard<Settled>,
     opener: &mut Pass<Settled>,
-    searcher: &Searcher,
+    searcher: &OwnSearcher,
     gate: &G,
 ) -> Result<bool, AllocError>
     requires { IsOpenerOf board.now opener.old }
@@ -92,7 +92,7 @@ pub fn settle_all<R: Wait, G: Gate>(
     ensures passes { MakesNoPass opener.old opener.new }
     ensures kept { OnOk result (IsTrue (all_kept (board_of opener.new))) }
 {
-    let searcher = Searcher::new(alloc);
+    let searcher = OwnSearcher::new(alloc);
     for _ in rt.forever() {
         match settle_one(rt, alloc, board, opener, &searcher, gate) {
             Ok(true) => return Ok(()),
