@@ -1,6 +1,4 @@
-mod NamedVariables
 mod Numbers
-mod TypedIsTyped
 pub mod Members
 mod Marks
 mod MarksOf

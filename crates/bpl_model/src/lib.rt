@@ -14,12 +14,6 @@ pub mod stmt;
 // The variables of procedures, by number.
 pub mod variables;
 
-// Whether a module is typed.
-pub mod typed;
-mod typed_procs;
-pub mod typed_stmts;
-pub mod typed_terms;
-
 // Numbers.
 pub mod number;
 

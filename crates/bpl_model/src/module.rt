@@ -1,14 +1,15 @@
 // Modules.
-ghost use Rattle.std.specs.Prelude.{◌≡◌, ◌<◌, length, slice_get, Some};
+ghost use Rattle.std.specs.Prelude.{◌≡◌, ◌<◌, length, slice_get, IfOk, Some};
 ghost use Rattle.bpl_model.specs.Module.{with_procedure};
+ghost use Rattle.bpl_model.specs.Numbering.{defs_of};
 ghost use Rattle.bpl_model.specs.Typed.{IsTypedModule};
 
 use crate::decl::{Const, Function, Global};
 use crate::name::Name;
 use crate::proc::Proc;
-use logic_core::Formula;
+use logic_core::{Def, Formula};
 use std::marker::Model;
-use std::mem;
+use std::{alloc, mem};
 
 /// A declaration's canonical text, the same without a body, and the positions of the declarations
 /// that the names of each of the two stand for.
@@ -82,6 +83,19 @@ impl Model for Parts {
     ghost coded = { coded_module };
 
     ghost view = { λ a. record { consts = a.consts.items; axioms = a.axioms.items; functions = a.functions.items; globals = a.globals.items; procs = a.procs.items; texts = a.texts.items } };
+}
+
+impl Parts {
+    /// The definitions of the functions, by number.
+    pub fn defs(&self, alloc: alloc::Global) -> Result<Vec<Def>, alloc::AllocError>
+        ensures { IfOk result (λ v. v.items ≡ defs_of self.now) }
+    {
+        let mut defs = Vec::new(alloc);
+        for function in &self.functions {
+            defs.push(function.def.copy(alloc)?)?;
+        }
+        Ok(defs)
+    }
 }
 
 /// A typed module. Its terms are well sorted, and its numbers name what is there. A function's body

@@ -27,6 +27,7 @@ use bpl_model::{
     Const, DeclText, Function, GoalKind, Invariant, Local, Mark, Module, Name, Parts, Place, Proc,
     Spec, SpecForm, Stmt, StmtForm,
 };
+use bpl_typing::is_typed;
 use logic_core::{Def, Node, Sequence, Sort, Term};
 use std::alloc::{AllocError, Global};
 
@@ -193,7 +194,7 @@ pub fn program(alloc: Global) -> Result<Option<Module>, AllocError>
     ensures { IfOk result (λ o. IfSome o (λ m. AllGoForward m)) }
 {
     let parts = parts(alloc)?;
-    if parts.is_typed(alloc)? {
+    if is_typed(alloc, &parts)? {
         Ok(Some(Module::new(parts)))
     } else {
         Ok(None)

@@ -1,0 +1,2 @@
+mod NamedVariables
+mod TypedIsTyped
