@@ -1,7 +1,4 @@
 //! The rules of the search for connectives, equations, definitions and quantifiers, defined: close, flatten,
-//! skolem, rewrite, unfold, split and instantiate. One that is rarely tried, skolem, is written here: it gives
-//! the branch back as it was, exactly where it can't be applied, or the move that its definition gives.
+//! skolem, rewrite, unfold, split and instantiate. There is no code here: the rules over terms and those over
+//! numbers are other crates'.
 #![tactic(auto)]
-
-pub mod branch_forms;
-pub mod skolem;

@@ -1,1 +1,2 @@
+mod Sided
 mod Unoriented

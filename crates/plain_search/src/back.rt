@@ -10,16 +10,19 @@ ghost use Rattle.tableau_branch.specs.Branch.{first_attempt};
 ghost use Rattle.theory_rules.specs.ReadsBack.{read_back, moved_back, replaced_back, back_in_parts};
 ghost use Rattle.tableau_branch.specs.View.{move_of};
 
+use crate::formulas::less;
+use crate::outside::push_outside;
+use crate::replacing::{Replacing, change_each};
 use logic_core::def::Def;
 use logic_core::fault::NormalFault;
 use logic_core::normal::normal_over;
 use logic_core::term::{Node, Term};
 use std::alloc::{AllocError, Global};
 use tableau_branch::branch::{Branch, Made};
-use tableau_branch::build::{less, read};
-use tableau_branch::changing::{Ground, Replacing, change_each};
+use tableau_branch::build::read;
+use tableau_branch::changing::Ground;
 use tableau_branch::fact::Fact;
-use tableau_branch::outside::{Shape, push_outside};
+use tableau_branch::outside::Shape;
 use tableau_branch::played::{Attempt, Move};
 
 /// The Reads of a Write that stand in the facts outside quantifiers, in preorder.

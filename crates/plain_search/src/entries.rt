@@ -7,6 +7,7 @@ ghost use Rattle.logic_core.specs.Combine.{lead};
 ghost use Rattle.theory_rules.specs.Combining.{counted, is_at_most, is_positive, is_negative, are_opposite, is_known, entries_of, entries};
 ghost use Rattle.theory_rules.specs.Counting.{counted_parts, counted_number, has_no_greater};
 
+use crate::left_sides::left_side;
 use logic_core::copy::copy_parts;
 use logic_core::def::Def;
 use logic_core::sum::Linear;
@@ -179,7 +180,7 @@ pub fn push_entries(
         })?;
         return Ok(());
     }
-    if fact.left_side(alloc, &branch.vars, defs)?.is_some() {
+    if left_side(alloc, &branch.vars, defs, fact)?.is_some() {
         return Ok(());
     }
     push_both(alloc, fact.number(), form, entries)

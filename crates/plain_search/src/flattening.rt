@@ -7,6 +7,7 @@ ghost use Rattle.tableau_branch.specs.Branch.{oldest};
 ghost use Rattle.logic_rules.specs.Flattening.{conjuncts_of, as_all, adding_each, flattened_at, flatten};
 ghost use Rattle.tableau_branch.specs.View.{move_of};
 
+use crate::additions::{add_each, append_each};
 use crate::found_forms::{normal_parts, number_of, without_found};
 use logic_core::copy::copy_terms;
 use logic_core::def::Def;
@@ -16,7 +17,6 @@ use logic_core::term::{Node, Term};
 use proof_core::proof::Step;
 use std::alloc::{AllocError, Global};
 use tableau_branch::branch::{Branch, Made};
-use tableau_branch::change::{add_each, append_each};
 use tableau_branch::found::At;
 use tableau_branch::played::{Attempt, Move};
 

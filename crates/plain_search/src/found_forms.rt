@@ -3,11 +3,11 @@ ghost use Rattle.std.specs.Prelude.{◌≡◌, ◌<◌, length};
 ghost use Rattle.logic_core.specs.Gives.{GivesAs};
 ghost use Rattle.tableau_branch.specs.Branch.{normal_in, each, without};
 
+use crate::branch_forms::without;
 use logic_core::def::Def;
 use logic_core::fault::NormalFault;
 use logic_core::sequence::Sequence;
 use logic_core::term::Term;
-use logic_rules::branch_forms::without;
 use std::alloc::Global;
 use tableau_branch::branch::Branch;
 use tableau_branch::forms::normal_forms;

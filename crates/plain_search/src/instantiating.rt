@@ -12,6 +12,9 @@ ghost use Rattle.proof_core.specs.Proof.{by_instantiate};
 ghost use Rattle.proof_core.specs.View.{step_of};
 ghost use Rattle.tableau_branch.specs.View.{move_of};
 
+use crate::additions::adding;
+use crate::branch_forms::normal_in;
+use crate::outside::push_outside;
 use logic_core::copy::copy_terms;
 use logic_core::def::Def;
 use logic_core::fault::NormalFault;
@@ -19,7 +22,6 @@ use logic_core::sequence::Sequence;
 use logic_core::sort::Sort;
 use logic_core::substitute::substitute;
 use logic_core::term::{Node, Term};
-use logic_rules::branch_forms::normal_in;
 use proof_core::proof::Step;
 use quantifier_triggers::matches_over;
 use std::alloc::{AllocError, Global};
@@ -27,8 +29,7 @@ use std::marker::Model;
 use tableau_branch::branch::{Branch, Mark};
 use tableau_branch::fact::Fact;
 use tableau_branch::found::Stated;
-use tableau_branch::on_one::adding;
-use tableau_branch::outside::{Shape, push_outside};
+use tableau_branch::outside::Shape;
 use tableau_branch::played::{Attempt, Move};
 
 /// A fact that is a ForAll, its body, and a tuple of one of its triggers.

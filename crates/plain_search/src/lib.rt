@@ -4,12 +4,21 @@
 //! compared with it.
 #![tactic(auto)]
 
+// What a step adds and changes, and what is looked for in facts.
+mod additions;
+mod branch_forms;
+mod formulas;
+mod left_sides;
+mod outside;
+mod replacing;
+
 // The rules for connectives, equations, definitions and quantifiers.
 pub mod closing;
 pub mod flattening;
 mod found_forms;
 pub mod instantiating;
 pub mod rewriting;
+pub mod skolem;
 pub mod splitting;
 pub mod unfolding;
 

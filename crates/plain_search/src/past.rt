@@ -1,13 +1,16 @@
 // The rule past.
-ghost use Rattle.std.specs.Prelude.{◌≡◌, IfOk};
+ghost use Rattle.std.specs.Prelude.{◌≡◌, [], ◌∷◌, IfOk};
 ghost use Rattle.std.specs.Option.{option_copied};
 ghost use Rattle.logic_core.specs.Gives.{Gives, GivesAs};
 ghost use Rattle.tableau_branch.specs.Applied.{Tries};
 ghost use Rattle.tableau_branch.specs.Branch.{oldest};
+ghost use Rattle.tableau_branch.specs.Move.{passes};
 ghost use Rattle.theory_rules.specs.Past.{first_access, replaced_by, passed, three_passed, past_by, past};
 ghost use Rattle.theory_rules.specs.PassBegun.{pass_forms, pass_begun};
 ghost use Rattle.tableau_branch.specs.View.{move_of};
 
+use crate::formulas::{above_zero, at_zero, below_zero, less};
+use crate::replacing::{Replacing, change_each};
 use logic_core::def::Def;
 use logic_core::fault::NormalFault;
 use logic_core::normal::normal_over;
@@ -15,9 +18,9 @@ use logic_core::term::{Node, Term};
 use proof_core::says::says;
 use std::alloc::{AllocError, Global};
 use tableau_branch::branch::{Branch, Made};
-use tableau_branch::build::{above_zero, at_zero, below_zero, equal, less, read};
+use tableau_branch::build::{equal, read};
 use tableau_branch::change::{add, append_two};
-use tableau_branch::changing::{Ground, Replacing, change_each};
+use tableau_branch::changing::Ground;
 use tableau_branch::fact::Fact;
 use tableau_branch::found::At;
 use tableau_branch::outside::{Shape, first_outside};
@@ -117,31 +120,58 @@ fn pass(
     replace_by(alloc, defs, made, access, &equation)
 }
 
+/// The same of a copy of the branch.
+fn pass_copy(
+    alloc: Global,
+    defs: &[Def],
+    branch: &Branch,
+    access: &Term,
+    way: Term,
+    said: &Term,
+) -> Result<Made, NormalFault>
+    ensures { Gives result (passed defs.now branch.now access.now way said.now) }
+{
+    let branch = branch.copy(alloc)?;
+    pass(alloc, defs, branch, access, &way, said)
+}
+
+/// The move on three branches.
+fn passes_to(
+    alloc: Global,
+    access: &Term,
+    below: Made,
+    same: Made,
+    above: Made,
+) -> Result<Move, AllocError>
+    ensures { IfOk result (λ m. move_of m ≡ record { ending = passes access.now; made = below ∷ same ∷ above ∷ [] }) }
+{
+    let made = Vec::from_array(alloc, [below, same, above])?;
+    Ok(Move {
+        ending: Ending::Passes(access.copy(alloc)?),
+        made,
+    })
+}
+
 /// The three branches of a Read of a Write: the index written is below, at or above the index read.
 /// Wide exactly where a normal form leaves 128 bits.
 fn pass_each(
     alloc: Global,
     defs: &[Def],
-    branch: Branch,
+    branch: &Branch,
     access: &Term,
     distance: &Term,
     before: &Term,
     value: &Term,
 ) -> Result<Move, NormalFault>
-    ensures { GivesAs move_of result (three_passed defs.now branch access.now distance.now before.now value.now) }
+    ensures { GivesAs move_of result (three_passed defs.now branch.now access.now distance.now before.now value.now) }
 {
     let is_below = below_zero(alloc, distance)?;
+    let below = pass_copy(alloc, defs, branch, access, is_below, before)?;
     let is_same = at_zero(alloc, distance)?;
+    let same = pass_copy(alloc, defs, branch, access, is_same, value)?;
     let is_above = above_zero(alloc, distance)?;
-    let first = branch.copy(alloc)?;
-    let second = branch.copy(alloc)?;
-    let below = pass(alloc, defs, first, access, &is_below, before)?;
-    let same = pass(alloc, defs, second, access, &is_same, value)?;
-    let above = pass(alloc, defs, branch, access, &is_above, before)?;
-    Ok(Move {
-        ending: Ending::Passes(access.copy(alloc)?),
-        made: Vec::from_array(alloc, [below, same, above])?,
-    })
+    let above = pass_copy(alloc, defs, branch, access, is_above, before)?;
+    Ok(passes_to(alloc, access, below, same, above)?)
 }
 
 /// The same of a Read of a Write, by its parts. Wide exactly where the distance or a normal form leaves
@@ -160,7 +190,7 @@ pub fn pass_access(
                 let distance = less(alloc, at, index)?;
                 let distance = normal_over(alloc, &distance, &branch.vars, defs)?;
                 let before = read(alloc, map, index)?;
-                pass_each(alloc, defs, branch, access, &distance, &before, value)
+                pass_each(alloc, defs, &branch, access, &distance, &before, value)
             }
             _ => Err(NormalFault::Wide),
         },

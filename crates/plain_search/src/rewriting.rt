@@ -12,6 +12,8 @@ ghost use Rattle.proof_core.specs.Says.{says};
 ghost use Rattle.term_bank.specs.Hash.{hash_of};
 ghost use Rattle.logic_rules.specs.View.{bare, facts_rewritten, rest_rewritten};
 
+use crate::left_sides::left_side;
+use crate::replacing::{Replacing, change_each};
 use logic_core::def::Def;
 use logic_core::fault::NormalFault;
 use logic_core::sequence::Sequence;
@@ -21,7 +23,7 @@ use proof_core::says::says;
 use std::alloc::{AllocError, Global};
 use std::mem;
 use tableau_branch::branch::{Branch, Made, Mark};
-use tableau_branch::changing::{Ground, Replacing, change_each};
+use tableau_branch::changing::Ground;
 use tableau_branch::fact::Fact;
 use tableau_branch::forms::replaced_form;
 use tableau_branch::found::At;
@@ -58,7 +60,7 @@ pub fn left_in_another<'a>(
 ) -> Result<Option<&'a Term>, AllocError>
     ensures { IfOk result (λ l. option_copied l ≡ left_in_another defs.now branch.now fact.now) }
 {
-    match fact.left_side(alloc, &branch.vars, defs)? {
+    match left_side(alloc, &branch.vars, defs, fact)? {
         Some(left) => {
             if occurs_in_another(fact.number(), left, &branch.facts) {
                 Ok(Some(left))

@@ -10,7 +10,10 @@ ghost use Rattle.logic_rules.specs.Splitting.{cases_of, split_at, split};
 ghost use Rattle.tableau_branch.specs.Cases.{case};
 ghost use Rattle.tableau_branch.specs.View.{move_of};
 
+use crate::additions::case;
+use crate::formulas::both;
 use crate::found_forms::{normal_parts, number_of, without_found};
+use crate::left_sides::left_side;
 use logic_core::copy::copy_terms;
 use logic_core::def::Def;
 use logic_core::fault::NormalFault;
@@ -19,8 +22,7 @@ use logic_core::sort::Sort;
 use logic_core::term::{Node, Term};
 use std::alloc::{AllocError, Global};
 use tableau_branch::branch::{Branch, Made};
-use tableau_branch::build::{both, not};
-use tableau_branch::cases::case;
+use tableau_branch::build::not;
 use tableau_branch::fact::Fact;
 use tableau_branch::found::At;
 use tableau_branch::played::{Attempt, Ending, Move};
@@ -102,7 +104,7 @@ fn is_oriented(
 ) -> Result<bool, AllocError>
     ensures { IfOk result (λ b. b ≡ is_some (left_side branch.now.vars defs.now fact.now.term)) }
 {
-    Ok(fact.left_side(alloc, &branch.vars, defs)?.is_some())
+    Ok(left_side(alloc, &branch.vars, defs, fact)?.is_some())
 }
 
 /// The cases of a fact that isn't oriented.

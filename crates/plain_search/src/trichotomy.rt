@@ -10,7 +10,9 @@ ghost use Rattle.plain_search.specs.WaysView.{ways_of};
 ghost use Rattle.theory_rules.specs.Ways.{open_of, open_ways, open_at, outer_of, trichotomy_in_parts};
 ghost use Rattle.tableau_branch.specs.View.{move_of};
 
+use crate::additions::case;
 use crate::entries::{is_at_most, same_parts};
+use crate::formulas::{above_zero, at_zero, below_zero};
 use linear_certs::tightening::tighten;
 use logic_core::def::Def;
 use logic_core::fault::NormalFault;
@@ -19,8 +21,6 @@ use logic_core::sum::Linear;
 use logic_core::term::{Node, Term};
 use std::alloc::{AllocError, Global};
 use tableau_branch::branch::Branch;
-use tableau_branch::build::{above_zero, at_zero, below_zero};
-use tableau_branch::cases::case;
 use tableau_branch::change::take_out;
 use tableau_branch::fact::{Fact, SizedTerm, is_there};
 use tableau_branch::found::At;

@@ -4,7 +4,6 @@ pub mod Held
 pub mod HeldApplications
 pub mod Lists
 pub mod Moves
-pub mod Sided
 pub mod Steps
 pub mod Unlisted
 pub mod Unmentioned

@@ -53,13 +53,28 @@ fn copy_marks(alloc: Global, marks: &[Mark]) -> Result<Vec<Mark>, AllocError>
 
 /// A branch of the search: its facts, oldest first; the calls that were seen; the marks of
 /// instances; the sorts of the variables, by number; and the number of the proof's next fact.
-#[derive(Drop)]
 pub struct Branch {
     pub facts: Vec<Fact>,
     pub calls: Vec<Term>,
     pub marks: Vec<Mark>,
     pub vars: Vec<Sort>,
     pub next: u64,
+}
+
+impl Drop for Branch {
+    fn drop(self) {
+        let Branch {
+            facts,
+            calls,
+            marks,
+            vars,
+            next: _,
+        } = self;
+        drop(facts);
+        drop(calls);
+        drop(marks);
+        drop(vars);
+    }
 }
 
 impl Model for Branch {

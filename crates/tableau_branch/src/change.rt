@@ -1,7 +1,7 @@
 // Facts that a step adds and changes.
 ghost use Rattle.std.specs.Prelude.{◌≡◌, ◌<◌, ◌+◌, ◌-◌, ◌^◌, [], ◌∷◌, ◌++◌, OnOk, IfOk, length, take, drop, ◌≤◌};
 ghost use Rattle.proof_core.specs.View.{step_of};
-ghost use Rattle.tableau_branch.specs.Change.{added, added_each, kept, changed_at, with_steps, tightened, tightened_each, appended, appended_one, appended_two};
+ghost use Rattle.tableau_branch.specs.Change.{added, kept, changed_at, with_steps, tightened, appended_one, appended_two};
 ghost use Rattle.tableau_branch.specs.View.{with_next};
 
 use crate::branch::Made;
@@ -14,7 +14,7 @@ use std::mem;
 
 /// Takes the next numbers of the proof's facts, so many; the first of them. Facts are counted in 64
 /// bits; past that there is no number, as there is no memory for so many.
-fn take_numbers(made: &mut Made, count: u64) -> Result<u64, AllocError>
+pub fn take_numbers(made: &mut Made, count: u64) -> Result<u64, AllocError>
     ensures number { IfOk result (λ n. n ≡ made.old.branch.next) }
     ensures fits { IfOk result (λ n. n + count ≤ 2 ^ 64 - 1) }
     ensures rest { OnOk result (made.new ≡ with_next (made.old.branch.next + count) made.old) }
@@ -27,7 +27,12 @@ fn take_numbers(made: &mut Made, count: u64) -> Result<u64, AllocError>
 /// The new fact of this number. Where tightening changes it, one more node follows, whose result, the
 /// next fact, it is.
 #[tactic(auto, using(crate::proofs::Steps::nothing_more))]
-fn tightened(alloc: Global, made: &mut Made, number: u64, term: Term) -> Result<Fact, AllocError>
+pub fn tightened(
+    alloc: Global,
+    made: &mut Made,
+    number: u64,
+    term: Term,
+) -> Result<Fact, AllocError>
     ensures fact { IfOk result (λ f. f ≡ (tightened number made.old.branch.next term).fact) }
     ensures made { OnOk result (let r = tightened number made.old.branch.next term in made.new ≡ with_steps r.steps r.next made.old) }
 {
@@ -76,42 +81,6 @@ pub fn append_two(
     Ok((first, second))
 }
 
-/// New facts with the numbers from this one on.
-fn tightened_each(
-    alloc: Global,
-    made: &mut Made,
-    number: u64,
-    mut terms: Vec<Term>,
-) -> Result<Vec<Fact>, AllocError>
-    requires { number + length terms.items ≤ 2 ^ 64 - 1 }
-    ensures facts { IfOk result (λ v. v.items ≡ (tightened_each number made.old.branch.next terms.items).facts) }
-    ensures made { OnOk result (let r = tightened_each number made.old.branch.next terms.items in made.new ≡ with_steps r.steps r.next made.old) }
-{
-    let mut facts = Vec::new(alloc);
-    let mut number = number;
-    terms.reverse();
-    while let Some(term) = terms.pop() {
-        facts.push(tightened(alloc, made, number, term)?)?;
-        number += 1;
-    }
-    Ok(facts)
-}
-
-/// The facts that this node appends.
-pub fn append_each(
-    alloc: Global,
-    made: &mut Made,
-    step: Step,
-    terms: Vec<Term>,
-) -> Result<Vec<Fact>, AllocError>
-    ensures facts { IfOk result (λ v. v.items ≡ (appended (step_of step ∷ []) terms.items made.old).0) }
-    ensures made { OnOk result (made.new ≡ (appended (step_of step ∷ []) terms.items made.old).1) }
-{
-    made.steps.push(step)?;
-    let number = take_numbers(made, terms.len() as u64)?;
-    tightened_each(alloc, made, number, terms)
-}
-
 /// Adds a fact, unless it is true or there already.
 pub fn add(made: &mut Made, fact: Fact) -> Result<(), AllocError>
     ensures { OnOk result (made.new ≡ added fact made.old) }
@@ -122,17 +91,6 @@ pub fn add(made: &mut Made, fact: Fact) -> Result<(), AllocError>
     }
     made.size = made.size.saturating_add(fact.size());
     made.branch.facts.push(fact)?;
-    Ok(())
-}
-
-/// Adds facts, in order.
-pub fn add_each(made: &mut Made, mut facts: Vec<Fact>) -> Result<(), AllocError>
-    ensures { OnOk result (made.new ≡ added_each facts.items made.old) }
-{
-    facts.reverse();
-    while let Some(fact) = facts.pop() {
-        add(made, fact)?;
-    }
     Ok(())
 }
 

@@ -9,16 +9,14 @@ ghost use Rattle.logic_core.specs.Tree.{nodes};
 ghost use Rattle.logic_core.specs.Variables.{variables};
 ghost use Rattle.proof_core.specs.Close.{is_negation_of};
 ghost use Rattle.tableau_branch.specs.Branch.{is_there};
-ghost use Rattle.tableau_branch.specs.Oriented.{left_side};
+ghost use Rattle.tableau_branch.specs.Sides.{defined_side};
 ghost use Rattle.term_bank.specs.Hash.{hash_of};
 
 use crate::applications::Applications;
-use crate::oriented::{Side, defined_side, left_side_by};
-use logic_core::def::Def;
+use crate::oriented::{Side, defined_side};
 use logic_core::fault::NormalFault;
 use logic_core::mention::Mentioned;
 use logic_core::negation::negated;
-use logic_core::sort::Sort;
 use logic_core::term::{Node, Term};
 use std::alloc::{AllocError, Global};
 use std::marker::Model;
@@ -204,17 +202,11 @@ impl Fact {
         &self.variables
     }
 
-    /// The left side of the fact, by what it says that it is equal to. None exactly where the fact
-    /// isn't oriented.
-    pub fn left_side(
-        &self,
-        alloc: Global,
-        vars: &[Sort],
-        defs: &[Def],
-    ) -> Result<Option<&Term>, AllocError>
-        ensures { IfOk result (λ l. option_copied l ≡ left_side vars.now defs.now self.now.term) }
+    /// The side that the formula defines, where it is an equation.
+    pub fn side(&self) -> Option<Side>
+        ensures { result ≡ defined_side self.now.term }
     {
-        left_side_by(alloc, vars, defs, self.term.term(), self.side)
+        self.side
     }
 
     /// Whether the term, whose hash this is, is a variable that the formula doesn't mention, or a Read

@@ -17,7 +17,6 @@ pub mod oriented;
 pub mod outside;
 
 // What a step adds and changes, and moves.
-pub mod cases;
 pub mod change;
 pub mod changing;
 pub mod on_one;
