@@ -23,7 +23,7 @@ use Rattle.bpl_resolve.proofs.ScopesKnown.{name_has, var_in_has, any_bounds}
 use Rattle.bpl_sorts.specs.Types.{Ty, Head}
 use Rattle.bpl_sorts.specs.Typed.{HasType}
 use Rattle.bpl_sorts.specs.TypeNames.{number_of, type_of}
-use Rattle.bpl_sorts.specs.Erased.{as_integers, erased, maps_over, told_apart}
+use Rattle.user_types.specs.Erased.{as_integers, erased, maps_over, told_apart}
 use Rattle.bpl_sorts.specs.DeclaredTypes.{head_of, declared_types}
 use Rattle.bpl_sorts.specs.TypedModule.{with_own}
 use Rattle.bpl_sorts.specs.Readings.{Fits, Has, EachFits, IsHead, Alike}

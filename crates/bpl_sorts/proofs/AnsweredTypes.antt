@@ -9,7 +9,7 @@ use Rattle.bpl_model.specs.Numbering.{local_sorts}
 use Rattle.bpl_resolve.specs.Elaborate.{module_of}
 use Rattle.bpl_sorts.specs.Types.{Ty, kind_of, kinds_of}
 use Rattle.bpl_sorts.specs.DeclaredTypes.{ProcTypes, Types, declared_types}
-use Rattle.bpl_sorts.specs.Erased.{axioms_after, erased}
+use Rattle.user_types.specs.Erased.{axioms_after, erased}
 use Rattle.bpl_sorts.specs.TypedModule.{IsTypedProc, HasTypes}
 use Rattle.bpl_sorts.specs.TypedModules.{HasDeclaredTypes}
 use Rattle.bpl_sorts.specs.TypesView.{tys_seen, lists_seen, in_one_list, IsListed, split_by, each_split, types_in, AreItsTypes}

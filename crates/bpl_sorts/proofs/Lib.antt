@@ -1,7 +1,6 @@
 mod Exchanges
 mod TypedSorts
 pub mod ExchangedValues
-pub mod Listed
 pub mod SortReadings
 pub mod TypedTerms
 pub mod ReadTypes

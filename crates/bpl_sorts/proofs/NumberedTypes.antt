@@ -11,7 +11,7 @@ use Rattle.bpl_resolve.proofs.ProcedureVariables.{map_length}
 use Rattle.bpl_resolve.proofs.EntriesFine.{entity_has}
 use Rattle.bpl_sorts.specs.Types.{Ty}
 use Rattle.bpl_sorts.specs.TypeNames.{type_of}
-use Rattle.bpl_sorts.specs.Erased.{erased}
+use Rattle.user_types.specs.Erased.{erased}
 use Rattle.bpl_sorts.specs.DeclaredTypes.{ProcTypes, types_named, const_types_in, global_types_in, proc_types, proc_types_in, declared_types}
 
 one_longer : {A : Type 0} (xs ys : List A) (a b : ℕ) → length xs ≡ a → a + length ys ≡ b → length (xs ++ ys) ≡ b

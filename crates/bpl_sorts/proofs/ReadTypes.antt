@@ -12,7 +12,7 @@ use Rattle.logic_laws.proofs.Options.{map_some}
 use Rattle.bpl_sorts.specs.Types.{Ty, integers, truths, carriers, maps, kind_of}
 use Rattle.bpl_sorts.specs.Apart.{deep, apart}
 use Rattle.bpl_sorts.specs.TypeNames.{users_in, number_of, type_in, type_by, type_after, type_of}
-use Rattle.bpl_sorts.specs.Erased.{users_with, replaced_body, replaced_from, Unique, one_more, axioms_from, axioms_after, uniques, carrier_axioms, as_integers, erased, maps_over, told_apart}
+use Rattle.user_types.specs.Erased.{users_with, replaced_body, replaced_from, Unique, one_more, axioms_from, axioms_after, uniques, carrier_axioms, as_integers, erased, maps_over, told_apart}
 use Rattle.bpl_sorts.specs.Readings.{Fits}
 
 -- ---- tables of declarations without user types

@@ -30,12 +30,13 @@ use Rattle.bpl_resolve.proofs.EntriesFine.{NoFaults, none_faulty}
 use Rattle.bpl_resolve.proofs.DeclaredOnce.{StandsForIt, each_stands}
 use Rattle.bpl_sorts.specs.Types.{Ty, kind_of, kinds_of}
 use Rattle.bpl_sorts.specs.TypeNames.{type_of}
-use Rattle.bpl_sorts.specs.UserTypes.{user_of}
-use Rattle.bpl_sorts.specs.Erased.{erased, users_with, kept_unique, replaced_body, replaced_from, Unique, one_more, axioms_from, axioms_after, uniques, carrier_axioms, as_integers, maps_over}
-use Rattle.bpl_sorts.specs.CarrierFaults.{carrier_fault}
+use Rattle.user_types.specs.UserTypes.{user_of}
+use Rattle.user_types.specs.Erased.{erased, users_with, kept_unique, replaced_body, replaced_from, Unique, one_more, axioms_from, axioms_after, uniques, carrier_axioms, as_integers, maps_over}
+use Rattle.user_types.specs.CarrierFaults.{carrier_fault}
 use Rattle.bpl_sorts.specs.DeclaredTypes.{ProcTypes, types_named, const_types_in, global_types_in, proc_types_in, Types, declared_types}
 use Rattle.bpl_sorts.specs.TypedModule.{with_own, IsTruth, IsOptional, IsTypedProc}
 use Rattle.bpl_sorts.specs.TypedModules.{HasDeclaredTypes, PassingProgramsHaveTypes}
+use Rattle.user_types.proofs.NoneTaken.{no_fault}
 use Rattle.bpl_sorts.proofs.ReadTypes.{types_fit}
 use Rattle.bpl_sorts.proofs.AlikeScopes.{E, A, TE, TA, CE, constants_at, all_at}
 use Rattle.bpl_sorts.proofs.TypedParts.{truth_typed}
@@ -43,10 +44,6 @@ use Rattle.bpl_sorts.proofs.TypedVars.{CA}
 use Rattle.bpl_sorts.proofs.TypedClauses.{globals_clauses, groups_typed}
 use Rattle.bpl_sorts.proofs.TypedProcs.{OptionOk, implements_ok, own_ok, or_ok, declared_proc}
 use Rattle.bpl_sorts.proofs.TypedFunctions.{as_many, functions_typed}
-
-pub no_fault : (o : Option (ℕ × Fault)) → option_map {U = ℕ × Place} (λ (p : ℕ × Fault). (p.0, p.1.at)) o ≡ None → o ≡ None
-no_fault None e = refl
-no_fault (Some p) e = absurd (cc)
 
 one_axiom_more : (k : ℕ) (ds : List Decl) → axioms_after (suc k) ds ≡ suc (axioms_after k ds)
 one_axiom_more k [] = refl

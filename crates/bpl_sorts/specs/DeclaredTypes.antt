@@ -8,7 +8,7 @@ use Rattle.bpl_declaration_faults.specs.Variables.{locals_of}
 use Rattle.bpl_resolve.specs.Elaborate.{Implemented, or_else, own_body, implementation_of}
 use Rattle.bpl_sorts.specs.Types.{Ty, integers, Head}
 use Rattle.bpl_sorts.specs.TypeNames.{type_over}
-use Rattle.bpl_sorts.specs.Erased.{erased}
+use Rattle.user_types.specs.Erased.{erased}
 
 -- the parameters and locals of a procedure
 pub record ProcTypes : Type 0 where

@@ -4,11 +4,8 @@ pub mod TypeNames
 pub mod Typed
 pub mod Exchange
 pub mod ExchangeLaws
-pub mod UserTypes
-pub mod Erased
 pub mod Readings
 pub mod ReadingLaws
-pub mod Views
 pub mod CarrierFaults
 pub mod DeclaredTypes
 pub mod TypedModule

@@ -10,7 +10,7 @@ use Rattle.bpl_sorts.specs.Types.{Ty, kind_of, Head}
 use Rattle.bpl_sorts.specs.Typed.{HasType}
 use Rattle.bpl_sorts.specs.Apart.{apart}
 use Rattle.bpl_sorts.specs.TypeNames.{type_of}
-use Rattle.bpl_sorts.specs.Erased.{erased, told_apart}
+use Rattle.user_types.specs.Erased.{erased, told_apart}
 use Rattle.bpl_sorts.specs.Readings.{Fits, Has, BoundsAlike, Alike}
 
 -- no two types have one sort in both

@@ -3,8 +3,8 @@ use Rattle.std.specs.Prelude.{◌≡◌, List, None}
 use Rattle.bpl_ast.specs.Statement.{Decl}
 use Rattle.bpl_declaration_faults.specs.DeclFaults.{fault_of}
 use Rattle.bpl_resolve.specs.Elaborate.{module_of}
-use Rattle.bpl_sorts.specs.Erased.{axioms_after, erased}
-use Rattle.bpl_sorts.specs.CarrierFaults.{carrier_fault}
+use Rattle.user_types.specs.Erased.{axioms_after, erased}
+use Rattle.user_types.specs.CarrierFaults.{carrier_fault}
 use Rattle.bpl_sorts.specs.DeclaredTypes.{declared_types}
 use Rattle.bpl_sorts.specs.TypedModule.{HasTypes}
 

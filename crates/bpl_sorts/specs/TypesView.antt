@@ -7,7 +7,7 @@ use Rattle.bpl_resolve.specs.Elaborate.{module_of}
 use Rattle.bpl_sorts.specs.Types.{Ty, integers, truths, carriers, maps, Head}
 use Rattle.bpl_sorts.specs.DeclaredTypes.{ProcTypes, Types}
 use Rattle.bpl_sorts.specs.TypedModule.{HasTypes}
-use Rattle.bpl_sorts.specs.Erased.{axioms_after, erased}
+use Rattle.user_types.specs.Erased.{axioms_after, erased}
 use Rattle.bpl_sorts.specs.declared.value_types.Ty.{Ty as Answered, Int, Bool, User, Map'}
 use Rattle.bpl_sorts.specs.declared.value_types.Types.{Types as AllAnswered}
 

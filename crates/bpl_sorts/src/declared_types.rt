@@ -1,11 +1,10 @@
 // The types of what a program declares.
 ghost use Rattle.std.specs.Prelude.{◌≡◌, None, IfOk};
 ghost use Rattle.bpl_declaration_faults.specs.DeclFaults.{fault_of};
-ghost use Rattle.bpl_sorts.specs.Erased.{erased};
+ghost use Rattle.user_types.specs.Erased.{erased};
 ghost use Rattle.bpl_sorts.specs.DeclaredTypes.{types_over, declared_types};
 ghost use Rattle.bpl_sorts.specs.TypesView.{IsListed};
 
-use crate::erased::erase;
 use crate::function_types::function_types;
 use crate::procedure_types::procedure_types;
 use crate::type_names::TypeNames;
@@ -14,6 +13,7 @@ use crate::variable_types::{const_types, global_types};
 use bpl_ast::{Decl, Program};
 use bpl_scopes::declare_all;
 use std::alloc::{AllocError, Global};
+use user_types::erase;
 
 // The types of what declarations without fault declare.
 fn types_over(alloc: Global, known: &TypeNames, decls: &[Decl]) -> Result<Types, AllocError>

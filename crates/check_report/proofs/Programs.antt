@@ -5,8 +5,8 @@ use Rattle.bpl_ast.specs.Statement.{Decl}
 use Rattle.bpl_scopes.specs.declared.fault.Fault.{Fault}
 use Rattle.bpl_declaration_faults.specs.DeclFaults.{fault_of}
 use Rattle.bpl_model.specs.Module.{Module}
-use Rattle.bpl_sorts.specs.Erased.{erased, told_apart}
-use Rattle.bpl_sorts.proofs.TypedModules.{no_fault}
+use Rattle.user_types.specs.Erased.{erased, told_apart}
+use Rattle.user_types.proofs.NoneTaken.{no_fault}
 use Rattle.bpl_resolve.specs.Elaborated.{IsElaborated}
 use Rattle.bpl_resolve.specs.Elaborate.{module_of}
 use Rattle.program_opening.specs.Opening.{program, opening}

@@ -21,7 +21,7 @@ use Rattle.bpl_grammar.specs.Programs as programs
 use Rattle.bpl_grammar.proofs.Suffixes.{Suffix, here, later, takes_suffix}
 use Rattle.bpl_scopes.specs.Scopes.{Table, table_of, Counts, no_counts, counts_after}
 use Rattle.bpl_model.specs.Module.{Proc}
-use Rattle.bpl_sorts.specs.Erased.{users_with, replaced_body, replaced_from, replaced, Unique, one_more, axioms_from, axioms_after, uniques, carrier_axioms, as_integers, erased}
+use Rattle.user_types.specs.Erased.{users_with, replaced_body, replaced_from, replaced, Unique, one_more, axioms_from, axioms_after, uniques, carrier_axioms, as_integers, erased}
 use Rattle.bpl_resolve.specs.Elaborate.{procs_in, module_of}
 use Rattle.program_opening.specs.Spelled.{IsSpelled, AreSpelled}
 use Rattle.bv_base.specs.Text.{line_feed, count, IsWithout}

@@ -2,7 +2,7 @@
 use Rattle.std.specs.Prelude.{◌≡◌, ℕ, List, None, Contains}
 use Rattle.bpl_ast.specs.Statement.{Decl}
 use Rattle.bpl_declaration_faults.specs.DeclFaults.{fault_of}
-use Rattle.bpl_sorts.specs.Erased.{erased, told_apart}
+use Rattle.user_types.specs.Erased.{erased, told_apart}
 use Rattle.bpl_resolve.specs.Elaborated.{IsElaborated}
 use Rattle.bpl_model.specs.Module.{Proc, Module}
 use Rattle.bpl_model.specs.Safe.{Safe}

@@ -24,8 +24,8 @@ use Rattle.fault_text.specs.FaultView.{IsWrittenOf, SourcesAreShort}
 use Rattle.fault_text.proofs.InText.{sources_short}
 use Rattle.program_opening.specs.Opening.{program, refused, Typing, typed, ill_typed, told_carrier, typing_by_carriers, typing_by, typing, opening, size_fault, unless_large, within_limits}
 use Rattle.bpl_scopes.specs.Scopes.{Table, table_of}
-use Rattle.bpl_sorts.specs.Erased.{users_with, replaced_from, replaced, Unique, one_more, axioms_from, carrier_axioms, as_integers, erased, maps_over, told_apart}
-use Rattle.bpl_sorts.specs.CarrierFaults.{carrier_fault}
+use Rattle.user_types.specs.Erased.{users_with, replaced_from, replaced, Unique, one_more, axioms_from, carrier_axioms, as_integers, erased, maps_over, told_apart}
+use Rattle.user_types.specs.CarrierFaults.{carrier_fault}
 use Rattle.fault_text.proofs.Position.{fault_there}
 use Rattle.program_opening.specs.OpenedView.{IsTypedAs, IsOpened, IsOpenedText}
 use Rattle.program_opening.specs.declared.typing.Typed.{Typed}

@@ -10,9 +10,9 @@ use Rattle.bpl_scopes.specs.KnownSorts.{names_in}
 use Rattle.bpl_scopes.specs.Positions.{first_at}
 use Rattle.bpl_scopes.specs.Scopes.{Text, Entity, a_constant, a_global, a_function, a_synonym, a_procedure, Entry, Table, table_of, entry_of, entity_of, Counts, no_counts, counts_with, entries_of, entries_from, entries_after}
 use Rattle.bpl_declaration_faults.specs.DeclFaults.{fault_of}
-use Rattle.bpl_sorts.specs.UserTypes.{user_in, user_by, user_after, user_of}
-use Rattle.bpl_sorts.specs.Erased.{users_with, kept_unique, replaced_body, replaced_from, replaced, Unique, uniques_of, uniques_in, uniques, axioms_from, axioms_after, as_integers, erased, maps_over, told_apart}
-use Rattle.bpl_sorts.specs.CarrierFaults.{carrier_fault}
+use Rattle.user_types.specs.UserTypes.{user_in, user_by, user_after, user_of}
+use Rattle.user_types.specs.Erased.{users_with, kept_unique, replaced_body, replaced_from, replaced, Unique, uniques_of, uniques_in, uniques, axioms_from, axioms_after, as_integers, erased, maps_over, told_apart}
+use Rattle.user_types.specs.CarrierFaults.{carrier_fault}
 use Rattle.bpl_model.specs.Module.{Module}
 use Rattle.bpl_resolve.specs.Elaborate.{module_of}
 use Rattle.fault_text.specs.Written.{Written}

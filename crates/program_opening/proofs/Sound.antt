@@ -5,7 +5,7 @@ use Rattle.bpl_ast.specs.Statement.{Decl}
 use Rattle.bpl_model.specs.Module.{Module}
 use Rattle.bpl_resolve.specs.ModuleLaws.{FaultlessIsTyped, FaultlessGoesForward}
 use Rattle.vc_build.specs.Sound.{ValidGoalsAreSafe}
-use Rattle.bpl_sorts.specs.Erased.{erased}
+use Rattle.user_types.specs.Erased.{erased}
 use Rattle.program_opening.specs.Opening.{program}
 use Rattle.program_opening.specs.Laws.{IsSound, DeclaredModulesAreSound, ModulesAreSound, ProgramsAreSound}
 use Rattle.program_opening.proofs.Openings.{program_of}

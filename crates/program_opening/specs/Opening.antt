@@ -8,8 +8,8 @@ use Rattle.bpl_grammar.specs.Programs.{SpellsProgram}
 use Rattle.bpl_scopes.specs.declared.fault.Fault.{Fault}
 use Rattle.bpl_scopes.specs.declared.fault.TypeKind.TheVariants.{Sort as wrong_sort}
 use Rattle.bpl_declaration_faults.specs.DeclFaults.{fault_of}
-use Rattle.bpl_sorts.specs.Erased.{erased}
-use Rattle.bpl_sorts.specs.CarrierFaults.{carrier_fault}
+use Rattle.user_types.specs.Erased.{erased}
+use Rattle.user_types.specs.CarrierFaults.{carrier_fault}
 use Rattle.bpl_model.specs.Module.{Module}
 use Rattle.bpl_resolve.specs.Elaborate.{module_of}
 use Rattle.vc_build.specs.declared.fault.Measure.{Measure}

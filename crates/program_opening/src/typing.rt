@@ -6,8 +6,8 @@ ghost use Rattle.bpl_scopes.specs.Scopes.{table_of};
 ghost use Rattle.bpl_goto.specs.Forward.{AllGoForward};
 ghost use Rattle.bpl_resolve.specs.Elaborate.{module_of};
 ghost use Rattle.fault_text.specs.FaultView.{SourcesAreShort};
-ghost use Rattle.bpl_sorts.specs.Erased.{erased};
-ghost use Rattle.bpl_sorts.specs.CarrierFaults.{carrier_fault};
+ghost use Rattle.user_types.specs.Erased.{erased};
+ghost use Rattle.user_types.specs.CarrierFaults.{carrier_fault};
 ghost use Rattle.program_opening.specs.Opening.{told_carrier, typing_by_carriers, typing};
 ghost use Rattle.program_opening.specs.NoUsers.{is_user_type, has_user_types};
 ghost use Rattle.program_opening.specs.OpenedView.{IsTypedAs};
@@ -16,10 +16,10 @@ use bpl_ast::{Decl, DeclBody, Program};
 use bpl_model::Module;
 use bpl_resolve::{ResolveFault, resolve};
 use bpl_scopes::{Table, TypeKind, declare_all};
-use bpl_sorts::{erase_over, first_carrier_fault_over};
 use bv_base::place::Place;
 use fault_text::{Written, fault_in_decl, written_of_program};
 use std::alloc::{AllocError, Global};
+use user_types::{erase_over, first_carrier_fault_over};
 
 /// What declarations are: a module, or what has a first fault by names and types, as it is written.
 #[derive(Drop)]

@@ -1,6 +1,0 @@
-use Rattle.std.proofs.Common.{◌≡◌, ◌++◌, take, map}
-use Rattle.bpl_sorts.specs.Views.{uniques_seen}
-use Rattle.bpl_sorts.proofs.constants.push_each.Given as goal
-
-abbrev pub invariant-loop-name : goal.invariant-loop-name
-invariant-loop-name l = uniques_seen l.found.items ≡ uniques_seen l.fn.found.items ++ map (λ n. (l.user, n)) (take l.name-index l.names)

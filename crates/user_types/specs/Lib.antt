@@ -1,0 +1,4 @@
+pub mod UserTypes
+pub mod Erased
+pub mod Views
+pub mod CarrierFaults
