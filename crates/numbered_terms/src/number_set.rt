@@ -72,6 +72,7 @@ fn make_room(flags: &mut Vec<bool>, id: TermId) -> Result<(), AllocError>
     ensures same { (i : ℕ) → get_or flags.new.items i false ≡ get_or flags.old.items i false }
     ensures room { OnOk result (id < length flags.new.items) }
 {
+    flags.reserve(id.number.saturating_sub(flags.len()).saturating_add(1))?;
     while flags.len() <= id.number {
         flags.push(false)?;
     }
