@@ -9,6 +9,7 @@ use Rattle.numbered_forms.specs.Forms.{AreForms}
 use Rattle.numbered_facts.specs.Answers.{StandsFor}
 use Rattle.numbered_facts.specs.Alike.{AreBelow, AgreeBelow}
 use Rattle.numbered_facts.specs.Memos.{IsLeft, IsBody, IsSort, AreMemos}
+use Rattle.numbered_facts.specs.declared.replacements.Replacement.{Replacement}
 use Rattle.numbered_facts.specs.declared.standing.Standing.{Standing}
 use Rattle.numbered_facts.proofs.AlikeSorts.{sort_alike}
 use Rattle.numbered_facts.proofs.AlikeForms.{normal_alike, left_alike}
@@ -27,9 +28,9 @@ module _ (ts : List Tree) (n : ℕ) (vars : List Kind) (defs : List Def) (vars' 
   pub sorts_alike : (ks : List (Option (Option Kind))) → AreKept (IsSort (record { terms = ts; vars = vars; defs = defs })) ks → AreKept (IsSort (record { terms = ts; vars = vars'; defs = defs' })) ks
   sorts_alike ks h = λ i o e. let r = h i o e in (r.0, r.1 ∙ sort_alike n vars defs vars' defs' a (at ts i) [] (below i r.0))
 
-  module _ (fs : List (Option ℕ)) (ls ns : List (Option (Option ℕ))) (as' : List (Option (Vec ℕ Global))) (ss : List (Option Standing)) (bs : List (Option (Option ℕ))) (ks : List (Option (Option Kind))) where
+  module _ (fs : List (Option ℕ)) (ls ns : List (Option (Option ℕ))) (as' : List (Option (Vec ℕ Global))) (ss : List (Option Standing)) (bs : List (Option (Option ℕ))) (ks : List (Option (Option Kind))) (rs : List (Option Replacement)) (qs : List (Option ℕ)) where
     -- with the bodies of the new definitions
-    pub memos_with : (bs' : List (Option (Option ℕ))) → AreKept (IsBody ts defs') bs' → AreMemos (record { terms = ts; vars = vars; defs = defs }) fs ls ns as' ss bs ks → AreMemos (record { terms = ts; vars = vars'; defs = defs' }) fs ls ns as' ss bs' ks
+    pub memos_with : (bs' : List (Option (Option ℕ))) → AreKept (IsBody ts defs') bs' → AreMemos (record { terms = ts; vars = vars; defs = defs }) fs ls ns as' ss bs ks rs qs → AreMemos (record { terms = ts; vars = vars'; defs = defs' }) fs ls ns as' ss bs' ks rs qs
     memos_with bs' bodies h = record {
       forms = forms_alike fs h.forms;
       lefts = lefts_alike ls h.lefts;
@@ -38,8 +39,10 @@ module _ (ts : List Tree) (n : ℕ) (vars : List Kind) (defs : List Def) (vars' 
       standing = h.standing;
       bodies = bodies;
       sorts = sorts_alike ks h.sorts;
+      replacements = h.replacements;
+      tights = h.tights;
     }
 
     -- without bodies
-    pub memos_alike : AreMemos (record { terms = ts; vars = vars; defs = defs }) fs ls ns as' ss bs ks → AreMemos (record { terms = ts; vars = vars'; defs = defs' }) fs ls ns as' ss [] ks
+    pub memos_alike : AreMemos (record { terms = ts; vars = vars; defs = defs }) fs ls ns as' ss bs ks rs qs → AreMemos (record { terms = ts; vars = vars'; defs = defs' }) fs ls ns as' ss [] ks rs qs
     memos_alike h = memos_with [] (none_kept (IsBody ts defs')) h

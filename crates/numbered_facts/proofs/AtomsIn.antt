@@ -2,9 +2,8 @@
 use Rattle.std.proofs.Common.{◌≡◌, refl, sym, ap, subst, ◌∙◌, ℕ, Vec, ◌+◌, ◌<◌, ◌≤◌, nat_eq, nat_lt, Bool, true, false, ◌&&◌, ◌||◌, cond, List, [], ◌∷◌, filter, length, arith}
 use Rattle.std.specs.List.{list_any, AllByRecursion, IsDistinct}
 use Rattle.std.specs.declared.alloc.Global.{Global}
-use Rattle.std.proofs.lemmas.Bool.{eqb-true, eq-eqb, ne_eqb, ltb-true, ltb-false}
+use Rattle.std.proofs.lemmas.Bool.{eq-eqb, ne_eqb, ltb-true, ltb-false}
 use Rattle.std.proofs.lemmas.Map.Keys.{IsDistinct-head, IsDistinct-tail}
-use Rattle.std.proofs.lemmas.Map.Views.{any-filter_same}
 use Rattle.logic_core.specs.Tree.{Tree}
 use Rattle.logic_core.specs.Same.{same_term}
 use Rattle.logic_core.specs.Subterm.{has, occurs}
@@ -17,6 +16,7 @@ use Rattle.numbered_terms.proofs.Occurring.{higher_dont}
 use Rattle.numbered_facts.specs.Atoms.{is_atom, AreOnce, AreAtomsIn}
 use Rattle.numbered_facts.specs.Memos.{AreAtoms}
 use Rattle.numbered_facts.specs.Inside.{picks_one}
+use Rattle.numbered_facts.proofs.Merging.{rising_once}
 
 -- numbers are among each other where their terms are
 pub among_terms : (ts : List Tree) → AreStored ts → (j : ℕ) (is : List ℕ) → j < length ts → AllByRecursion (λ k. k < length ts) is → list_any (nat_eq j) is ≡ picks_one (same_term (at ts j)) ts is
@@ -44,26 +44,12 @@ distinct_once (i ∷ is) h = (none_passes (nat_eq i) is (IsDistinct-head nat_eq 
 
 -- only those that pass
 module _ (q : ℕ → Bool) where
-  pub kept_are : (j : ℕ) (is : List ℕ) → list_any (nat_eq j) (filter q is) ≡ (q j && list_any (nat_eq j) is)
-  kept_are j is = any-filter_same (nat_eq j) q (q j) (λ k e. ap q (sym (eqb-true j k e))) is
-
   pub kept_all : (P : ℕ → Type 0) (is : List ℕ) → AllByRecursion P is → AllByRecursion P (filter q is)
   kept_all P [] h = tt
   kept_all P (i ∷ is) h = by (q i) (kept_all P is h.1)
     where
       by : (b : Bool) → AllByRecursion P (filter q is) → AllByRecursion P (cond b (i ∷ filter q is) (filter q is))
       by true g = (h.0, g)
-      by false g = g
-
-  not_kept : (i : ℕ) (is : List ℕ) → list_any (nat_eq i) is ≡ false → list_any (nat_eq i) (filter q is) ≡ false
-  not_kept i is h = kept_are i is ∙ ap (λ b. q i && b) h ∙ and_false (q i)
-
-  pub kept_once : (is : List ℕ) → AreOnce is → AreOnce (filter q is)
-  kept_once [] h = tt
-  kept_once (i ∷ is) h = by (q i) (kept_once is h.1)
-    where
-      by : (b : Bool) → AreOnce (filter q is) → AreOnce (cond b (i ∷ filter q is) (filter q is))
-      by true g = (not_kept i is h.0, g)
       by false g = g
 
 -- what is picked among the terms in a term
@@ -79,16 +65,6 @@ module _ (ts : List Tree) (stored : AreStored ts) (i : ℕ) (l : i < length ts) 
   pub none_higher : ((j : ℕ) → list_any (nat_eq j) is ≡ true → j < length ts) → AllByRecursion (λ j. j < i + 1) is
   none_higher f = each_of (λ j. j < i + 1) is (λ j k. not_higher (each_of (λ j. j < length ts) is f) j (f j k) k (nat_lt i j) refl)
 
-  -- those that are atoms
-  pub atoms_right : (v : Vec ℕ Global) → v.items ≡ filter (λ k. is_atom (at ts k)) is → AllByRecursion (λ j. j < i + 1) is → AreOnce is → AreAtoms ts i v
-  atoms_right v e low once = record {
-    whole = l;
-    within = subst (AllByRecursion (λ j. j < i + 1)) (sym e) (kept_all (λ k. is_atom (at ts k)) (λ j. j < i + 1) is low);
-    once = subst AreOnce (sym e) (kept_once (λ k. is_atom (at ts k)) is once);
-    are = λ j k. let w : j < length ts = omega (arith, k, l) in ap (list_any (nat_eq j)) e ∙ kept_are (λ k. is_atom (at ts k)) j is
-        ∙ ap (λ b. is_atom (at ts j) && b) (occurs_among j w (all_lower (i + 1) (length ts) is (omega (arith, l)) low));
-  }
-
 absent : (b : Bool) → (b ≡ true → ⊥) → b ≡ false
 absent true h = absurd (h refl)
 absent false h = refl
@@ -97,7 +73,7 @@ absent false h = refl
 pub atoms_in : (ts : List Tree) → AreStored ts → (i : ℕ) (v : Vec ℕ Global) (is : List ℕ) → is ≡ v.items → AreAtoms ts i v → AreAtomsIn ts i is
 atoms_in ts stored i v is e r = record {
   within = subst (AllByRecursion (λ j. j < length ts)) (sym e) (all_lower (i + 1) (length ts) v.items (omega (arith, r.whole)) r.within);
-  once = subst AreOnce (sym e) r.once;
+  once = subst AreOnce (sym e) (rising_once v.items r.rising);
   are = λ j w. ap (list_any (nat_eq j)) e ∙ by_test j w (nat_lt i j) refl;
 }
   where

@@ -4,6 +4,8 @@ pub mod EachOnce
 mod Quotients
 mod Occurrences
 mod AtomsIn
+mod Merging
+mod Joining
 mod OutsideWalk
 mod Found
 mod LeftSides

@@ -13,12 +13,12 @@ ghost use Rattle.numbered_terms.specs.Stored.{Grows};
 ghost use Rattle.numbered_facts.specs.Answers.{StandsFor};
 
 use crate::negations::negation;
+use crate::replacements::with_replaced;
 use crate::store::Store;
-use crate::tightening::tightened;
+use crate::tights::tight;
 use logic_core::NormalFault;
 use numbered_forms::normal::normal_over;
 use numbered_forms::substitute::substitute;
-use numbered_terms::replace::replaced;
 use std::alloc::AllocError;
 use term_bank::TermId;
 
@@ -41,7 +41,7 @@ impl<'a> Store<'a> {
         ensures grows { Grows self.old self.new }
         ensures gives { IfOk result (λ i. IsAt self.new.terms i (replaced (at self.old.terms old) (at self.old.terms new) (at self.old.terms id))) }
     {
-        replaced(&mut self.terms, old, new, id)
+        with_replaced(&mut self.terms, &mut self.replacements, old, new, id)
     }
 
     /// The normal form of the same. Wide exactly where a number leaves 128 bits.
@@ -87,6 +87,6 @@ impl<'a> Store<'a> {
         ensures grows { Grows self.old self.new }
         ensures gives { IfOk result (λ i. IsAt self.new.terms i (tighten (at self.old.terms id))) }
     {
-        tightened(&mut self.terms, id)
+        tight(&mut self.terms, &mut self.tights, id)
     }
 }

@@ -3,6 +3,7 @@ ghost use Rattle.std.specs.Prelude.{◌≡◌, map, IfOk, IfSome};
 ghost use Rattle.numbered_facts.specs.Alike.{head_of};
 
 use crate::heads::{heads, same_heads};
+use crate::replacements::Replacement;
 use crate::standing::Standing;
 use crate::store::Store;
 use crate::width::{agree, width_of};
@@ -29,6 +30,8 @@ pub struct Kept {
     atoms: Slots<Vec<TermId>>,
     standing: Slots<Standing>,
     sorts: Slots<Option<Sort>>,
+    replacements: Slots<Replacement>,
+    tights: Slots<TermId>,
     // The variables in the terms stand below this number.
     width: u128,
 }
@@ -47,7 +50,7 @@ impl Model for Kept {
 
     ghost view = { λ a. record { terms = a.terms; vars = a.vars.items; defs = a.heads.items } };
 
-    ghost invariant = { λ a. AreMemos (record { terms = a.terms; vars = a.vars.items; defs = a.heads.items }) a.forms.slots.items a.lefts.slots.items a.negations.slots.items a.atoms.slots.items a.standing.slots.items [] a.sorts.slots.items × AreBelow a.terms (length a.terms) a.width };
+    ghost invariant = { λ a. AreMemos (record { terms = a.terms; vars = a.vars.items; defs = a.heads.items }) a.forms.slots.items a.lefts.slots.items a.negations.slots.items a.atoms.slots.items a.standing.slots.items [] a.sorts.slots.items a.replacements.slots.items a.tights.slots.items × AreBelow a.terms (length a.terms) a.width };
 }
 
 // Written out: a derived drop is proved again wherever a value is dropped.
@@ -63,6 +66,8 @@ impl Drop for Kept {
             atoms: _atoms,
             standing: _standing,
             sorts: _sorts,
+            replacements: _replacements,
+            tights: _tights,
             width: _,
         } = self;
     }
@@ -98,6 +103,8 @@ impl Kept {
             standing,
             bodies: _bodies,
             sorts,
+            replacements,
+            tights,
             counted: _,
             width: _,
         } = store;
@@ -111,6 +118,8 @@ impl Kept {
             atoms,
             standing,
             sorts,
+            replacements,
+            tights,
             width,
         }))
     }
@@ -139,6 +148,8 @@ impl Kept {
             atoms,
             standing,
             sorts,
+            replacements,
+            tights,
             width,
         } = self;
         let counted = terms.len();
@@ -154,6 +165,8 @@ impl Kept {
             standing,
             bodies,
             sorts,
+            replacements,
+            tights,
             counted,
             width,
         }))

@@ -13,7 +13,7 @@ ghost use Rattle.numbered_terms.specs.Slots.{AreKept};
 ghost use Rattle.numbered_facts.specs.Answers.{StandsFor};
 ghost use Rattle.numbered_facts.specs.Memos.{IsSort};
 
-use crate::occurring::{has_quantifier, occurs};
+use crate::occurring::{has_quantifier, is_apart, occurs};
 use crate::sorts::{find_sort, sort_at};
 use logic_core::{Def, Sort, SortKind};
 use numbered_forms::negation::is_zero;
@@ -200,10 +200,7 @@ fn defines(terms: &Terms, variable: TermId, id: TermId) -> Result<bool, AllocErr
     if !is_variable(terms, variable) {
         return Ok(false);
     }
-    if occurs(terms, variable, id)? {
-        return Ok(false);
-    }
-    Ok(!has_quantifier(terms, id)?)
+    is_apart(terms, variable, id)
 }
 
 // The side of an equation that is a variable and is defined by the other side.

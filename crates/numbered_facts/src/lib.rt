@@ -13,10 +13,13 @@ mod memo;
 mod negations;
 mod numbers;
 mod occurring;
+mod replacements;
+mod rising;
 mod saying;
 mod sorts;
 mod standing;
 mod tightening;
+mod tights;
 mod width;
 
 // The store, and what is left of it for the next.

@@ -1,5 +1,5 @@
 // The terms that occur in a term, by number.
-ghost use Rattle.std.specs.Prelude.{◌≡◌, ◌<◌, ◌≤◌, ◌+◌, ◌||◌, Bool, nat_eq, length, IfOk, IfSome, OnOk};
+ghost use Rattle.std.specs.Prelude.{◌≡◌, ◌<◌, ◌≤◌, ◌+◌, ◌||◌, ◌&&◌, not, Bool, nat_eq, length, IfOk, IfSome, OnOk};
 ghost use Rattle.std.specs.List.{list_any, AllByRecursion};
 ghost use Rattle.logic_core.specs.Subterm.{has, occurs, has_quantifier, is_quantifier};
 ghost use Rattle.logic_core.specs.Tree.{Tree};
@@ -111,4 +111,18 @@ pub(crate) fn has_quantifier(terms: &Terms, id: TermId) -> Result<bool, AllocErr
 {
     let found = occurring(terms, id)?;
     Ok(any_quantifier(terms, &found))
+}
+
+/// Whether the first term doesn't occur in the second, where no quantifier stands.
+pub(crate) fn is_apart(terms: &Terms, part: TermId, id: TermId) -> Result<bool, AllocError>
+    requires part { part < length terms.now }
+    requires id { id < length terms.now }
+    ensures { IfOk result (λ b. b ≡ (not (occurs (at terms.now part) (at terms.now id)) && not (has_quantifier (at terms.now id)))) }
+{
+    terms.are_stored();
+    let found = occurring(terms, id)?;
+    if is_among(part, &found) {
+        return Ok(false);
+    }
+    Ok(!any_quantifier(terms, &found))
 }

@@ -8,6 +8,7 @@ ghost use Rattle.numbered_terms.specs.Stored.{Grows};
 ghost use Rattle.numbered_facts.specs.Answers.{StandsFor};
 
 use crate::bodies::{body, number_at};
+use crate::replacements::Replacement;
 use crate::standing::Standing;
 use crate::width::{agree, width_of};
 use logic_core::copy::copy_sorts;
@@ -33,6 +34,8 @@ pub struct Store<'a> {
     pub(crate) standing: Slots<Standing>,
     pub(crate) bodies: Slots<Option<TermId>>,
     pub(crate) sorts: Slots<Option<Sort>>,
+    pub(crate) replacements: Slots<Replacement>,
+    pub(crate) tights: Slots<TermId>,
     // Below which number the variables in so many of the terms stand.
     pub(crate) counted: usize,
     pub(crate) width: u128,
@@ -51,7 +54,7 @@ impl<'a> Model for Store<'a> {
 
     ghost view = { λ a. record { terms = a.terms; vars = a.vars.items; defs = a.defs.now } };
 
-    ghost invariant = { λ a. AreMemos (record { terms = a.terms; vars = a.vars.items; defs = a.defs.now }) a.forms.slots.items a.lefts.slots.items a.negations.slots.items a.atoms.slots.items a.standing.slots.items a.bodies.slots.items a.sorts.slots.items × AreCounted a.terms a.counted a.width };
+    ghost invariant = { λ a. AreMemos (record { terms = a.terms; vars = a.vars.items; defs = a.defs.now }) a.forms.slots.items a.lefts.slots.items a.negations.slots.items a.atoms.slots.items a.standing.slots.items a.bodies.slots.items a.sorts.slots.items a.replacements.slots.items a.tights.slots.items × AreCounted a.terms a.counted a.width };
 }
 
 impl<'a> Store<'a> {
@@ -71,6 +74,8 @@ impl<'a> Store<'a> {
             standing: Slots::new(alloc),
             bodies: Slots::new(alloc),
             sorts: Slots::new(alloc),
+            replacements: Slots::new(alloc),
+            tights: Slots::new(alloc),
             counted: 0,
             width: 0,
         }

@@ -12,7 +12,7 @@ body-requires c = record { right = c.self.invariant.0.bodies }
 
 pub invariant_of-self : goal.invariant_of-self
 invariant_of-self c = let us = c.body.new.terms in
-    let m = memos_later c.self.inside.terms us c.self.inside.vars.items c.self.inside.defs.now c.self.inside.forms.slots.items c.self.inside.lefts.slots.items c.self.inside.negations.slots.items c.self.inside.atoms.slots.items c.self.inside.standing.slots.items c.self.inside.bodies.slots.items c.self.inside.sorts.slots.items c.body.ensures.grows c.self.invariant.0 in (
+    let m = memos_later c.self.inside.terms us c.self.inside.vars.items c.self.inside.defs.now c.self.inside.forms.slots.items c.self.inside.lefts.slots.items c.self.inside.negations.slots.items c.self.inside.atoms.slots.items c.self.inside.standing.slots.items c.self.inside.bodies.slots.items c.self.inside.sorts.slots.items c.self.inside.replacements.slots.items c.self.inside.tights.slots.items c.body.ensures.grows c.self.invariant.0 in (
       record {
         forms = m.forms;
         lefts = m.lefts;
@@ -21,6 +21,8 @@ invariant_of-self c = let us = c.body.new.terms in
         standing = m.standing;
         bodies = c.body.ensures.right;
         sorts = m.sorts;
+        replacements = m.replacements;
+        tights = m.tights;
       },
       counted_later c.self.inside.terms c.body.new.terms c.self.inside.counted c.self.inside.width c.body.ensures.grows c.self.invariant.1,
     )

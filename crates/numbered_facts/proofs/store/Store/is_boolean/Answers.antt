@@ -18,6 +18,8 @@ invariant_of-self c = (
     standing = c.self.invariant.0.standing;
     bodies = c.self.invariant.0.bodies;
     sorts = sorts_over c.self.inside.terms c.find_sort.new.memo.slots.items c.deref.result.now c.self.inside.vars.items c.self.inside.defs.now c.self.inside.defs.now c.deref.ensures.value refl c.find_sort.ensures.right;
+    replacements = c.self.invariant.0.replacements;
+    tights = c.self.invariant.0.tights;
   },
   c.self.invariant.1,
 )
@@ -32,6 +34,8 @@ invariant_of-self-2 c = (
     standing = c.self.invariant.0.standing;
     bodies = c.self.invariant.0.bodies;
     sorts = sorts_over c.self.inside.terms c.find_sort.new.memo.slots.items c.deref.result.now c.self.inside.vars.items c.self.inside.defs.now c.self.inside.defs.now c.deref.ensures.value refl c.find_sort.ensures.right;
+    replacements = c.self.invariant.0.replacements;
+    tights = c.self.invariant.0.tights;
   },
   c.self.invariant.1,
 )

@@ -21,6 +21,8 @@ invariant_of-self c = let ts = c.self.inside.terms in let ls = c.left.new.lefts.
     standing = c.self.invariant.0.standing;
     bodies = c.self.invariant.0.bodies;
     sorts = sorts_over c.self.inside.terms c.left.new.sorts.slots.items c.deref.result.now c.self.inside.vars.items c.self.inside.defs.now c.self.inside.defs.now c.deref.ensures.value refl c.left.ensures.sorts;
+    replacements = c.self.invariant.0.replacements;
+    tights = c.self.invariant.0.tights;
   },
   c.self.invariant.1,
 )

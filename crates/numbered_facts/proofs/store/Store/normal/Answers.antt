@@ -10,7 +10,7 @@ normal_over-requires-clause-forms c = let ts = c.self.inside.terms in let fs = c
 
 pub invariant_of-self : goal.invariant_of-self
 invariant_of-self c = let ts = c.normal_over.new.terms in let fs = c.normal_over.new.forms.slots.items in
-    let m = memos_later c.self.inside.terms ts c.self.inside.vars.items c.self.inside.defs.now c.self.inside.forms.slots.items c.self.inside.lefts.slots.items c.self.inside.negations.slots.items c.self.inside.atoms.slots.items c.self.inside.standing.slots.items c.self.inside.bodies.slots.items c.self.inside.sorts.slots.items c.normal_over.ensures.grows c.self.invariant.0 in (
+    let m = memos_later c.self.inside.terms ts c.self.inside.vars.items c.self.inside.defs.now c.self.inside.forms.slots.items c.self.inside.lefts.slots.items c.self.inside.negations.slots.items c.self.inside.atoms.slots.items c.self.inside.standing.slots.items c.self.inside.bodies.slots.items c.self.inside.sorts.slots.items c.self.inside.replacements.slots.items c.self.inside.tights.slots.items c.normal_over.ensures.grows c.self.invariant.0 in (
       record {
         forms = subst (λ vs. AreForms vs c.self.inside.defs.now ts fs) c.deref.ensures.value c.normal_over.ensures.forms;
         lefts = m.lefts;
@@ -19,6 +19,8 @@ invariant_of-self c = let ts = c.normal_over.new.terms in let fs = c.normal_over
         standing = m.standing;
         bodies = m.bodies;
         sorts = m.sorts;
+        replacements = m.replacements;
+        tights = m.tights;
       },
       counted_later c.self.inside.terms c.normal_over.new.terms c.self.inside.counted c.self.inside.width c.normal_over.ensures.grows c.self.invariant.1,
     )

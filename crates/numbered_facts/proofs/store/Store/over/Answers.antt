@@ -19,6 +19,6 @@ pub invariant_of-self-then-agree : goal.invariant_of-self-then-agree
 invariant_of-self-then-agree c =
     let n = c.width_of-self-inside.result in let ts = c.self.inside.terms in let vs = c.self.inside.vars.items in let ws = c.in_ok-self-inside.field-0.items in let ds = c.self.inside.defs.now in
     let front : take n vs ≡ take n ws = same_front n vs c.args.vars.now c.deref-2.result.now ws c.agree.result c.deref-2.ensures.value c.in_ok-self-inside.ensures c.agree.ensures c.if-agree.true in (
-      memos_with ts n vs ds ws ds c.width_of-self-inside.ensures (agree n vs ds ws ds front refl) c.self.inside.forms.slots.items c.self.inside.lefts.slots.items c.self.inside.negations.slots.items c.self.inside.atoms.slots.items c.self.inside.standing.slots.items c.self.inside.bodies.slots.items c.self.inside.sorts.slots.items c.self.inside.bodies.slots.items c.self.invariant.0.bodies c.self.invariant.0,
+      memos_with ts n vs ds ws ds c.width_of-self-inside.ensures (agree n vs ds ws ds front refl) c.self.inside.forms.slots.items c.self.inside.lefts.slots.items c.self.inside.negations.slots.items c.self.inside.atoms.slots.items c.self.inside.standing.slots.items c.self.inside.bodies.slots.items c.self.inside.sorts.slots.items c.self.inside.replacements.slots.items c.self.inside.tights.slots.items c.self.inside.bodies.slots.items c.self.invariant.0.bodies c.self.invariant.0,
       subst (λ (k : ℕ). AreCounted ts k n) (sym c.len-self-inside.ensures) (all_counted ts n c.width_of-self-inside.ensures),
     )

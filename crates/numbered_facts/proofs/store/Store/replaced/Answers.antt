@@ -8,7 +8,8 @@ use Rattle.numbered_facts.proofs.WidthBelow.{counted_later}
 use Rattle.numbered_facts.proofs.store.Store.replaced.Goals as goal
 
 pub invariant_of-self : goal.invariant_of-self
-invariant_of-self c = (memos_later c.self.inside.terms c.replaced.new.terms c.self.inside.vars.items c.self.inside.defs.now c.self.inside.forms.slots.items c.self.inside.lefts.slots.items c.self.inside.negations.slots.items c.self.inside.atoms.slots.items c.self.inside.standing.slots.items c.self.inside.bodies.slots.items c.self.inside.sorts.slots.items c.replaced.ensures.grows c.self.invariant.0, counted_later c.self.inside.terms c.replaced.new.terms c.self.inside.counted c.self.inside.width c.replaced.ensures.grows c.self.invariant.1)
+invariant_of-self c = let m = memos_later c.self.inside.terms c.with_replaced.new.terms c.self.inside.vars.items c.self.inside.defs.now c.self.inside.forms.slots.items c.self.inside.lefts.slots.items c.self.inside.negations.slots.items c.self.inside.atoms.slots.items c.self.inside.standing.slots.items c.self.inside.bodies.slots.items c.self.inside.sorts.slots.items c.self.inside.replacements.slots.items c.self.inside.tights.slots.items c.with_replaced.ensures.grows c.self.invariant.0 in
+    (record { forms = m.forms; lefts = m.lefts; negations = m.negations; atoms = m.atoms; standing = m.standing; bodies = m.bodies; sorts = m.sorts; replacements = c.with_replaced.ensures.right; tights = m.tights }, counted_later c.self.inside.terms c.with_replaced.new.terms c.self.inside.counted c.self.inside.width c.with_replaced.ensures.grows c.self.invariant.1)
 
 pub returns-clause-gives : goal.returns-clause-gives
-returns-clause-gives c = subst (λ (n : Numbered). IfOk c.replaced.result (λ i. IsAt c.replaced.new.terms i (replaced (at n.terms c.args.old) (at n.terms c.args.new) (at n.terms c.args.id)))) c.self.view_is c.replaced.ensures.gives
+returns-clause-gives c = subst (λ (n : Numbered). IfOk c.with_replaced.result (λ i. IsAt c.with_replaced.new.terms i (replaced (at n.terms c.args.old) (at n.terms c.args.new) (at n.terms c.args.id)))) c.self.view_is c.with_replaced.ensures.gives

@@ -3,4 +3,4 @@ use Rattle.numbered_facts.proofs.WidthBelow.{counted_later}
 use Rattle.numbered_facts.proofs.store.Store.says.Goals as goal
 
 pub invariant_of-self : goal.invariant_of-self
-invariant_of-self c = (memos_later c.self.inside.terms c.says.new.terms c.self.inside.vars.items c.self.inside.defs.now c.self.inside.forms.slots.items c.self.inside.lefts.slots.items c.self.inside.negations.slots.items c.self.inside.atoms.slots.items c.self.inside.standing.slots.items c.self.inside.bodies.slots.items c.self.inside.sorts.slots.items c.says.ensures.grows c.self.invariant.0, counted_later c.self.inside.terms c.says.new.terms c.self.inside.counted c.self.inside.width c.says.ensures.grows c.self.invariant.1)
+invariant_of-self c = (memos_later c.self.inside.terms c.says.new.terms c.self.inside.vars.items c.self.inside.defs.now c.self.inside.forms.slots.items c.self.inside.lefts.slots.items c.self.inside.negations.slots.items c.self.inside.atoms.slots.items c.self.inside.standing.slots.items c.self.inside.bodies.slots.items c.self.inside.sorts.slots.items c.self.inside.replacements.slots.items c.self.inside.tights.slots.items c.says.ensures.grows c.self.invariant.0, counted_later c.self.inside.terms c.says.new.terms c.self.inside.counted c.self.inside.width c.says.ensures.grows c.self.invariant.1)
