@@ -1,5 +1,6 @@
 pub mod Among
 pub mod Appending
+pub mod Between
 pub mod Carried
 pub mod Changing
 pub mod EachOnce

@@ -1,6 +1,6 @@
 -- Facts by number that are changed one after another, one fact on.
-use Rattle.std.proofs.Common.{◌≡◌, refl, sym, ap, subst, ◌∙◌, ℕ, ◌+◌, ◌-◌, ◌<◌, ◌≤◌, Option, Some, None, List, [], ◌∷◌, ◌++◌, map, length, take, drop, slice_get, arith}
-use Rattle.std.proofs.lemmas.List.{take-map, drop-map, length-map, length-drop, take_all, drop_all}
+use Rattle.std.proofs.Common.{◌≡◌, refl, sym, ap, subst, ◌∙◌, ℕ, ◌+◌, Option, Some, None, List, [], ◌∷◌, ◌++◌, map, length, take, drop, slice_get}
+use Rattle.std.proofs.lemmas.List.{take-map, drop-map}
 use Rattle.std.proofs.lemmas.Option.{slice_get_within, get_or_from_slice_get}
 use Rattle.logic_core.specs.Tree.{Tree, Kind}
 use Rattle.proof_core.specs.Proof.{Step}
@@ -86,21 +86,8 @@ module _ (n : Numbered) (r : Replacing) (h : IsReplacing n.terms r) where
     pub changed_wide : replaced_in n.defs r.ground (at n.terms r.left) (at n.terms r.right) old.branch.vars (fact_at n.terms f) ≡ None → changed_on n r old place ≡ None
     changed_wide leaves = replaced_wide n.defs r.ground (at n.terms r.left) (at n.terms r.right) (made_at n.terms old) place (fact_at n.terms f) (at_place n.terms old.branch.facts place f got) leaves
 
--- the variables stay, and a fact less is left
+-- the variables stay
 pub vars_stay : (n u v : Numbered) (step : Step) (t : Tree) (g : Fact) (place : ℕ) (old more made : NumberedMade) → Grows n u → Grows u v → n.vars ≡ old.branch.vars
     → made_at v.terms more ≡ (appended_one (step ∷ []) t (made_at u.terms old)).1 → made_at v.terms made ≡ changed_at place g (made_at v.terms more) → v.vars ≡ made.branch.vars
 vars_stay n u v step t g place old more made a b vars is_more is_made = b.vars ∙ a.vars ∙ vars
     ∙ sym (ap (λ (m : Made). m.branch.vars) is_made ∙ ap (λ (m : Made). m.branch.vars) is_more)
-
-pub fewer_left : (u v : Numbered) (step : Step) (t : Tree) (place k : ℕ) (old more made : NumberedMade) → made_at v.terms more ≡ (appended_one (step ∷ []) t (made_at u.terms old)).1
-    → drop k made.branch.facts ≡ drop (place + 1) more.branch.facts → place < length old.branch.facts → length made.branch.facts - k < length old.branch.facts - place
-fewer_left u v step t place k old more made is_more behind l =
-    let long : length more.branch.facts ≡ length old.branch.facts = sym (length-map more.branch.facts (fact_at v.terms)) ∙ ap (λ (m : Made). length m.branch.facts) is_more ∙ length-map old.branch.facts (fact_at u.terms) in
-    omega (arith, l, long, length-drop k made.branch.facts, length-drop (place + 1) more.branch.facts, ap length behind)
-
--- where all facts are done
-pub changed_end : (n : Numbered) (r : Replacing) (m : NumberedMade) (k : ℕ) → length m.branch.facts ≤ k → changed_on n r m k ≡ Some (made_at n.terms m)
-changed_end n r m k l =
-    let fs = map (fact_at n.terms) m.branch.facts in
-    let long : length fs ≤ k = omega (arith, l, length-map m.branch.facts (fact_at n.terms)) in
-    rw (take_all k fs long, drop_all k fs long) refl

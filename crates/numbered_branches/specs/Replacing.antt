@@ -1,14 +1,15 @@
 -- A term replaced in facts by number.
-use Rattle.std.specs.Prelude.{◌≡◌, ℕ, ◌<◌, true, Option, Some, None, Result, Ok, Err, List, length}
+use Rattle.std.specs.Prelude.{◌≡◌, ℕ, ◌<◌, true, false, Option, Some, None, Result, Ok, Err, List, length}
 use Rattle.std.specs.Bool.{⊤}
 use Rattle.logic_core.specs.Tree.{Tree}
 use Rattle.logic_core.specs.declared.fault.NormalFault.{NormalFault}
 use Rattle.logic_core.specs.declared.fault.NormalFault.TheVariants.{Wide}
 use Rattle.proof_core.specs.Proof.{Step}
 use Rattle.term_bank.specs.Numbered.{at}
+use Rattle.tableau_branch.specs.Branch.{Fact}
 use Rattle.tableau_branch.specs.Change.{Made}
 use Rattle.tableau_branch.specs.Oriented.{is_application}
-use Rattle.tableau_branch.specs.Replacing.{replaced_from}
+use Rattle.tableau_branch.specs.Replacing.{picks_on, replaced_from}
 use Rattle.tableau_branch.specs.declared.changing.Ground.{Ground}
 use Rattle.tableau_branch.specs.declared.changing.Ground.TheVariants as ground
 use Rattle.numbered_terms.specs.Stored.{Numbered}
@@ -25,6 +26,10 @@ pub record IsReplacing (ts : List Tree) (r : Replacing) : Type 0 where
   pub left : r.left < length ts
   pub right : r.right < length ts
   pub ground : IsOnGround r.ground (at ts r.left)
+
+-- the term isn't to be replaced in the fact
+abbrev pub IsPassed : List Tree → Replacing → Fact → Type 0
+IsPassed ts r f = picks_on r.ground (at ts r.left) f ≡ false
 
 -- the facts from place k on changed, where those before it are done
 abbrev pub changed_on : Numbered → Replacing → NumberedMade → ℕ → Option Made

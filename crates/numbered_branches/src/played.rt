@@ -1,20 +1,17 @@
 // Moves over the numbers of terms, and what the proof needs of them.
-ghost use Rattle.std.specs.Prelude.{◌≡◌, ◌++◌, IfOk, OnOk, length, map, reverse};
-ghost use Rattle.std.specs.List.{AllByRecursion};
-ghost use Rattle.tableau_branch.specs.View.{played_of, each_steps, ending_of};
-ghost use Rattle.numbered_branches.specs.Branches.{IsStepBelow, step_at};
-ghost use Rattle.numbered_branches.specs.Moves.{IsEndingBelow, IsPlayedBelow, ending_at, played_at, on_one, cost, branches_of, steps_of, played};
+ghost use Rattle.std.specs.Prelude.{◌≡◌, ◌++◌, IfOk, OnOk, length, reverse};
+ghost use Rattle.tableau_branch.specs.View.{ending_of};
+ghost use Rattle.numbered_branches.specs.Moves.{IsEndingBelow, ending_at, on_one, cost, branches_of, steps_of, played};
 ghost use Rattle.numbered_branches.specs.NumberedChange.{begun};
 ghost use Rattle.numbered_branches.specs.View.{ending_seen, each_seen, move_seen, played_seen};
 
 use crate::branch::Branch;
-use crate::step::{Step, step_trees};
+use crate::step::Step;
 use numbered_forms::tree::tree;
 use numbered_terms::Terms;
-use proof_core::proof::Step as TreeStep;
 use std::alloc::{AllocError, Global};
 use std::marker::Model;
-use tableau_branch::played::{Ending as TreeEnding, Played as TreePlayed};
+use tableau_branch::played::Ending as TreeEnding;
 use term_bank::TermId;
 
 /// What a step makes of a branch: the branch, the nodes with which its proof begins, and the sizes of
@@ -93,7 +90,7 @@ pub struct Played {
 
 impl Ending {
     /// The ending over trees.
-    fn tree(&self, terms: &Terms) -> Result<TreeEnding, AllocError>
+    pub fn tree(&self, terms: &Terms) -> Result<TreeEnding, AllocError>
         requires { IsEndingBelow (length terms.now) (ending_seen self.now) }
         ensures { IfOk result (λ e. ending_of e ≡ ending_at terms.now (ending_seen self.now)) }
     {
@@ -108,29 +105,6 @@ impl Ending {
             Ending::Passes(id) => Ok(TreeEnding::Passes(tree(terms, *id)?)),
             Ending::Decides(id) => Ok(TreeEnding::Decides(tree(terms, *id)?)),
         }
-    }
-}
-
-fn each_tree(terms: &Terms, lists: &[Vec<Step>]) -> Result<Vec<Vec<TreeStep>>, AllocError>
-    requires { AllByRecursion (AllByRecursion (IsStepBelow (length terms.now))) (each_seen lists.now) }
-    ensures { IfOk result (λ v. each_steps v.items ≡ map (map (step_at terms.now)) (each_seen lists.now)) }
-{
-    let mut all = Vec::new(terms.alloc());
-    for list in lists {
-        all.push(step_trees(terms, list)?)?;
-    }
-    Ok(all)
-}
-
-impl Played {
-    /// The same over trees.
-    pub fn tree(&self, terms: &Terms) -> Result<TreePlayed, AllocError>
-        requires { IsPlayedBelow (length terms.now) (played_seen self.now) }
-        ensures { IfOk result (λ p. played_of p ≡ played_at terms.now (played_seen self.now)) }
-    {
-        let ending = self.ending.tree(terms)?;
-        let steps = each_tree(terms, &self.steps)?;
-        Ok(TreePlayed { ending, steps })
     }
 }
 

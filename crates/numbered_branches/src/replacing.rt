@@ -1,7 +1,7 @@
 // A term replaced in facts by number, one fact after another.
-ghost use Rattle.std.specs.Prelude.{◌≡◌, ◌<◌, ◌≤◌, ◌+◌, ◌-◌, ◌^◌, ℕ, nat_eq, true, Some, None, List, length, slice_get, IfOk, IfErr, OnOk};
+ghost use Rattle.std.specs.Prelude.{◌≡◌, ◌<◌, ◌≤◌, ◌+◌, ◌-◌, ◌^◌, ℕ, nat_eq, true, Some, None, List, length, map, take, drop, slice_get, IfOk, IfErr, OnOk};
 ghost use Rattle.logic_core.specs.Tree.{Tree};
-ghost use Rattle.std.specs.List.{list_any};
+ghost use Rattle.std.specs.List.{list_any, AllByRecursion};
 ghost use Rattle.logic_core.specs.Gives.{GivesAs};
 ghost use Rattle.proof_core.specs.Split.{stands_in};
 ghost use Rattle.tableau_branch.specs.Oriented.{is_application};
@@ -10,7 +10,7 @@ ghost use Rattle.term_bank.specs.Numbered.{at};
 ghost use Rattle.numbered_terms.specs.Stored.{Grows};
 ghost use Rattle.numbered_branches.specs.Branches.{fact_at, made_at, step_at, IsFactBelow, IsStepBelow, IsMadeOver};
 ghost use Rattle.numbered_branches.specs.StepView.{step_seen};
-ghost use Rattle.numbered_branches.specs.Replacing.{IsReplacing, changed_on, ChangesTo};
+ghost use Rattle.numbered_branches.specs.Replacing.{IsReplacing, IsPassed, changed_on, ChangesTo};
 
 use crate::append::append_by;
 use crate::branch::Fact;
@@ -132,8 +132,7 @@ fn change_next(
     ensures vars { OnOk result (store.new.vars ≡ made.new.branch.vars) }
     ensures gives { IfOk result (λ k. changed_on store.new replacing.now made.new k ≡ changed_on store.old replacing.now made.old at) }
     ensures wide { IfErr result (λ e. e ≡ NormalFault.Wide → changed_on store.old replacing.now made.old at ≡ None) }
-    ensures within { IfOk result (λ k. k ≤ length made.new.branch.facts) }
-    ensures nearer { IfOk result (λ k. length made.new.branch.facts - k < length made.old.branch.facts - at) }
+    ensures behind { IfOk result (λ k. drop k (map (fact_at store.new.terms) made.new.branch.facts) ≡ drop (at + 1) (map (fact_at store.old.terms) made.old.branch.facts)) }
 {
     let fact = fact_in(made, at);
     match replacing.form_in(store, &fact)? {
@@ -145,8 +144,43 @@ fn change_next(
     }
 }
 
-/// The term is replaced in each fact in which it is to be, one fact after another. Wide exactly where
-/// a normal form leaves 128 bits.
+/// The term is replaced in each fact in which it is to be, one fact after another, where all of these
+/// stand between two places. Wide exactly where a normal form leaves 128 bits.
+pub fn change_between(
+    store: &mut Store,
+    made: &mut Made,
+    replacing: &Replacing,
+    from: usize,
+    until: usize,
+) -> Result<(), NormalFault>
+    requires made { IsMadeOver store.old.terms made.old }
+    requires vars { store.old.vars ≡ made.old.branch.vars }
+    requires replacing { IsReplacing store.old.terms replacing.now }
+    requires order { from ≤ until }
+    requires within { until ≤ length made.old.branch.facts }
+    requires front { AllByRecursion (IsPassed store.old.terms replacing.now) (take from (map (fact_at store.old.terms) made.old.branch.facts)) }
+    requires rest { AllByRecursion (IsPassed store.old.terms replacing.now) (drop until (map (fact_at store.old.terms) made.old.branch.facts)) }
+    ensures grows { Grows store.old store.new }
+    ensures made { OnOk result (IsMadeOver store.new.terms made.new) }
+    ensures vars { OnOk result (store.new.vars ≡ made.new.branch.vars) }
+    ensures gives { GivesAs (λ _. made_at store.new.terms made.new) result (replaced_each store.old.defs replacing.now.ground (at store.old.terms replacing.now.left) (at store.old.terms replacing.now.right) (made_at store.old.terms made.old)) }
+{
+    let mut at = from;
+    for _ in from..until {
+        let next = change_next(store, made, at, replacing)?;
+        at = next;
+    }
+    Ok(())
+}
+
+// How many facts the branch has.
+fn count_facts(made: &Made) -> usize
+    ensures { result ≡ length made.now.branch.facts }
+{
+    made.branch.facts.len()
+}
+
+/// The same, wherever they stand.
 pub fn change_each(
     store: &mut Store,
     made: &mut Made,
@@ -160,9 +194,6 @@ pub fn change_each(
     ensures vars { OnOk result (store.new.vars ≡ made.new.branch.vars) }
     ensures gives { GivesAs (λ _. made_at store.new.terms made.new) result (replaced_each store.old.defs replacing.now.ground (at store.old.terms replacing.now.left) (at store.old.terms replacing.now.right) (made_at store.old.terms made.old)) }
 {
-    let mut at: usize = 0;
-    while at < made.branch.facts.len() {
-        at = change_next(store, made, at, replacing)?;
-    }
-    Ok(())
+    let count = count_facts(made);
+    change_between(store, made, replacing, 0, count)
 }

@@ -1,7 +1,7 @@
 // Nodes of proofs over the numbers of terms.
 ghost use Rattle.std.specs.Prelude.{◌≡◌, ◌<◌, length, map, IfOk};
 ghost use Rattle.std.specs.List.{AllByRecursion};
-ghost use Rattle.proof_core.specs.View.{step_of, steps_of};
+ghost use Rattle.proof_core.specs.View.{step_of};
 ghost use Rattle.term_bank.specs.Numbered.{at};
 ghost use Rattle.numbered_branches.specs.Branches.{IsStepBelow, step_at};
 ghost use Rattle.numbered_branches.specs.StepView.{step_seen};
@@ -107,16 +107,4 @@ impl Step {
             Step::Tighten(fact) => Ok(TreeStep::Tighten(*fact)),
         }
     }
-}
-
-/// The nodes over trees.
-pub fn step_trees(terms: &Terms, steps: &[Step]) -> Result<Vec<TreeStep>, AllocError>
-    requires { AllByRecursion (IsStepBelow (length terms.now)) (map step_seen steps.now) }
-    ensures { IfOk result (λ v. steps_of v.items ≡ map (step_at terms.now) (map step_seen steps.now)) }
-{
-    let mut all = Vec::new(terms.alloc());
-    for step in steps {
-        all.push(step.tree(terms)?)?;
-    }
-    Ok(all)
 }

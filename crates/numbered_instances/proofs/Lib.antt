@@ -4,6 +4,7 @@ pub mod FactTuples
 pub mod NewTuples
 pub mod SharedAtoms
 pub mod Alone
+pub mod NearFacts
 pub mod WithinTerms
 pub mod LeftSides
 pub mod ListedFacts

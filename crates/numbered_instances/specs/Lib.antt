@@ -1,5 +1,6 @@
 pub mod Instances
 pub mod Candidates
 pub mod Shared
+pub mod Near
 pub mod Lefts
 pub mod Finding

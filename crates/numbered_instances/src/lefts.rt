@@ -169,6 +169,7 @@ pub fn oldest_left(
     ensures left { IfOk result (λ o. option_map (left_at store.new.terms) o ≡ oldest (left_in_another store.old.defs (branch_at store.old.terms branch.now)) (branch_at store.old.terms branch.now)) }
     ensures over { IfOk result (λ o. IfSome o (IsLeftOver store.new.terms)) }
     ensures counted { OnOk result (IsCounted store.new.terms shared.new) }
+    ensures listed { OnOk result (shared.new.listed.items ≡ map (λ f. f.term) branch.now.facts) }
 {
     let facts = facts_of(branch);
     shared.list(store, facts)?;

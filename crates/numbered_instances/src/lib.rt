@@ -28,6 +28,7 @@ pub mod tuples;
 // The rule rewrite.
 mod counts;
 pub mod lefts;
+mod near;
 pub mod rewriting;
 pub mod shared;
 pub mod within;

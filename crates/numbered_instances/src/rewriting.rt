@@ -1,5 +1,5 @@
 // The rule rewrite, by number.
-ghost use Rattle.std.specs.Prelude.{◌≡◌, ◌<◌, length, OnOk};
+ghost use Rattle.std.specs.Prelude.{◌≡◌, ◌<◌, length, map, OnOk};
 ghost use Rattle.logic_core.specs.Gives.{GivesAs};
 ghost use Rattle.logic_rules.specs.Rewriting.{rewritten_by, rewrite};
 ghost use Rattle.logic_rules.specs.View.{rest_rewritten};
@@ -7,15 +7,16 @@ ghost use Rattle.term_bank.specs.Numbered.{at};
 ghost use Rattle.numbered_terms.specs.Stored.{Grows};
 ghost use Rattle.numbered_branches.specs.Branches.{IsBranchOver, IsFactBelow, IsMadeOver, branch_at, fact_at, made_at};
 ghost use Rattle.numbered_branches.specs.Applied.{TriesAt, GivesMoveAt};
-ghost use Rattle.numbered_instances.specs.Shared.{IsCounted};
+ghost use Rattle.numbered_instances.specs.Shared.{AreShared, IsCounted};
 
 use crate::lefts::oldest_left;
+use crate::near::change_near;
 use crate::shared::Shared;
 use crate::within::{rewrite_marks, rewrite_terms};
 use logic_core::NormalFault;
 use numbered_branches::branch::{Branch, Fact, Mark};
 use numbered_branches::played::{Attempt, Made, Move};
-use numbered_branches::replacing::{Replacing, change_each};
+use numbered_branches::replacing::Replacing;
 use numbered_facts::Store;
 use tableau_branch::changing::Ground;
 use term_bank::TermId;
@@ -63,18 +64,21 @@ fn rewrite_rest(
     Ok(())
 }
 
-// By this fact its left side becomes the right one in all other facts, in the seen calls and in the marks.
+// By the fact at this place its left side becomes the right one in all other facts, in the seen calls and in the marks.
 // Wide exactly where the right side or a normal form leaves 128 bits.
 fn rewrite_by(
     store: &mut Store,
+    shared: &Shared,
     branch: Branch,
     fact: &Fact,
     left: TermId,
+    place: usize,
 ) -> Result<Move, NormalFault>
     requires branch { IsBranchOver store.old.terms branch }
     requires vars { store.old.vars ≡ branch.vars }
     requires fact { IsFactBelow (length store.old.terms) fact.now }
     requires left { left < length store.old.terms }
+    requires shared { AreShared store.old.terms (map (λ f. f.term) branch.facts) shared.now.counts.items }
     ensures grows { Grows store.old store.new }
     ensures gives { GivesMoveAt store.new.terms result (rewritten_by store.old.defs (branch_at store.old.terms branch) (fact_at store.old.terms fact.now) (at store.old.terms left)) }
 {
@@ -87,7 +91,7 @@ fn rewrite_by(
         right,
     };
     let mut made = Made::begun(store.alloc(), branch);
-    change_each(store, &mut made, &replacing)?;
+    change_near(store, shared, &mut made, &replacing, place)?;
     rewrite_rest(store, &mut made, left, right)?;
     Ok(Move::on_one(store.alloc(), made)?)
 }
@@ -108,7 +112,7 @@ pub fn rewrite(
 {
     match oldest_left(store, shared, &branch)? {
         Some(found) => {
-            let made = rewrite_by(store, branch, &found.fact, found.term)?;
+            let made = rewrite_by(store, shared, branch, &found.fact, found.term, found.at)?;
             Ok(Attempt::Gives(made))
         }
         None => Ok(Attempt::Passes(branch)),

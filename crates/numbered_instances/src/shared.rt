@@ -1,5 +1,5 @@
 // In how many facts of a branch each atom occurs, kept from branch to branch.
-ghost use Rattle.std.specs.Prelude.{◌≡◌, ◌<◌, ◌++◌, ◌∷◌, [], ℕ, List, nat_eq, true, false, length, map, drop, IfOk, IfSome, OnOk};
+ghost use Rattle.std.specs.Prelude.{◌≡◌, ◌<◌, ◌++◌, ◌∷◌, [], ℕ, List, nat_eq, true, false, length, map, drop, IfOk, IfSome, OnOk, get_or};
 ghost use Rattle.std.specs.List.{AllByRecursion};
 ghost use Rattle.logic_core.specs.Tree.{Tree};
 ghost use Rattle.term_bank.specs.Numbered.{at};
@@ -196,6 +196,13 @@ impl Shared {
         leave_rest(store, &mut self.counts, &self.listed, from)?;
         list_again(&mut self.listed, facts)?;
         Ok(())
+    }
+
+    /// In how many of the facts the term occurs, where it is an atom.
+    pub fn count(&self, id: TermId) -> usize
+        ensures { result ≡ get_or self.now.counts.items id 0 }
+    {
+        count_of(&self.counts, id)
     }
 
     /// Whether the term is an atom that occurs in one of the facts alone.

@@ -29,3 +29,9 @@ returns-clause-facts c = all_facts c.args.store.now.terms c.loop-term.store.term
 
 pub returns-clause-made : goal.returns-clause-made
 returns-clause-made c = all_steps c.args.store.now.terms c.loop-term.store.terms c.args.terms.now c.loop-term.term-index c.loop-term.number c.loop-term-test.false c.loop-term.made c.loop-term.facts.items _ c.loop-term.invariant.over c.loop-term.invariant.made
+
+pub returns-in_err-fact-clause-grows : goal.returns-in_err-fact-clause-grows
+returns-in_err-fact-clause-grows c = then c.args.store.now c.loop-term.store c.tightened.new.store c.loop-term.invariant.grows c.tightened.ensures.grows
+
+pub returns-in_err-push-clause-grows : goal.returns-in_err-push-clause-grows
+returns-in_err-push-clause-grows c = then c.args.store.now c.loop-term.store c.tightened.new.store c.loop-term.invariant.grows c.in_ok-fact.ensures.grows

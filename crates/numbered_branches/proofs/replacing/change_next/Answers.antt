@@ -3,9 +3,11 @@ use Rattle.term_bank.specs.Numbered.{at}
 use Rattle.tableau_branch.proofs.ChangedFacts.{wide_err}
 use Rattle.numbered_branches.specs.Branches.{step_at}
 use Rattle.numbered_branches.specs.StepView.{step_seen}
+use Rattle.numbered_branches.proofs.Between.{behind_passed, behind_changed}
 use Rattle.numbered_branches.proofs.Changing.{made_more}
-use Rattle.numbered_branches.proofs.Replaced.{got_below, over_vars, changed_next, changed_not, changed_wide, fewer_left}
+use Rattle.numbered_branches.proofs.Replaced.{got_below, over_vars, changed_next, changed_not, changed_wide}
 use Rattle.numbered_branches.proofs.Growing.{below}
+use Rattle.numbered_facts.proofs.Growing.{then}
 use Rattle.numbered_branches.proofs.replacing.change_next.Goals as goal
 
 pub returns-in_err-form-clause-wide : goal.returns-in_err-form-clause-wide
@@ -43,10 +45,10 @@ returns-in_ok-changed-in-Some-clause-gives c =
     c.in_ok-form.ensures.grows c.in_ok-changed-in-Some.ensures.grows low (c.node.ensures.node u.terms) (over_vars n r f old.branch.vars _ c.requires.vars change.1)
     c.in_ok-changed-in-Some.ensures.fact.1 c.in_ok-changed-in-Some.ensures.made.1 before c.change_at.ensures.behind made.1
 
-pub returns-in_ok-changed-in-Some-clause-nearer : goal.returns-in_ok-changed-in-Some-clause-nearer
-returns-in_ok-changed-in-Some-clause-nearer c =
+pub returns-in_ok-changed-in-Some-clause-behind : goal.returns-in_ok-changed-in-Some-clause-behind
+returns-in_ok-changed-in-Some-clause-behind c =
     let us = c.form_in.new.store.terms in
-    fewer_left c.form_in.new.store c.append_by.new.store (step_at us (step_seen c.node.result)) (at us c.in-Some.form) c.args.at c.change_at.result c.args.made.now c.append_by.new.made c.change_at.new.made c.in_ok-changed-in-Some.ensures.made.1 c.change_at.ensures.behind c.requires.there
+    behind_changed c.args.store.now c.form_in.new.store c.append_by.new.store c.in_ok-form.ensures.grows (step_at us (step_seen c.node.result)) (at us c.in-Some.form) c.args.at c.change_at.result c.args.made.now c.append_by.new.made c.change_at.new.made c.requires.made c.in_ok-changed-in-Some.ensures.made.1 c.change_at.ensures.behind
 
 pub returns-in-None-clause-made : goal.returns-in-None-clause-made
 returns-in-None-clause-made c = (made_more c.args.store.now.terms c.form_in.new.store.terms c.in_ok-form.ensures.grows.terms c.args.made.now c.requires.made).0
@@ -59,3 +61,12 @@ returns-in-None-clause-gives c =
     let low = got_below n old c.requires.made place f got in
     let change = rw c.in-None.is at c.in_ok-form.ensures.gives in
     changed_not n r c.requires.replacing old c.requires.made place f got c.form_in.new.store c.in_ok-form.ensures.grows (over_vars n r f old.branch.vars _ c.requires.vars change)
+
+pub returns-in_err-changed-in-Some-clause-grows : goal.returns-in_err-changed-in-Some-clause-grows
+returns-in_err-changed-in-Some-clause-grows c = then c.args.store.now c.form_in.new.store c.append_by.new.store c.in_ok-form.ensures.grows c.append_by.ensures.grows
+
+pub returns-in_ok-changed-in-Some-clause-grows : goal.returns-in_ok-changed-in-Some-clause-grows
+returns-in_ok-changed-in-Some-clause-grows c = then c.args.store.now c.form_in.new.store c.append_by.new.store c.in_ok-form.ensures.grows c.in_ok-changed-in-Some.ensures.grows
+
+pub returns-in-None-clause-behind : goal.returns-in-None-clause-behind
+returns-in-None-clause-behind c = behind_passed c.args.store.now c.form_in.new.store c.in_ok-form.ensures.grows c.args.at c.args.made.now c.requires.made

@@ -4,6 +4,7 @@ use Rattle.numbered_branches.specs.Branches.{branch_at}
 use Rattle.numbered_branches.proofs.Changing.{branch_more}
 use Rattle.numbered_instances.specs.Candidates.{candidate_at}
 use Rattle.numbered_instances.proofs.Attempted.{rule_passes, rule_gives, rule_leaves}
+use Rattle.numbered_facts.proofs.Growing.{then}
 use Rattle.numbered_instances.proofs.instantiating.instantiate.Goals as goal
 
 pub instantiate_by-requires-clause-branch : goal.instantiate_by-requires-clause-branch
@@ -37,3 +38,9 @@ pub returns-in-None-clause-tries : goal.returns-in-None-clause-tries
 returns-in-None-clause-tries c =
     let n = c.args.store.now in let m = c.first_candidate.new.store in let b = c.args.branch in let found = c.in_ok-found.ensures in
     rule_passes (λ d x (a : Candidate). instantiated_by d x a) n m found.grows b c.requires.branch m.terms (find (is_unmarked (branch_at n.terms b)) (candidates n.defs (branch_at n.terms b))) (sym found.first ∙ ap (option_map (candidate_at m.terms)) c.in-None.is)
+
+pub returns-in_err-made-in-Some-clause-grows : goal.returns-in_err-made-in-Some-clause-grows
+returns-in_err-made-in-Some-clause-grows c = then c.args.store.now c.first_candidate.new.store c.instantiate_by.new.store c.first_candidate.ensures.grows c.instantiate_by.ensures.grows
+
+pub returns-in_ok-made-in-Some-clause-grows : goal.returns-in_ok-made-in-Some-clause-grows
+returns-in_ok-made-in-Some-clause-grows c = then c.args.store.now c.first_candidate.new.store c.instantiate_by.new.store c.first_candidate.ensures.grows c.instantiate_by.ensures.grows

@@ -7,6 +7,7 @@ use Rattle.term_bank.specs.Numbered.{at}
 use Rattle.numbered_branches.specs.Branches.{NumberedFact, instantiates, IsBranchOver, branch_at, step_at, terms_in}
 use Rattle.numbered_instances.specs.Instances.{body_in}
 use Rattle.numbered_instances.proofs.Instantiated.{move_err, marked, marked_over, no_instance, instance_added}
+use Rattle.numbered_facts.proofs.Growing.{then}
 use Rattle.numbered_instances.proofs.instantiating.instantiate_by.Goals as goal
 
 pub returns-in_err-instance-clause-gives : goal.returns-in_err-instance-clause-gives
@@ -32,3 +33,9 @@ returns-clause-gives c = let n = c.args.store.now in let m = c.instance_of.new.s
       (c.in_ok-wider.ensures ∙ ap (λ (x : NumberedFact). marked c.args.branch x.term c.args.tuple) c.fact.view_is)
       (c.in_ok-adding.ensures.step.1 ∙ ap (λ (x : NumberedFact). adding (step_at m.terms (instantiates x.number is)) (at m.terms c.in_ok-instance.instance) (branch_at m.terms b)) c.fact.view_is),
 )
+
+pub returns-in_err-adding-clause-grows : goal.returns-in_err-adding-clause-grows
+returns-in_err-adding-clause-grows c = then c.args.store.now c.instance_of.new.store c.adding.new.store c.instance_of.ensures.grows c.adding.ensures.grows
+
+pub returns-clause-grows : goal.returns-clause-grows
+returns-clause-grows c = then c.args.store.now c.instance_of.new.store c.adding.new.store c.instance_of.ensures.grows c.adding.ensures.grows

@@ -4,7 +4,7 @@ use Rattle.std.proofs.lemmas.Result.{IfOk-weaker}
 use Rattle.numbered_terms.proofs.Results.{on_ok}
 use Rattle.tableau_branch.specs.Branch.{first_from}
 use Rattle.logic_rules.specs.Rewriting.{left_in_another}
-use Rattle.numbered_branches.specs.Branches.{IsFactBelow, fact_at}
+use Rattle.numbered_branches.specs.Branches.{NumberedFact, IsFactBelow, fact_at}
 use Rattle.numbered_instances.specs.Shared.{AreShared}
 use Rattle.numbered_instances.proofs.SharedAtoms.{counted_on}
 use Rattle.numbered_instances.proofs.LeftFacts.{facts_low, facts_stay}
@@ -20,6 +20,9 @@ listed_left-requires-clause-shared c = let s = c.list.new.self in
 
 pub returns-clause-counted : goal.returns-clause-counted
 returns-clause-counted c = on_ok c.listed_left.result (counted_on c.list.new.store.terms c.listed_left.new.store.terms c.listed_left.ensures.grows.terms c.list.new.self c.in_ok-list.ensures.counted)
+
+pub returns-clause-listed : goal.returns-clause-listed
+returns-clause-listed c = on_ok c.listed_left.result (c.in_ok-list.ensures.listed ∙ ap (map (λ (f : NumberedFact). f.term)) c.facts_of-facts.ensures)
 
 pub returns-clause-left : goal.returns-clause-left
 returns-clause-left c =

@@ -1,12 +1,14 @@
-use Rattle.std.proofs.Common.{◌≡◌, ◌∙◌, sym, ap, option_map}
+use Rattle.std.proofs.Common.{◌≡◌, ◌∙◌, sym, ap, subst, ℕ, List, option_map}
 use Rattle.logic_core.specs.Tree.{Tree}
 use Rattle.tableau_branch.specs.Branch.{At, oldest}
 use Rattle.logic_rules.specs.Rewriting.{left_in_another, rewritten_by}
 use Rattle.numbered_branches.specs.Branches.{branch_at}
 use Rattle.numbered_branches.proofs.Changing.{branch_more}
 use Rattle.numbered_instances.specs.Lefts.{left_at}
+use Rattle.numbered_instances.specs.Shared.{AreShared}
 use Rattle.numbered_instances.proofs.Attempted.{rule_passes, rule_gives, rule_leaves}
 use Rattle.numbered_instances.proofs.SharedAtoms.{counted_on}
+use Rattle.numbered_facts.proofs.Growing.{then}
 use Rattle.numbered_instances.proofs.rewriting.rewrite.Goals as goal
 
 pub rewrite_by-requires-clause-branch : goal.rewrite_by-requires-clause-branch
@@ -20,6 +22,10 @@ rewrite_by-requires-clause-fact c = (rw c.in-Some.is at c.in_ok-found.ensures.ov
 
 pub rewrite_by-requires-clause-left : goal.rewrite_by-requires-clause-left
 rewrite_by-requires-clause-left c = (rw c.in-Some.is at c.in_ok-found.ensures.over).1
+
+pub rewrite_by-requires-clause-shared : goal.rewrite_by-requires-clause-shared
+rewrite_by-requires-clause-shared c = let s = c.oldest_left.new.shared in
+    subst (λ (is : List ℕ). AreShared c.oldest_left.new.store.terms is s.counts.items) c.in_ok-found.ensures.listed c.in_ok-found.ensures.counted.1
 
 pub returns-in_err-made-in-Some-clause-tries : goal.returns-in_err-made-in-Some-clause-tries
 returns-in_err-made-in-Some-clause-tries c =
@@ -40,3 +46,9 @@ returns-in-None-clause-tries c =
 
 pub returns-in_ok-made-in-Some-clause-counted : goal.returns-in_ok-made-in-Some-clause-counted
 returns-in_ok-made-in-Some-clause-counted c = counted_on c.oldest_left.new.store.terms c.rewrite_by.new.store.terms c.in_ok-made-in-Some.ensures.grows.terms c.oldest_left.new.shared c.in_ok-found.ensures.counted
+
+pub returns-in_err-made-in-Some-clause-grows : goal.returns-in_err-made-in-Some-clause-grows
+returns-in_err-made-in-Some-clause-grows c = then c.args.store.now c.oldest_left.new.store c.rewrite_by.new.store c.oldest_left.ensures.grows c.rewrite_by.ensures.grows
+
+pub returns-in_ok-made-in-Some-clause-grows : goal.returns-in_ok-made-in-Some-clause-grows
+returns-in_ok-made-in-Some-clause-grows c = then c.args.store.now c.oldest_left.new.store c.rewrite_by.new.store c.oldest_left.ensures.grows c.rewrite_by.ensures.grows

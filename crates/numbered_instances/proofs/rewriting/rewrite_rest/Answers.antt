@@ -3,7 +3,7 @@ use Rattle.std.specs.List.{AllByRecursion}
 use Rattle.logic_core.proofs.Refused.{gives_err}
 use Rattle.tableau_branch.specs.Branch.{each}
 use Rattle.numbered_terms.specs.Lists.{terms_at}
-use Rattle.numbered_facts.proofs.Growing.{same}
+use Rattle.numbered_facts.proofs.Growing.{same, then}
 use Rattle.numbered_branches.specs.Branches.{IsMarkOver, mark_at, made_at}
 use Rattle.numbered_instances.proofs.NewTuples.{marks_more}
 use Rattle.numbered_instances.proofs.WithinTerms.{within_of, mark_of}
@@ -51,3 +51,9 @@ returns-clause-gives c =
     rest_given n m o g d c.args.left c.args.right l r old c.requires.made c.requires.vars is
     (ap (λ js. each (within_of n m g c.args.left c.args.right l r n) (terms_at n.terms js)) (sym calls) ∙ c.in_ok-calls.ensures.gives) c.in_ok-calls.ensures.within ms c.in_ok-marks.ensures.over c.put_rest.new.made c.put_rest.ensures
     (ap (λ ks. each (mark_of n m g c.args.left c.args.right l r m) (map (mark_at m.terms) ks)) (sym marks) ∙ c.in_ok-marks.ensures.gives)
+
+pub returns-in_err-marks-clause-grows : goal.returns-in_err-marks-clause-grows
+returns-in_err-marks-clause-grows c = then c.args.store.now c.rewrite_terms.new.store c.rewrite_marks.new.store c.rewrite_terms.ensures.grows c.rewrite_marks.ensures.grows
+
+pub returns-clause-grows : goal.returns-clause-grows
+returns-clause-grows c = then c.args.store.now c.rewrite_terms.new.store c.rewrite_marks.new.store c.rewrite_terms.ensures.grows c.rewrite_marks.ensures.grows

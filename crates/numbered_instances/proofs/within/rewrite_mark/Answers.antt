@@ -6,6 +6,7 @@ use Rattle.numbered_terms.specs.Lists.{terms_at}
 use Rattle.numbered_facts.specs.Answers.{AreAt}
 use Rattle.numbered_branches.specs.Branches.{NumberedMark, mark_at, terms_in}
 use Rattle.numbered_instances.proofs.WithinTerms.{within_of, fact_leaves, tuple_leaves, mark_made, mark_over}
+use Rattle.numbered_facts.proofs.Growing.{then}
 use Rattle.numbered_instances.proofs.within.rewrite_mark.Goals as goal
 
 pub returns-clause-gives : goal.returns-clause-gives
@@ -42,3 +43,12 @@ returns-in_err-rewritten-clause-gives c =
     gives_err (mark_at o.terms) c.from_residual-in_err-rewritten.result c.in_err-rewritten.field-0.0 _ c.from_residual-in_err-rewritten.ensures.1
     (λ wide. tuple_leaves n m g left right c.requires.left c.requires.right c.args.mark.now c.requires.mark (at m.terms c.in_ok-fact.fact) c.in_ok-terms.terms.items first terms
     (ap (λ is. each (within_of n m g left right c.requires.left c.requires.right m) (terms_at m.terms is)) (sym c.deref.ensures.value) ∙ c.in_err-rewritten.ensures.gives wide))
+
+pub returns-in_err-rewritten-clause-grows : goal.returns-in_err-rewritten-clause-grows
+returns-in_err-rewritten-clause-grows c = then c.args.store.now c.rewrite_within.new.store c.rewrite_terms.new.store c.rewrite_within.ensures.grows c.rewrite_terms.ensures.grows
+
+pub returns-in_err-tuple-clause-grows : goal.returns-in_err-tuple-clause-grows
+returns-in_err-tuple-clause-grows c = then c.args.store.now c.rewrite_terms.new.store c.make.new.self (then c.args.store.now c.rewrite_within.new.store c.rewrite_terms.new.store c.rewrite_within.ensures.grows c.rewrite_terms.ensures.grows) c.make.ensures.grows
+
+pub returns-clause-grows : goal.returns-clause-grows
+returns-clause-grows c = then c.args.store.now c.rewrite_terms.new.store c.make.new.self (then c.args.store.now c.rewrite_within.new.store c.rewrite_terms.new.store c.rewrite_within.ensures.grows c.rewrite_terms.ensures.grows) c.make.ensures.grows

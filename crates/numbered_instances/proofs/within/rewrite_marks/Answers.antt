@@ -50,3 +50,9 @@ returns-clause-gives c =
     let n = c.args.store.now in let m = c.loop-mark.store in
     let l = at n.terms c.args.left in let r = at n.terms c.args.right in
     each_ends (rewritten_mark n.defs (bare n.defs l r n.vars) l r) c.args.marks.now (mark_at n.terms) c.loop-mark.mark-index (map (mark_at m.terms) c.loop-mark.rewritten.items) _ (omega arith) c.loop-mark.invariant.made
+
+pub returns-in_err-made-clause-grows : goal.returns-in_err-made-clause-grows
+returns-in_err-made-clause-grows c = then c.args.store.now c.loop-mark.store c.rewrite_mark.new.store c.loop-mark.invariant.grows c.rewrite_mark.ensures.grows
+
+pub returns-in_err-push-clause-grows : goal.returns-in_err-push-clause-grows
+returns-in_err-push-clause-grows c = then c.args.store.now c.loop-mark.store c.rewrite_mark.new.store c.loop-mark.invariant.grows c.rewrite_mark.ensures.grows

@@ -50,3 +50,9 @@ returns-clause-gives c =
     let n = c.args.store.now in let m = c.loop-term.store in
     let l = at n.terms c.args.left in let r = at n.terms c.args.right in
     each_ends (rewritten_within n.defs (bare n.defs l r n.vars) l r) c.args.terms.now (at n.terms) c.loop-term.term-index (terms_at m.terms c.loop-term.rewritten.items) _ (omega arith) c.loop-term.invariant.made
+
+pub returns-in_err-made-clause-grows : goal.returns-in_err-made-clause-grows
+returns-in_err-made-clause-grows c = then c.args.store.now c.loop-term.store c.rewrite_within.new.store c.loop-term.invariant.grows c.rewrite_within.ensures.grows
+
+pub returns-in_err-push-clause-grows : goal.returns-in_err-push-clause-grows
+returns-in_err-push-clause-grows c = then c.args.store.now c.loop-term.store c.rewrite_within.new.store c.loop-term.invariant.grows c.rewrite_within.ensures.grows
