@@ -5,6 +5,7 @@ use Rattle.numbered_branches.specs.Branches.{branch_at, IsBranchOver}
 use Rattle.numbered_branches.proofs.Changing.{branch_more}
 use Rattle.numbered_logic.proofs.Attempts.{move_fault}
 use Rattle.numbered_logic.proofs.Rules.{flattens_at, flattens_none}
+use Rattle.numbered_facts.proofs.Growing.{then}
 use Rattle.numbered_logic.proofs.flattening.flatten_at.Goals as goal
 
 pub without-rest-requires-clause-branch : goal.without-rest-requires-clause-branch
@@ -26,3 +27,9 @@ pub returns-clause-gives : goal.returns-clause-gives
 returns-clause-gives c = let n = c.args.store.now in let m = c.normal_forms.new.store in let rest = c.without-rest.result in let b = c.args.branch in let a = c.args.found in
     flattens_at n m c.normal_forms.ensures.grows b c.requires.vars c.requires.branch (c.adding_each.new.store).terms a c.deref.result.now c.in_ok-parts.parts.items c.deref-2.result.now rest c.in_ok-adding_each.field-0
     c.deref.ensures.value c.deref-2.ensures.value c.in_ok-parts.ensures.forms.1 (subst (λ ts. branch_at ts rest ≡ without a.at (branch_at ts b)) c.terms.ensures c.without-rest.ensures.without) c.in_ok-adding_each.ensures.step
+
+pub returns-in_err-adding_each-clause-grows : goal.returns-in_err-adding_each-clause-grows
+returns-in_err-adding_each-clause-grows c = then c.args.store.now c.normal_forms.new.store c.adding_each.new.store c.normal_forms.ensures.grows c.adding_each.ensures.grows
+
+pub returns-clause-grows : goal.returns-clause-grows
+returns-clause-grows c = then c.args.store.now c.normal_forms.new.store c.adding_each.new.store c.normal_forms.ensures.grows c.adding_each.ensures.grows

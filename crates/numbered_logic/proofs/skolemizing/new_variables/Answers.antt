@@ -4,6 +4,7 @@ use Rattle.logic_rules.proofs.NewVariables.{variables_end}
 use Rattle.numbered_logic.proofs.Later.{grows_same, grows_then}
 use Rattle.numbered_logic.proofs.Several.{given_low}
 use Rattle.numbered_logic.proofs.Witnesses.{variables_next}
+use Rattle.numbered_facts.proofs.Growing.{then}
 use Rattle.numbered_logic.proofs.skolemizing.new_variables.Goals as goal
 
 pub loop-sort-preserved : goal.loop-sort-preserved
@@ -18,3 +19,9 @@ loop-sort-preserved c =
 
 pub returns-clause-are : goal.returns-clause-are
 returns-clause-are c = (c.loop-sort.invariant.low, variables_end c.args.sorts.now c.loop-sort._sort-index c.loop-sort.number (map (at (c.loop-sort.store).terms) c.loop-sort.variables.items) _ c.loop-sort-test.false c.loop-sort.invariant.ahead)
+
+pub returns-in_err-variable-clause-grows : goal.returns-in_err-variable-clause-grows
+returns-in_err-variable-clause-grows c = then c.args.store.now c.loop-sort.store c.make.new.self c.loop-sort.invariant.grows c.make.ensures.grows
+
+pub returns-in_err-push-clause-grows : goal.returns-in_err-push-clause-grows
+returns-in_err-push-clause-grows c = then c.args.store.now c.loop-sort.store c.make.new.self c.loop-sort.invariant.grows c.make.ensures.grows

@@ -3,6 +3,7 @@ use Rattle.numbered_branches.specs.Branches.{IsFactBelow}
 use Rattle.numbered_branches.proofs.Listing.{all_at}
 use Rattle.numbered_logic.proofs.Calls.{cases_here, cases_lacking}
 use Rattle.numbered_logic.proofs.Later.{grows_then}
+use Rattle.numbered_facts.proofs.Growing.{then}
 use Rattle.numbered_logic.proofs.splitting.oldest_cases.Goals as goal
 
 pub returns-in-Some-clause-found : goal.returns-in-Some-clause-found
@@ -19,3 +20,9 @@ loop-at-preserved c =
       grows = grows_then n m o g h;
       rest = cases_lacking n m o g h c.args.facts.now c.loop-at.at f c.loop-at-test.true c.index-facts-at.is low _ (rw c.in_default.is at c.in_ok-cases.ensures.cases) c.loop-at.invariant.rest;
     }
+
+pub returns-in_err-cases-clause-grows : goal.returns-in_err-cases-clause-grows
+returns-in_err-cases-clause-grows c = then c.args.store.now c.loop-at.store c.cases_of.new.store c.loop-at.invariant.grows c.cases_of.ensures.grows
+
+pub returns-in-Some-clause-grows : goal.returns-in-Some-clause-grows
+returns-in-Some-clause-grows c = then c.args.store.now c.loop-at.store c.cases_of.new.store c.loop-at.invariant.grows c.cases_of.ensures.grows

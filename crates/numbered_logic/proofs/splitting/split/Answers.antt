@@ -6,6 +6,7 @@ use Rattle.numbered_branches.proofs.Changing.{branch_more}
 use Rattle.numbered_logic.specs.Found.{found_at}
 use Rattle.numbered_logic.proofs.Attempts.{passes, gives, faults}
 use Rattle.numbered_logic.proofs.Calls.{finds_cases}
+use Rattle.numbered_facts.proofs.Growing.{then}
 use Rattle.numbered_logic.proofs.splitting.split.Goals as goal
 
 pub split_into-requires-clause-branch : goal.split_into-requires-clause-branch
@@ -34,3 +35,9 @@ pub returns-in-None-clause-tries : goal.returns-in-None-clause-tries
 returns-in-None-clause-tries c = let n = c.args.store.now in let m = c.oldest_cases.new.store in let b = c.args.branch in
     passes split_at n m c.oldest_cases.ensures.grows b c.requires.branch m.terms (first_from (cases_of n.defs (branch_at n.terms b)) 0 (map (fact_at n.terms) b.facts))
     (finds_cases n m b c.deref.result.now None c.requires.vars (c.deref.ensures.value ∙ ap (λ (b : NumberedBranch). b.facts) c.branch.view_is) (rw c.in-None.is at c.in_ok-found.ensures.found))
+
+pub returns-in_err-split_into-in-Some-clause-grows : goal.returns-in_err-split_into-in-Some-clause-grows
+returns-in_err-split_into-in-Some-clause-grows c = then c.args.store.now c.oldest_cases.new.store c.split_into.new.store c.oldest_cases.ensures.grows c.split_into.ensures.grows
+
+pub returns-in_ok-split_into-in-Some-clause-grows : goal.returns-in_ok-split_into-in-Some-clause-grows
+returns-in_ok-split_into-in-Some-clause-grows c = then c.args.store.now c.oldest_cases.new.store c.split_into.new.store c.oldest_cases.ensures.grows c.split_into.ensures.grows

@@ -5,6 +5,7 @@ use Rattle.numbered_branches.specs.Branches.{branch_at, IsBranchOver}
 use Rattle.numbered_branches.proofs.Changing.{branch_more}
 use Rattle.numbered_logic.proofs.Attempts.{move_fault}
 use Rattle.numbered_logic.proofs.Rules.{splits_at, splits_none}
+use Rattle.numbered_facts.proofs.Growing.{then}
 use Rattle.numbered_logic.proofs.splitting.split_into.Goals as goal
 
 pub without-rest-requires-clause-branch : goal.without-rest-requires-clause-branch
@@ -26,3 +27,9 @@ pub returns-clause-gives : goal.returns-clause-gives
 returns-clause-gives c = let n = c.args.store.now in let m = c.normal_forms.new.store in let rest = c.without-rest.result in let b = c.args.branch in let a = c.args.found in
     splits_at n m c.normal_forms.ensures.grows b c.requires.vars c.requires.branch (c.each_case.new.store).terms a c.deref.result.now c.in_ok-forms.forms.items c.deref-2.result.now rest c.in_ok-made.made
     c.deref.ensures.value c.deref-2.ensures.value c.in_ok-forms.ensures.forms.1 (subst (λ ts. branch_at ts rest ≡ without a.at (branch_at ts b)) c.terms.ensures c.without-rest.ensures.without) c.in_ok-made.ensures.made
+
+pub returns-in_err-made-clause-grows : goal.returns-in_err-made-clause-grows
+returns-in_err-made-clause-grows c = then c.args.store.now c.normal_forms.new.store c.each_case.new.store c.normal_forms.ensures.grows c.each_case.ensures.grows
+
+pub returns-clause-grows : goal.returns-clause-grows
+returns-clause-grows c = then c.args.store.now c.normal_forms.new.store c.each_case.new.store c.normal_forms.ensures.grows c.each_case.ensures.grows

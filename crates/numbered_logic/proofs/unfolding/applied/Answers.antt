@@ -1,5 +1,6 @@
 use Rattle.numbered_logic.proofs.Bodies.{applied_some, applied_none}
 use Rattle.numbered_logic.proofs.Later.{all_later}
+use Rattle.numbered_facts.proofs.Growing.{then}
 use Rattle.numbered_logic.proofs.unfolding.applied.Goals as goal
 
 pub substituted-requires-clause-args : goal.substituted-requires-clause-args
@@ -11,3 +12,9 @@ returns-in_ok-substituted-in-Some-clause-body c = applied_some c.args.store.now 
 
 pub returns-in-None-clause-body : goal.returns-in-None-clause-body
 returns-in-None-clause-body c = applied_none c.args.store.now c.body.new.self c.args.store.now c.body.ensures.grows c.args.number c.args.args.now c.requires (rw c.in-None.is at c.in_ok-body.ensures.gives)
+
+pub returns-in_err-substituted-in-Some-clause-grows : goal.returns-in_err-substituted-in-Some-clause-grows
+returns-in_err-substituted-in-Some-clause-grows c = then c.args.store.now c.body.new.self c.substituted.new.self c.body.ensures.grows c.substituted.ensures.grows
+
+pub returns-in_ok-substituted-in-Some-clause-grows : goal.returns-in_ok-substituted-in-Some-clause-grows
+returns-in_ok-substituted-in-Some-clause-grows c = then c.args.store.now c.body.new.self c.substituted.new.self c.body.ensures.grows c.substituted.ensures.grows

@@ -6,6 +6,7 @@ use Rattle.numbered_branches.proofs.Changing.{branch_more}
 use Rattle.numbered_logic.specs.Found.{found_one_at}
 use Rattle.numbered_logic.proofs.Attempts.{passes, gives, faults}
 use Rattle.numbered_logic.proofs.Calls.{finds_one_in}
+use Rattle.numbered_facts.proofs.Growing.{then}
 use Rattle.numbered_logic.proofs.unfolding.unfold.Goals as goal
 
 pub unfold_at-requires-clause-branch : goal.unfold_at-requires-clause-branch
@@ -34,3 +35,9 @@ pub returns-in-None-clause-tries : goal.returns-in-None-clause-tries
 returns-in-None-clause-tries c = let n = c.args.store.now in let m = c.oldest_call.new.store in let b = c.args.branch in
     passes unfolded_at n m c.oldest_call.ensures.grows b c.requires.branch m.terms (first_from first_call 0 (map (fact_at n.terms) b.facts))
     (finds_one_in first_call m.terms n.terms c.deref.result.now b.facts None (c.deref.ensures.value ∙ ap (λ (b : NumberedBranch). b.facts) c.branch.view_is) (rw c.in-None.is at c.in_ok-found.ensures.found))
+
+pub returns-in_err-unfold_at-in-Some-clause-grows : goal.returns-in_err-unfold_at-in-Some-clause-grows
+returns-in_err-unfold_at-in-Some-clause-grows c = then c.args.store.now c.oldest_call.new.store c.unfold_at.new.store c.oldest_call.ensures.grows c.unfold_at.ensures.grows
+
+pub returns-in_ok-unfold_at-in-Some-clause-grows : goal.returns-in_ok-unfold_at-in-Some-clause-grows
+returns-in_ok-unfold_at-in-Some-clause-grows c = then c.args.store.now c.oldest_call.new.store c.unfold_at.new.store c.oldest_call.ensures.grows c.unfold_at.ensures.grows

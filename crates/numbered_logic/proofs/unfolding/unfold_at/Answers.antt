@@ -6,6 +6,7 @@ use Rattle.numbered_branches.proofs.Changing.{branch_more}
 use Rattle.numbered_logic.proofs.Attempts.{move_fault}
 use Rattle.numbered_logic.proofs.Later.{below_later}
 use Rattle.numbered_logic.proofs.Rules.{unfolds_at, unfolds_none}
+use Rattle.numbered_facts.proofs.Growing.{then}
 use Rattle.numbered_logic.proofs.unfolding.unfold_at.Goals as goal
 
 pub with_call-requires-clause-call : goal.with_call-requires-clause-call
@@ -35,3 +36,9 @@ returns-clause-gives c = let n = c.args.store.now in let m = c.unfolded_form.new
     let seen : branch_at m.terms more ≡ with_call m.defs (at m.terms a.term) (branch_at m.terms b) =
     subst (λ ds. branch_at m.terms more ≡ with_call ds (at m.terms a.term) (branch_at m.terms b)) c.defs.ensures (subst (λ ts. branch_at ts more ≡ with_call c.defs.result.now (at ts a.term) (branch_at ts b)) c.terms.ensures c.in_ok-more.ensures.is) in
     unfolds_at n m c.unfolded_form.ensures.grows b c.requires.vars c.requires.branch (c.changing.new.store).terms a c.in_ok-form.form more c.in_ok-changing.field-0 c.requires.found.term c.in_ok-form.ensures.gives.1 seen c.in_ok-changing.ensures.step
+
+pub returns-in_err-changing-clause-grows : goal.returns-in_err-changing-clause-grows
+returns-in_err-changing-clause-grows c = then c.args.store.now c.unfolded_form.new.store c.changing.new.store c.unfolded_form.ensures.grows c.changing.ensures.grows
+
+pub returns-clause-grows : goal.returns-clause-grows
+returns-clause-grows c = then c.args.store.now c.unfolded_form.new.store c.changing.new.store c.unfolded_form.ensures.grows c.changing.ensures.grows

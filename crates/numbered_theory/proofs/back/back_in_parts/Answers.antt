@@ -7,6 +7,7 @@ use Rattle.numbered_branches.proofs.Changing.{branch_more}
 use Rattle.numbered_theory.specs.Reads.{read_at}
 use Rattle.numbered_theory.proofs.Found.{back_is, back_moves}
 use Rattle.numbered_theory.proofs.Loops.{from_err}
+use Rattle.numbered_facts.proofs.Growing.{then}
 use Rattle.numbered_theory.proofs.back.back_in_parts.Goals as goal
 
 pub returns-in_err-move_back-in-Some-clause-tries : goal.returns-in_err-move_back-in-Some-clause-tries
@@ -32,3 +33,24 @@ returns-in-None-clause-tries c =
     let is = c.deref.ensures.value ∙ ap (λ (b : NumberedBranch). b.facts) c.branch.view_is in
     let found = rw c.in-None.is at c.in_ok-found.ensures.reads in
     (branch_more n.terms m.terms c.in_ok-found.ensures.grows.terms code c.requires.branch, back_is n code c.deref.result.now is none c.requires.vars found)
+
+pub returns-in_err-found-clause-grows : goal.returns-in_err-found-clause-grows
+returns-in_err-found-clause-grows c = c.oldest_read_back.ensures.grows
+
+pub returns-in_err-move_back-in-Some-clause-grows : goal.returns-in_err-move_back-in-Some-clause-grows
+returns-in_err-move_back-in-Some-clause-grows c = then c.args.store.now c.oldest_read_back.new.store c.move_back.new.store c.in_ok-found.ensures.grows c.move_back.ensures.grows
+
+pub returns-in_ok-move_back-in-Some-clause-grows : goal.returns-in_ok-move_back-in-Some-clause-grows
+returns-in_ok-move_back-in-Some-clause-grows c = then c.args.store.now c.oldest_read_back.new.store c.move_back.new.store c.in_ok-found.ensures.grows c.in_ok-move_back-in-Some.ensures.grows
+
+pub returns-in-None-clause-grows : goal.returns-in-None-clause-grows
+returns-in-None-clause-grows c = c.in_ok-found.ensures.grows
+
+pub move_back-requires-clause-branch : goal.move_back-requires-clause-branch
+move_back-requires-clause-branch c = (branch_more c.args.store.now.terms c.oldest_read_back.new.store.terms c.in_ok-found.ensures.grows.terms c.args.branch c.requires.branch).0
+
+pub move_back-requires-clause-vars : goal.move_back-requires-clause-vars
+move_back-requires-clause-vars c = c.in_ok-found.ensures.grows.vars ∙ c.requires.vars
+
+pub move_back-requires-clause-found : goal.move_back-requires-clause-found
+move_back-requires-clause-found c = (rw c.in-Some.is at c.in_ok-found.ensures.reads).0

@@ -30,3 +30,12 @@ loop-fact-preserved c =
       grows = then n c.loop-fact.store c.read_back_in.new.store c.loop-fact.invariant.grows c.in_ok-found.ensures.grows;
       first = fact_passed n c.loop-fact.store c.loop-fact.invariant.grows c.args.facts.now c.loop-fact.fact-index x c.requires c.loop-fact-test.true c.fact-item.is c.fact.inside.term is here c.loop-fact.invariant.first;
     }
+
+pub returns-in_err-found-clause-grows : goal.returns-in_err-found-clause-grows
+returns-in_err-found-clause-grows c = then c.args.store.now c.loop-fact.store c.read_back_in.new.store c.loop-fact.invariant.grows c.read_back_in.ensures.grows
+
+pub returns-in-Some-clause-grows : goal.returns-in-Some-clause-grows
+returns-in-Some-clause-grows c = then c.args.store.now c.loop-fact.store c.read_back_in.new.store c.loop-fact.invariant.grows c.in_ok-found.ensures.grows
+
+pub returns-clause-grows : goal.returns-clause-grows
+returns-clause-grows c = c.loop-fact.invariant.grows

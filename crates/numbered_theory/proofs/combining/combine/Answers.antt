@@ -39,3 +39,33 @@ returns-in-None-clause-tries c =
 
 pub returns-in-None-clause-tried : goal.returns-in-None-clause-tried
 returns-in-None-clause-tried c = c.in_ok-combined.ensures.tried
+
+pub entries-requires-clause-branch : goal.entries-requires-clause-branch
+entries-requires-clause-branch c = c.requires.branch
+
+pub entries-requires-clause-vars : goal.entries-requires-clause-vars
+entries-requires-clause-vars c = c.requires.vars
+
+pub returns-in_err-entries-clause-grows : goal.returns-in_err-entries-clause-grows
+returns-in_err-entries-clause-grows c = c.entries.ensures.grows
+
+pub returns-in_err-place_entries-clause-grows : goal.returns-in_err-place_entries-clause-grows
+returns-in_err-place_entries-clause-grows c = c.in_ok-entries.ensures.grows
+
+pub returns-in_err-combined-clause-grows : goal.returns-in_err-combined-clause-grows
+returns-in_err-combined-clause-grows c = then c.args.store.now c.entries.new.store c.first_combined.new.store c.in_ok-entries.ensures.grows c.first_combined.ensures.grows
+
+pub returns-in_err-add_combined-in-Some-clause-grows : goal.returns-in_err-add_combined-in-Some-clause-grows
+returns-in_err-add_combined-in-Some-clause-grows c = then c.args.store.now c.first_combined.new.store c.add_combined.new.store (then c.args.store.now c.entries.new.store c.first_combined.new.store c.in_ok-entries.ensures.grows c.in_ok-combined.ensures.grows) c.add_combined.ensures.grows
+
+pub returns-in_ok-add_combined-in-Some-clause-grows : goal.returns-in_ok-add_combined-in-Some-clause-grows
+returns-in_ok-add_combined-in-Some-clause-grows c = then c.args.store.now c.first_combined.new.store c.add_combined.new.store (then c.args.store.now c.entries.new.store c.first_combined.new.store c.in_ok-entries.ensures.grows c.in_ok-combined.ensures.grows) c.in_ok-add_combined-in-Some.ensures.grows
+
+pub returns-in-None-clause-grows : goal.returns-in-None-clause-grows
+returns-in-None-clause-grows c = then c.args.store.now c.entries.new.store c.first_combined.new.store c.in_ok-entries.ensures.grows c.in_ok-combined.ensures.grows
+
+pub add_combined-requires-clause-branch : goal.add_combined-requires-clause-branch
+add_combined-requires-clause-branch c = (branch_more c.args.store.now.terms c.first_combined.new.store.terms (then c.args.store.now c.entries.new.store c.first_combined.new.store c.in_ok-entries.ensures.grows c.in_ok-combined.ensures.grows).terms c.args.branch c.requires.branch).0
+
+pub add_combined-requires-clause-combined : goal.add_combined-requires-clause-combined
+add_combined-requires-clause-combined c = (rw c.in-Some.is at c.in_ok-combined.ensures.attempts).0

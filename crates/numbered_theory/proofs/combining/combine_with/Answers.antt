@@ -46,3 +46,12 @@ loop-i-preserved c =
       grows = then n c.loop-i.store c.combine_led.new.store c.loop-i.invariant.grows c.in_ok-combined.ensures.grows;
       first = with_passed n c.loop-i.store c.loop-i.invariant.grows c.args.entries.now c.requires.entries c.args.e.now c.requires.e c.args.before.now c.loop-i.i c.index-before-i.result c.requires.before c.loop-i-test.true c.index-before-i.is here c.loop-i.invariant.first;
     }
+
+pub returns-in_err-combined-clause-grows : goal.returns-in_err-combined-clause-grows
+returns-in_err-combined-clause-grows c = then c.args.store.now c.loop-i.store c.combine_led.new.store c.loop-i.invariant.grows c.combine_led.ensures.grows
+
+pub returns-in-Some-clause-grows : goal.returns-in-Some-clause-grows
+returns-in-Some-clause-grows c = then c.args.store.now c.loop-i.store c.combine_led.new.store c.loop-i.invariant.grows c.in_ok-combined.ensures.grows
+
+pub returns-clause-grows : goal.returns-clause-grows
+returns-clause-grows c = c.loop-i.invariant.grows

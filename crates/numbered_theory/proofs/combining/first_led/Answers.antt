@@ -71,3 +71,12 @@ returns-clause-attempts c = let ts = c.args.store.now.terms in all_tried (entrie
 
 pub returns-clause-tried : goal.returns-clause-tried
 returns-clause-tried c = tried_whole c.args.store.now.terms c.args.entries.now c.loop-i.i (omega (arith, c.loop-i-test.false)) c.loop-i.invariant.tried
+
+pub returns-in_err-combined-clause-grows : goal.returns-in_err-combined-clause-grows
+returns-in_err-combined-clause-grows c = then c.args.store.now c.loop-i.store c.combine_next.new.store c.loop-i.invariant.grows c.combine_next.ensures.grows
+
+pub returns-in-Some-clause-grows : goal.returns-in-Some-clause-grows
+returns-in-Some-clause-grows c = then c.args.store.now c.loop-i.store c.combine_next.new.store c.loop-i.invariant.grows c.in_ok-combined.ensures.grows
+
+pub returns-clause-grows : goal.returns-clause-grows
+returns-clause-grows c = c.loop-i.invariant.grows

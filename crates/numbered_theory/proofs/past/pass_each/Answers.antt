@@ -8,6 +8,7 @@ use Rattle.numbered_branches.proofs.Changing.{branch_more}
 use Rattle.numbered_facts.proofs.Growing.{then}
 use Rattle.numbered_theory.proofs.Loops.{from_err}
 use Rattle.numbered_theory.proofs.Passing.{pass_later, below_none, same_none, above_none, three_done}
+use Rattle.numbered_branches.proofs.Growing.{below}
 use Rattle.numbered_theory.proofs.past.pass_each.Goals as goal
 
 pub returns-in_err-below-clause-gives : goal.returns-in_err-below-clause-gives
@@ -60,3 +61,57 @@ returns-clause-gives c =
     three_done n u w c.pass_above.new.store to_u c.in_ok-same.ensures.grows c.in_ok-above.ensures.grows b c.args.access d before value c.requires.access
     c.in_ok-below.below c.in_ok-same.same c.in_ok-above.above c.in_ok-made.made.items c.in_ok-made.ensures.items c.in_ok-below.ensures.gives.0 c.in_ok-same.ensures.gives.0 c.in_ok-above.ensures.gives.0
     c.in_ok-below.ensures.gives.1 (sym second ∙ c.in_ok-same.ensures.gives.1) (sym third ∙ c.in_ok-above.ensures.gives.1)
+
+pub pass_below-requires-clause-branch : goal.pass_below-requires-clause-branch
+pass_below-requires-clause-branch c = c.requires.branch
+
+pub pass_below-requires-clause-vars : goal.pass_below-requires-clause-vars
+pass_below-requires-clause-vars c = c.requires.vars
+
+pub pass_below-requires-clause-access : goal.pass_below-requires-clause-access
+pass_below-requires-clause-access c = c.requires.access
+
+pub pass_below-requires-clause-distance : goal.pass_below-requires-clause-distance
+pass_below-requires-clause-distance c = c.requires.distance
+
+pub pass_below-requires-clause-said : goal.pass_below-requires-clause-said
+pass_below-requires-clause-said c = c.requires.before
+
+pub pass_same-requires-clause-vars : goal.pass_same-requires-clause-vars
+pass_same-requires-clause-vars c = c.in_ok-below.ensures.grows.vars ∙ c.requires.vars
+
+pub pass_same-requires-clause-access : goal.pass_same-requires-clause-access
+pass_same-requires-clause-access c = below c.args.store.now c.pass_below.new.store c.args.access c.in_ok-below.ensures.grows c.requires.access
+
+pub pass_same-requires-clause-distance : goal.pass_same-requires-clause-distance
+pass_same-requires-clause-distance c = below c.args.store.now c.pass_below.new.store c.args.distance c.in_ok-below.ensures.grows c.requires.distance
+
+pub pass_same-requires-clause-said : goal.pass_same-requires-clause-said
+pass_same-requires-clause-said c = below c.args.store.now c.pass_below.new.store c.args.value c.in_ok-below.ensures.grows c.requires.value
+
+pub pass_above-requires-clause-vars : goal.pass_above-requires-clause-vars
+pass_above-requires-clause-vars c = (then c.args.store.now c.pass_below.new.store c.pass_same.new.store c.in_ok-below.ensures.grows c.in_ok-same.ensures.grows).vars ∙ c.requires.vars
+
+pub pass_above-requires-clause-access : goal.pass_above-requires-clause-access
+pass_above-requires-clause-access c = below c.args.store.now c.pass_same.new.store c.args.access (then c.args.store.now c.pass_below.new.store c.pass_same.new.store c.in_ok-below.ensures.grows c.in_ok-same.ensures.grows) c.requires.access
+
+pub pass_above-requires-clause-distance : goal.pass_above-requires-clause-distance
+pass_above-requires-clause-distance c = below c.args.store.now c.pass_same.new.store c.args.distance (then c.args.store.now c.pass_below.new.store c.pass_same.new.store c.in_ok-below.ensures.grows c.in_ok-same.ensures.grows) c.requires.distance
+
+pub pass_above-requires-clause-said : goal.pass_above-requires-clause-said
+pass_above-requires-clause-said c = below c.args.store.now c.pass_same.new.store c.args.before (then c.args.store.now c.pass_below.new.store c.pass_same.new.store c.in_ok-below.ensures.grows c.in_ok-same.ensures.grows) c.requires.before
+
+pub returns-in_err-below-clause-grows : goal.returns-in_err-below-clause-grows
+returns-in_err-below-clause-grows c = c.pass_below.ensures.grows
+
+pub returns-in_err-same-clause-grows : goal.returns-in_err-same-clause-grows
+returns-in_err-same-clause-grows c = then c.args.store.now c.pass_below.new.store c.pass_same.new.store c.in_ok-below.ensures.grows c.pass_same.ensures.grows
+
+pub returns-in_err-above-clause-grows : goal.returns-in_err-above-clause-grows
+returns-in_err-above-clause-grows c = then c.args.store.now c.pass_same.new.store c.pass_above.new.store (then c.args.store.now c.pass_below.new.store c.pass_same.new.store c.in_ok-below.ensures.grows c.in_ok-same.ensures.grows) c.pass_above.ensures.grows
+
+pub returns-in_err-made-clause-grows : goal.returns-in_err-made-clause-grows
+returns-in_err-made-clause-grows c = then c.args.store.now c.pass_same.new.store c.pass_above.new.store (then c.args.store.now c.pass_below.new.store c.pass_same.new.store c.in_ok-below.ensures.grows c.in_ok-same.ensures.grows) c.in_ok-above.ensures.grows
+
+pub returns-clause-grows : goal.returns-clause-grows
+returns-clause-grows c = then c.args.store.now c.pass_same.new.store c.pass_above.new.store (then c.args.store.now c.pass_below.new.store c.pass_same.new.store c.in_ok-below.ensures.grows c.in_ok-same.ensures.grows) c.in_ok-above.ensures.grows

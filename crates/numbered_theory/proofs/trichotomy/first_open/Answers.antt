@@ -41,3 +41,12 @@ loop-place-preserved c =
       grows = then n c.loop-place.store c.open_ways.new.store c.loop-place.invariant.grows c.in_ok-ways.ensures.grows;
       first = open_passed n c.loop-place.store c.loop-place.invariant.grows c.args.branch.now c.requires.branch c.args.places.now c.loop-place.place-index c.place-item.result c.requires.places c.loop-place-test.true c.place-item.is here c.loop-place.invariant.first;
     }
+
+pub returns-in_err-ways-clause-grows : goal.returns-in_err-ways-clause-grows
+returns-in_err-ways-clause-grows c = then c.args.store.now c.loop-place.store c.open_ways.new.store c.loop-place.invariant.grows c.open_ways.ensures.grows
+
+pub returns-in-Some-clause-grows : goal.returns-in-Some-clause-grows
+returns-in-Some-clause-grows c = then c.args.store.now c.loop-place.store c.open_ways.new.store c.loop-place.invariant.grows c.in_ok-ways.ensures.grows
+
+pub returns-clause-grows : goal.returns-clause-grows
+returns-clause-grows c = c.loop-place.invariant.grows

@@ -35,3 +35,24 @@ returns-clause-known c =
     let first : is_known_way (branch_at n.terms code) (option_map (at n.terms) f.below) ≡ false = cc (c.in_ok-below.ensures.known, c.if-below.false) in
     let second : is_known_way (branch_at m.terms code) (option_map (at m.terms) f.zero) ≡ false = cc (c.in_ok-zero.ensures.known, c.if-zero.false) in
     IfOk-weaker c.is_known_way-3.result _ _ (λ b known. known ∙ third_known n w to_w code c.requires.branch f c.requires.forms first (second_before n m c.in_ok-below.ensures.grows code c.requires.branch f c.requires.forms second)) c.is_known_way-3.ensures.known
+
+pub is_known_way-requires-clause-branch : goal.is_known_way-requires-clause-branch
+is_known_way-requires-clause-branch c = c.requires.branch
+
+pub is_known_way-requires-clause-way : goal.is_known_way-requires-clause-way
+is_known_way-requires-clause-way c = c.requires.forms.below
+
+pub returns-in_err-below-clause-grows : goal.returns-in_err-below-clause-grows
+returns-in_err-below-clause-grows c = c.is_known_way.ensures.grows
+
+pub returns-then-below-clause-grows : goal.returns-then-below-clause-grows
+returns-then-below-clause-grows c = c.in_ok-below.ensures.grows
+
+pub returns-in_err-zero-clause-grows : goal.returns-in_err-zero-clause-grows
+returns-in_err-zero-clause-grows c = then c.args.store.now c.is_known_way.new.store c.is_known_way-2.new.store c.in_ok-below.ensures.grows c.is_known_way-2.ensures.grows
+
+pub returns-then-zero-clause-grows : goal.returns-then-zero-clause-grows
+returns-then-zero-clause-grows c = then c.args.store.now c.is_known_way.new.store c.is_known_way-2.new.store c.in_ok-below.ensures.grows c.in_ok-zero.ensures.grows
+
+pub returns-clause-grows : goal.returns-clause-grows
+returns-clause-grows c = then c.args.store.now c.is_known_way-2.new.store c.is_known_way-3.new.store (then c.args.store.now c.is_known_way.new.store c.is_known_way-2.new.store c.in_ok-below.ensures.grows c.in_ok-zero.ensures.grows) c.is_known_way-3.ensures.grows
