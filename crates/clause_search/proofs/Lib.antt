@@ -1,3 +1,4 @@
+pub mod Assembling
 pub mod ByShape
 pub mod FirstAt
 pub mod Kept

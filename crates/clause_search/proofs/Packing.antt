@@ -24,9 +24,6 @@ module _ {A B C : Type 0} (f : A → C) (g : B → C) (xs rest : List A) (x : A)
 
 -- the same where what is taken is seen in two steps
 module _ {A B C D : Type 0} (k : D → C) (f : A → D) (g : B → C) (xs rest : List A) (x : A) (ys zs : List B) (y : B) (all : List C) (p : xs ≡ rest ++ x ∷ []) (q : zs ≡ ys ++ y ∷ []) (e : g y ≡ k (f x)) where
-  pub put_back_twice : map k (map f xs) ++ map g (reverse ys) ≡ all → map k (map f rest) ++ map g (reverse zs) ≡ all
-  put_back_twice h = ap (λ vs. vs ++ map g (reverse zs)) (map_twice k f rest) ∙ put_back (λ a. k (f a)) g xs rest x ys zs y all p q e (ap (λ vs. vs ++ map g (reverse ys)) (sym (map_twice k f xs)) ∙ h)
-
   pub put_forth_twice : map g ys ++ map k (map f (reverse xs)) ≡ all → map g zs ++ map k (map f (reverse rest)) ≡ all
   put_forth_twice h = ap (λ vs. map g zs ++ vs) (map_twice k f (reverse rest)) ∙ put_forth (λ a. k (f a)) g xs rest x ys zs y all p q e (ap (λ vs. map g ys ++ vs) (sym (map_twice k f (reverse xs))) ∙ h)
 
@@ -36,9 +33,6 @@ module _ {A B C : Type 0} (f : A → C) (g : B → C) (xs : List A) (ys : List B
   all_back h = ap (λ vs. map f vs ++ map g (reverse ys)) (sym none) ∙ h
 
 module _ {A B C D : Type 0} (k : D → C) (f : A → D) (g : B → C) (xs : List A) (ys : List B) (all : List C) (none : xs ≡ []) where
-  pub all_back_twice : map k (map f xs) ++ map g (reverse ys) ≡ all → map g (reverse ys) ≡ all
-  all_back_twice h = ap (λ vs. map k (map f vs) ++ map g (reverse ys)) (sym none) ∙ h
-
   pub all_forth_twice : map g ys ++ map k (map f (reverse xs)) ≡ all → map g ys ≡ all
   all_forth_twice h = sym (append-nil (map g ys)) ∙ ap (λ vs. map g ys ++ map k (map f (reverse vs))) (sym none) ∙ h
 

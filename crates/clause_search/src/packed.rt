@@ -3,11 +3,11 @@
 ghost use Rattle.std.specs.Prelude.{◌≡◌, IfOk, length, map};
 ghost use Rattle.std.specs.List.{AllByRecursion};
 ghost use Rattle.proof_core.specs.View.{step_of, steps_of};
-ghost use Rattle.tableau_branch.specs.View.{each_steps, ending_of, played_of};
+ghost use Rattle.tableau_branch.specs.View.{each_steps, played_of};
 ghost use Rattle.numbered_branches.specs.Branches.{IsStepBelow, step_at};
-ghost use Rattle.numbered_branches.specs.Moves.{IsEndingBelow, IsPlayedBelow, ending_at, played_at};
+ghost use Rattle.numbered_branches.specs.Moves.{IsPlayedBelow, played_at};
 ghost use Rattle.numbered_branches.specs.StepView.{step_seen};
-ghost use Rattle.numbered_branches.specs.View.{each_seen, ending_seen, played_seen};
+ghost use Rattle.numbered_branches.specs.View.{each_seen, played_seen};
 ghost use Rattle.clause_search.specs.Packed.{packed_lists, packed_move, packed_step, packed_steps};
 
 use numbered_branches::played::{Ending, Played};
@@ -15,7 +15,7 @@ use numbered_branches::step::Step;
 use numbered_terms::Terms;
 use proof_core::proof::Step as TreeStep;
 use std::alloc::{AllocError, Global};
-use tableau_branch::played::{Ending as TreeEnding, Played as TreePlayed};
+use tableau_branch::played::Played as TreePlayed;
 use term_bank::TermId;
 
 /// Two linear facts, and how many times each is taken.
@@ -173,22 +173,6 @@ fn lists_tree(
     Ok(trees)
 }
 
-// The ending over trees: that of a move without nodes.
-fn ending_tree(terms: &Terms, ending: Ending) -> Result<TreeEnding, AllocError>
-    requires { IsEndingBelow (length terms.now) (ending_seen ending) }
-    ensures { IfOk result (λ e. ending_of e ≡ ending_at terms.now (ending_seen ending)) }
-{
-    let bare = Played {
-        ending,
-        steps: Vec::new(terms.alloc()),
-    };
-    let TreePlayed {
-        ending,
-        steps: _steps,
-    } = bare.tree(terms)?;
-    Ok(ending)
-}
-
 impl PackedMove {
     /// The move, packed.
     pub fn of(alloc: Global, played: Played) -> Result<PackedMove, AllocError>
@@ -205,7 +189,7 @@ impl PackedMove {
         ensures { IfOk result (λ p. played_of p ≡ played_at terms.now (packed_move self)) }
     {
         let PackedMove { ending, steps } = self;
-        let ending = ending_tree(terms, ending)?;
+        let ending = ending.tree(terms)?;
         let steps = lists_tree(terms, steps)?;
         Ok(TreePlayed { ending, steps })
     }

@@ -102,20 +102,28 @@ fn fork(alloc: Global, f: u64, begun: Vec<PartialProof>) -> Result<PartialProof,
     ensures { IfOk result (λ p. partial_of p ≡ proof_of (forks f) (map partial_of begun.items)) }
 {
     let mut proofs = finish_each(alloc, begun)?;
-    let mut end = End::Close {
-        first: 0,
-        second: 0,
-    };
     proofs.reverse();
-    if let Some(first) = proofs.pop() {
-        proofs.reverse();
-        end = End::Cases {
-            fact: f,
-            first: Box::new(alloc, first)?,
-            others: proofs,
-        };
+    match proofs.pop() {
+        Some(first) => {
+            proofs.reverse();
+            let first = Box::new(alloc, first)?;
+            Ok(ended(
+                alloc,
+                End::Cases {
+                    fact: f,
+                    first,
+                    others: proofs,
+                },
+            ))
+        }
+        None => Ok(ended(
+            alloc,
+            End::Close {
+                first: 0,
+                second: 0,
+            },
+        )),
     }
-    Ok(ended(alloc, end))
 }
 
 /// The proof that ends in a split by this condition in this fact, where there are two proofs.
@@ -236,7 +244,7 @@ fn proof_of(
 }
 
 /// Puts the proofs of the branches before a move in place of those after it.
-fn join(alloc: Global, stack: &mut Vec<PartialProof>, played: Played) -> Result<(), AllocError>
+pub fn join(alloc: Global, stack: &mut Vec<PartialProof>, played: Played) -> Result<(), AllocError>
     ensures { OnOk result (partials_of stack.new.items ≡ joined (played_of played) (partials_of stack.old.items)) }
 {
     let Played { ending, steps } = played;

@@ -34,6 +34,7 @@ impl PartialProof {
     {
         let PartialProof { mut steps, end } = self;
         steps.reverse();
+        steps.shrink_to_fit();
         Proof { steps, end }
     }
 }

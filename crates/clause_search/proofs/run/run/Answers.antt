@@ -86,3 +86,24 @@ pub returns-clause-run : goal.returns-clause-run
 returns-clause-run c = let i = c.loop-branch.invariant in
     let empty : c.loop-branch.stack.items ≡ [] = nil_from_length c.loop-branch.stack.items (omega (arith, c.in_default.ensures.cases)) in
     end_proved c.args.store.now.defs c.loop-branch.store.terms c.loop-branch.left c.loop-branch.stack.items (map packed_move c.loop-branch.moves.items) _ empty i.run
+
+pub returns-then-left-cost-clause-terms : goal.returns-then-left-cost-clause-terms
+returns-then-left-cost-clause-terms c = begins_then c.args.store.now.terms c.loop-branch.store.terms c.step.new.store.terms c.loop-branch.invariant.terms c.step.ensures.terms
+
+pub returns-in-Ok-None-clause-terms : goal.returns-in-Ok-None-clause-terms
+returns-in-Ok-None-clause-terms c = begins_then c.args.store.now.terms c.loop-branch.store.terms c.step.new.store.terms c.loop-branch.invariant.terms c.step.ensures.terms
+
+pub returns-in-Err-Wide-clause-terms : goal.returns-in-Err-Wide-clause-terms
+returns-in-Err-Wide-clause-terms c = begins_then c.args.store.now.terms c.loop-branch.store.terms c.step.new.store.terms c.loop-branch.invariant.terms c.step.ensures.terms
+
+pub returns-in-Err-Memory-clause-terms : goal.returns-in-Err-Memory-clause-terms
+returns-in-Err-Memory-clause-terms c = begins_then c.args.store.now.terms c.loop-branch.store.terms c.step.new.store.terms c.loop-branch.invariant.terms c.step.ensures.terms
+
+pub returns-in_err-played-in-Ok-Some-clause-terms : goal.returns-in_err-played-in-Ok-Some-clause-terms
+returns-in_err-played-in-Ok-Some-clause-terms c = begins_then c.args.store.now.terms c.loop-branch.store.terms c.step.new.store.terms c.loop-branch.invariant.terms c.step.ensures.terms
+
+pub returns-in_err-of-in-Ok-Some-clause-terms : goal.returns-in_err-of-in-Ok-Some-clause-terms
+returns-in_err-of-in-Ok-Some-clause-terms c = begins_then c.args.store.now.terms c.loop-branch.store.terms c.step.new.store.terms c.loop-branch.invariant.terms c.step.ensures.terms
+
+pub returns-in_err-push-in-Ok-Some-clause-terms : goal.returns-in_err-push-in-Ok-Some-clause-terms
+returns-in_err-push-in-Ok-Some-clause-terms c = begins_then c.args.store.now.terms c.loop-branch.store.terms c.step.new.store.terms c.loop-branch.invariant.terms c.step.ensures.terms
