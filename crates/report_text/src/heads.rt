@@ -1,5 +1,5 @@
 // A goal's head: its procedure, its place, and why it is to be shown.
-ghost use Rattle.std.specs.Prelude.{◌≡◌, ◌++◌, codes, decimal, IfOk, OnOk};
+ghost use Rattle.std.specs.Prelude.{◌≡◌, ◌++◌, codes, decimal, string_bytes, IfOk, OnOk};
 ghost use Rattle.report_text.specs.Report.{kind_text, head as head_of};
 
 use flow_core::{GoalKind, Mark};
@@ -7,41 +7,41 @@ use itoa::Buffer;
 use std::alloc::{AllocError, Global};
 
 // Appends a word with a number in parentheses.
-fn write_numbered(out: &mut Vec<u8>, word: &[u8], number: u64) -> Result<(), AllocError>
-    ensures { OnOk result (out.new.items ≡ out.old.items ++ (word.now ++ decimal number ++ codes ")")) }
+fn write_numbered(out: &mut String, word: &str, number: u64) -> Result<(), AllocError>
+    ensures { OnOk result (string_bytes out.new ≡ string_bytes out.old ++ (word.now ++ decimal number ++ codes ")")) }
 {
     let mut buffer = Buffer::new();
-    out.extend_from_slice(word)?;
-    out.extend_from_slice(buffer.format(number).as_bytes())?;
-    out.extend_from_slice(b")")?;
+    out.push_str(word)?;
+    out.push_str(buffer.format(number))?;
+    out.push_str(")")?;
     Ok(())
 }
 
 // Appends the kind's word.
-fn write_kind(out: &mut Vec<u8>, kind: GoalKind) -> Result<(), AllocError>
-    ensures { OnOk result (out.new.items ≡ out.old.items ++ kind_text kind) }
+fn write_kind(out: &mut String, kind: GoalKind) -> Result<(), AllocError>
+    ensures { OnOk result (string_bytes out.new ≡ string_bytes out.old ++ kind_text kind) }
 {
     match kind {
-        GoalKind::Assert => out.extend_from_slice(b"assert"),
-        GoalKind::InvariantEntry => out.extend_from_slice(b"invariant-entry"),
-        GoalKind::InvariantKept => out.extend_from_slice(b"invariant-kept"),
-        GoalKind::Requires(number) => write_numbered(out, b"requires(", number),
-        GoalKind::Ensures => out.extend_from_slice(b"ensures"),
-        GoalKind::Point(number) => write_numbered(out, b"point(", number),
+        GoalKind::Assert => out.push_str("assert"),
+        GoalKind::InvariantEntry => out.push_str("invariant-entry"),
+        GoalKind::InvariantKept => out.push_str("invariant-kept"),
+        GoalKind::Requires(number) => write_numbered(out, "requires(", number),
+        GoalKind::Ensures => out.push_str("ensures"),
+        GoalKind::Point(number) => write_numbered(out, "point(", number),
     }
 }
 
 /// Appends a goal's head.
-pub(crate) fn write_head(out: &mut Vec<u8>, name: &[u8], mark: &Mark) -> Result<(), AllocError>
-    ensures { OnOk result (out.new.items ≡ out.old.items ++ head_of name.now mark.now) }
+pub(crate) fn write_head(out: &mut String, name: &str, mark: &Mark) -> Result<(), AllocError>
+    ensures { OnOk result (string_bytes out.new ≡ string_bytes out.old ++ head_of name.now mark.now) }
 {
     let mut buffer = Buffer::new();
-    out.extend_from_slice(name)?;
-    out.extend_from_slice(b" ")?;
-    out.extend_from_slice(buffer.format(mark.place.line).as_bytes())?;
-    out.extend_from_slice(b":")?;
-    out.extend_from_slice(buffer.format(mark.place.col).as_bytes())?;
-    out.extend_from_slice(b" ")?;
+    out.push_str(name)?;
+    out.push_str(" ")?;
+    out.push_str(buffer.format(mark.place.line))?;
+    out.push_str(":")?;
+    out.push_str(buffer.format(mark.place.col))?;
+    out.push_str(" ")?;
     write_kind(out, mark.kind)
 }
 
@@ -50,7 +50,7 @@ pub(crate) fn write_head(out: &mut Vec<u8>, name: &[u8], mark: &Mark) -> Result<
 pub fn head(alloc: Global, name: &str, mark: &Mark) -> Result<Vec<u8>, AllocError>
     ensures { IfOk result (λ v. v.items ≡ head_of name.now mark.now) }
 {
-    let mut out = Vec::new(alloc);
-    write_head(&mut out, name.as_bytes(), mark)?;
-    Ok(out)
+    let mut out = String::new(alloc);
+    write_head(&mut out, name, mark)?;
+    Ok(out.into_bytes())
 }

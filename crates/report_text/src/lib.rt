@@ -1,5 +1,5 @@
 //! The lines of a report: a goal's head, its line with the verdict, and whether each procedure is
-//! correct. Proved: `head` and `report` give exactly the lines of `specs/Report.antt`, and a line that
+//! correct. Proved: `head`, `push_proc` and `report` give exactly the lines of `specs/Report.antt`, and a line that
 //! says that a procedure is correct stands in a report's bytes only where each of that procedure's goals
 //! is proved.
 #![tactic(auto)]
@@ -14,4 +14,4 @@ mod reports;
 pub mod laws;
 
 pub use heads::head;
-pub use reports::{all_proved, is_proof, report, text};
+pub use reports::{all_proved, is_proof, push_proc, report, text};

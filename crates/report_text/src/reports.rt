@@ -16,14 +16,14 @@ use tableau::ended::Verdict;
 const ROOM: usize = 40;
 
 // The verdict's word.
-fn word(verdict: Verdict) -> &'static [u8]
+fn word(verdict: Verdict) -> &'static str
     ensures { result.now ≡ verdict_text (verdict_of verdict) }
 {
     match verdict {
-        Verdict::Proved => b"proved",
-        Verdict::Open => b"open",
-        Verdict::Turns => b"turns",
-        Verdict::Wide => b"wide",
+        Verdict::Proved => "proved",
+        Verdict::Open => "open",
+        Verdict::Turns => "turns",
+        Verdict::Wide => "wide",
     }
 }
 
@@ -50,46 +50,46 @@ pub fn all_proved(verdicts: &[Verdict]) -> bool
 }
 
 // A goal's line.
-fn goal(alloc: Global, name: &[u8], mark: &Mark, verdict: Verdict) -> Result<Vec<u8>, AllocError>
-    ensures { IfOk result (λ v. v.items ≡ goal_line name.now mark.now (verdict_of verdict)) }
+fn goal(alloc: Global, name: &str, mark: &Mark, verdict: Verdict) -> Result<String, AllocError>
+    ensures { IfOk result (λ s. string_bytes s ≡ goal_line name.now mark.now (verdict_of verdict)) }
 {
-    let mut out = Vec::with_capacity(alloc, name.len().saturating_add(ROOM))?;
+    let mut out = String::with_capacity(alloc, name.len().saturating_add(ROOM))?;
     write_head(&mut out, name, mark)?;
-    out.extend_from_slice(b" ")?;
-    out.extend_from_slice(word(verdict))?;
+    out.push_str(" ")?;
+    out.push_str(word(verdict))?;
     Ok(out)
 }
 
 // Whether the procedure is correct, in a report's words.
-fn ending(verdicts: &[Verdict]) -> &'static [u8]
+fn ending(verdicts: &[Verdict]) -> &'static str
     ensures { result.now ≡ last_words (map verdict_of verdicts.now) }
 {
     if all_proved(verdicts) {
-        b" correct"
+        " correct"
     } else {
-        b" not proved"
+        " not proved"
     }
 }
 
 // The line that says whether the procedure is correct.
-fn last(alloc: Global, name: &[u8], verdicts: &[Verdict]) -> Result<Vec<u8>, AllocError>
-    ensures { IfOk result (λ v. v.items ≡ last_line name.now (map verdict_of verdicts.now)) }
+fn last(alloc: Global, name: &str, verdicts: &[Verdict]) -> Result<String, AllocError>
+    ensures { IfOk result (λ s. string_bytes s ≡ last_line name.now (map verdict_of verdicts.now)) }
 {
-    let mut out = Vec::with_capacity(alloc, name.len().saturating_add(ROOM))?;
-    out.extend_from_slice(name)?;
-    out.extend_from_slice(ending(verdicts))?;
+    let mut out = String::with_capacity(alloc, name.len().saturating_add(ROOM))?;
+    out.push_str(name)?;
+    out.push_str(ending(verdicts))?;
     Ok(out)
 }
 
 // Appends the lines of a procedure's goals.
 fn push_goals(
     alloc: Global,
-    lines: &mut Vec<Vec<u8>>,
-    name: &[u8],
+    lines: &mut Vec<String>,
+    name: &str,
     marks: &[Mark],
     verdicts: &[Verdict],
 ) -> Result<(), AllocError>
-    ensures { OnOk result (map (λ l. l.items) lines.new.items ≡ map (λ l. l.items) lines.old.items ++ goal_lines name.now marks.now (map verdict_of verdicts.now)) }
+    ensures { OnOk result (map string_bytes lines.new.items ≡ map string_bytes lines.old.items ++ goal_lines name.now marks.now (map verdict_of verdicts.now)) }
 {
     for i in 0..marks.len().min(verdicts.len()) {
         lines.push(goal(alloc, name, &marks[i], verdicts[i])?)?;
@@ -97,20 +97,32 @@ fn push_goals(
     Ok(())
 }
 
-// Appends a procedure's lines.
+/// Appends a procedure's lines: one for each of its goals, by its mark and verdict, and then whether it is
+/// correct.
 #[tactic(auto, using(crate::proofs::Ends::one_behind))]
-fn push_proc(
+pub fn push_proc(
     alloc: Global,
-    lines: &mut Vec<Vec<u8>>,
-    name: &[u8],
+    lines: &mut Vec<String>,
+    name: &str,
     marks: &[Mark],
     verdicts: &[Verdict],
 ) -> Result<(), AllocError>
-    ensures { OnOk result (map (λ l. l.items) lines.new.items ≡ map (λ l. l.items) lines.old.items ++ proc_lines name.now marks.now (map verdict_of verdicts.now)) }
+    ensures { OnOk result (map string_bytes lines.new.items ≡ map string_bytes lines.old.items ++ proc_lines name.now marks.now (map verdict_of verdicts.now)) }
 {
     push_goals(alloc, lines, name, marks, verdicts)?;
     lines.push(last(alloc, name, verdicts)?)?;
     Ok(())
+}
+
+// The lines as bytes.
+fn bytes_of(alloc: Global, lines: Vec<String>) -> Result<Vec<Vec<u8>>, AllocError>
+    ensures { IfOk result (λ v. map (λ l. l.items) v.items ≡ map string_bytes lines.items) }
+{
+    let mut found = Vec::with_capacity(alloc, lines.len())?;
+    for line in lines {
+        found.push(line.into_bytes())?;
+    }
+    Ok(found)
 }
 
 /// The lines of a report, in order: for each procedure, by its name, one for each of its goals, by its
@@ -129,12 +141,12 @@ pub fn report(
         push_proc(
             alloc,
             &mut lines,
-            names[i].as_bytes(),
+            names[i].as_str(),
             marks[i].as_slice(),
             verdicts[i].as_slice(),
         )?;
     }
-    Ok(lines)
+    bytes_of(alloc, lines)
 }
 
 /// The bytes of lines: each is ended by a line feed.
