@@ -1,12 +1,13 @@
 -- The first procedure with a text, by the digests of texts.
 use Rattle.std.specs.Prelude.{◌≡◌, refl, ℕ, zero, suc, Bool, true, false, ◌||◌, cond, not, List, [], ◌∷◌, slice_get, bytes_eq, is_some, Option, Some, None, option_map, Result, Ok, Err, OnOk}
 use Rattle.std.proofs.Common.{ap, sym, ◌+◌, ◌∙◌, true≢false, arith}
+use Rattle.std.proofs.lemmas.Bool.{or_left, or_right}
 use Rattle.std.proofs.lemmas.Slice.Eq.{bytes_eq-Decides}
 use Rattle.sha2.specs.Sha256.{sha256}
 use Rattle.bpl_scopes.specs.Positions.{first_at}
 use Rattle.vc_build.specs.Rebuild.{BuiltProc, stands_in}
 use Rattle.vc_rebuild.specs.Kept.{with_text, is_new}
-use Rattle.vc_rebuild.specs.Inside.{digests_of, found_from}
+use Rattle.vc_rebuild.specs.Inside.{digests_of, found_from, having_text}
 
 module _ (text : List ℕ) where
   -- where the texts are the same, the digests are
@@ -82,7 +83,7 @@ found_stands (b ∷ bs) text = by (bytes_eq text b.depends) (found_stands bs tex
 pub told_new : (bs : List BuiltProc) (b : BuiltProc) (text : List ℕ) (o : Option BuiltProc) → text ≡ b.depends → o ≡ with_text bs text → is_new bs b ≡ not (is_some o)
 told_new bs b text o same e = ap (λ t. not (stands_in bs t)) (sym same) ∙ ap not (sym (ap is_some e ∙ found_stands bs text))
 
-no_step : (b : Bool) → b ≡ false → (n : ℕ) → n ≡ n + cond b 1 0
+pub no_step : (b : Bool) → b ≡ false → (n : ℕ) → n ≡ n + cond b 1 0
 no_step true e n = absurd (true≢false e)
 no_step false e n = omega arith
 
@@ -103,6 +104,30 @@ module _ (bs : List BuiltProc) (b : BuiltProc) (text : List ℕ) (same : text �
 
   pub built_step : None ≡ with_text bs text → (n : ℕ) → n + 1 ≡ n + cond (is_new bs b) 1 0
   built_step e n = one_step (is_new bs b) (told_new bs b text None same e) n
+
+stands_at : (bs : List BuiltProc) (at : ℕ) (text : List ℕ) (c : BuiltProc) → slice_get bs at ≡ Some c → bytes_eq text c.depends ≡ true → stands_in bs text ≡ true
+stands_at [] at text c e t = absurd (cc)
+stands_at (b ∷ bs) zero text c e t = let same : b ≡ c = cc in or_left (bytes_eq text b.depends) (stands_in bs text) (ap (λ (x : BuiltProc). bytes_eq text x.depends) same ∙ t)
+stands_at (b ∷ bs) (suc at) text c e t = or_right (bytes_eq text b.depends) (stands_in bs text) (stands_at bs at text c e t)
+
+stands_there : (bs : List BuiltProc) (at : ℕ) (text : List ℕ) (c : BuiltProc) → Some c ≡ having_text (slice_get bs at) text → stands_in bs text ≡ true
+stands_there bs at text c = by (slice_get bs at) refl
+  where
+    at_test : (x : BuiltProc) (s : Bool) → bytes_eq text x.depends ≡ s → slice_get bs at ≡ Some x → Some c ≡ cond s (Some x) None → stands_in bs text ≡ true
+    at_test x true q p f = stands_at bs at text x p q
+    at_test x false q p f = absurd (cc)
+
+    by : (o : Option BuiltProc) → slice_get bs at ≡ o → Some c ≡ having_text o text → stands_in bs text ≡ true
+    by None p f = absurd (cc)
+    by (Some x) p f = at_test x (bytes_eq text x.depends) refl p f
+
+-- where the procedure at a place has the text, the procedure of this text is not new
+module _ (bs : List BuiltProc) (b : BuiltProc) (text : List ℕ) (same : text ≡ b.depends) (at : ℕ) (c : BuiltProc) (e : Some c ≡ having_text (slice_get bs at) text) where
+  pub there_is_kept : false ≡ is_new bs b
+  there_is_kept = sym (ap (λ t. not (stands_in bs t)) (sym same) ∙ ap not (stands_there bs at text c e))
+
+  pub there_no_step : (n : ℕ) → n ≡ n + cond (is_new bs b) 1 0
+  there_no_step n = no_step (is_new bs b) (sym there_is_kept) n
 
 -- what holds anyway holds at a value
 pub always_ok : {T E Q : Type 0} (r : Result T E) → Q → OnOk r Q

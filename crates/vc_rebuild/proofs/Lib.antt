@@ -4,4 +4,6 @@ pub mod Digested
 pub mod WithinLimits
 pub mod Programs
 pub mod KeptGoals
+pub mod OneBody
+pub mod Heads
 pub mod NoGotos

@@ -1,6 +1,8 @@
 -- Goals that take marks, one after another.
-use Rattle.std.specs.Prelude.{◌≡◌, refl, List, [], ◌∷◌, map, length}
-use Rattle.std.proofs.Common.{ap, arith, ◌∙◌}
+use Rattle.std.specs.Prelude.{◌≡◌, refl, Bool, true, List, [], ◌∷◌, map, length}
+use Rattle.std.proofs.Common.{ap, sym, arith, ◌∙◌}
+use lib.Pointwise.{pointwise}
+use Rattle.std.proofs.lemmas.Bool.{and_parts}
 use Rattle.std.proofs.lemmas.List.{length-map}
 use Rattle.flow_core.specs.declared.mark.Mark.{Mark}
 use Rattle.logic_core.specs.Def.{Obligation}
@@ -26,6 +28,17 @@ marked_again (g ∷ gs) = ap (λ hs. g ∷ hs) (marked_again gs)
 -- goals with the obligations of others and their marks are those
 pub goals_again : (gs hs : List Goal) → SameObligations gs hs → remarked (map (λ (h : Goal). h.mark) hs) gs ≡ hs
 goals_again gs hs same = remarked_by (map (λ (h : Goal). h.mark) hs) gs ∙ ap (with_marks (map (λ (h : Goal). h.mark) hs)) same ∙ marked_again hs
+
+-- goals of the same marks and obligations are the same
+pub same_goals : (gs hs : List Goal) → map (λ (g : Goal). g.mark) gs ≡ map (λ (h : Goal). h.mark) hs → SameObligations gs hs → gs ≡ hs
+same_goals gs hs marks same = sym (goals_again gs gs refl) ∙ ap (λ ms. remarked ms gs) marks ∙ goals_again gs hs same
+
+-- lists that are equal point by point, by a test that tells equal points
+pub same_points : {A : Type 0} (test : A → A → Bool) → ((x y : A) → test x y ≡ true → x ≡ y) → (xs ys : List A) → pointwise test xs ys ≡ true → xs ≡ ys
+same_points test tells [] [] e = refl
+same_points test tells [] (y ∷ ys) e = absurd (cc)
+same_points test tells (x ∷ xs) [] e = absurd (cc)
+same_points test tells (x ∷ xs) (y ∷ ys) e = let both = and_parts (test x y) (pointwise test xs ys) e in λ i. tells x y both.0 i ∷ same_points test tells xs ys both.1 i
 
 -- goals of as many marks have these marks, and the obligations that they had
 pub marks_of_remarked : (ms : List Mark) (gs : List Goal) → length ms ≡ length gs → ms ≡ map (λ (g : Goal). g.mark) (remarked ms gs)

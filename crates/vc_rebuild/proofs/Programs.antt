@@ -99,7 +99,7 @@ left_bodies (p ∷ ps) = ap (λ b. cond b (removed p ∷ having_body (map remove
     by false h = h
 
 -- names reach what they reached
-reach_same : (m : Module) (n : ℕ) (reached : List ℕ) → reach_on (remove_gotos m) n reached ≡ reach_on m n reached
+pub reach_same : (m : Module) (n : ℕ) (reached : List ℕ) → reach_on (remove_gotos m) n reached ≡ reach_on m n reached
 reach_same m zero reached = refl
 reach_same m (suc n) reached = reach_same m n (filter (leads_to m reached) (positions m))
 

@@ -30,7 +30,7 @@ SameObligations gs hs = each_obligation gs ≡ each_obligation hs
 
 -- of a module without gotos: whichever of these has the dependency text of a procedure with a body has its obligations
 abbrev pub TextsDecide : List BuiltProc → Module → Type 0
-TextsDecide old m = (p : Proc) → Contains m.procs p → is_some p.body ≡ true → (b : BuiltProc) → with_text old (depends m p) ≡ Some b → SameObligations b.goals (goals_by_passes m p)
+TextsDecide old m = (p : Proc) → Contains m.procs p → is_some p.body ≡ true → (b : BuiltProc) → Contains old b → depends m p ≡ b.depends → SameObligations b.goals (goals_by_passes m p)
 
 -- procedures of the one and of the other that have equal dependency texts have equal obligations
 abbrev pub TextsFix : List BuiltProc → List BuiltProc → Type 0
@@ -43,6 +43,11 @@ digests_of bs = map (λ (b : BuiltProc). sha256 b.depends) bs
 abbrev pub found_from : List BuiltProc → Option BuiltProc → List ℕ → Option BuiltProc
 found_from bs None text = None
 found_from bs (Some b) text = cond (bytes_eq text b.depends) (Some b) (with_text bs text)
+
+-- this procedure, if it has the text
+abbrev pub having_text : Option BuiltProc → List ℕ → Option BuiltProc
+having_text None text = None
+having_text (Some b) text = cond (bytes_eq text b.depends) (Some b) None
 
 abbrev pub HaveNoGoto : List Proc → Type 0
 HaveNoGoto ps = AllByRecursion (λ p. BodyHasNoGoto p.body) ps

@@ -2,6 +2,7 @@ pub mod Marks
 pub mod Kept
 pub mod Inside
 pub mod Looked
+pub mod Change
 pub mod Within
 pub mod Codes
 pub mod Gotos

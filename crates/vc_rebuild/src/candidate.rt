@@ -1,8 +1,8 @@
 // The procedure before an edit whose obligations a procedure keeps.
 ghost use Rattle.std.specs.Prelude.{◌≡◌, IfOk, slice_get, bytes_eq, option_map};
 ghost use Rattle.vc_rebuild.specs.Kept.{with_text};
-ghost use Rattle.vc_rebuild.specs.Inside.{digests_of, found_from};
-ghost use Rattle.vc_rebuild.specs.Looked.{IsBefore};
+ghost use Rattle.vc_rebuild.specs.Inside.{digests_of, found_from, having_text};
+ghost use Rattle.vc_rebuild.specs.Looked.{AreDigests, IsBefore};
 
 use crate::built::Built;
 use crate::digest::DigestedText;
@@ -15,8 +15,9 @@ use std::alloc::{AllocError, Global};
 pub struct Before<'a> {
     /// It.
     pub built: &'a Built,
-    /// The digests of its procedures' dependency texts, in order.
-    pub digests: Positions<'a>,
+    /// The digests of its procedures' dependency texts, in order. Where few texts are looked for, there
+    /// are none.
+    pub digests: Option<Positions<'a>>,
 }
 
 // The digests of the procedures' texts, and where each stands first.
@@ -48,7 +49,7 @@ fn first_with<'a>(procs: &'a [BuiltProc], text: &[u8]) -> Option<&'a BuiltProc>
     None
 }
 
-fn proc_at(procs: &[BuiltProc], at: usize) -> Option<&BuiltProc>
+pub(crate) fn proc_at(procs: &[BuiltProc], at: usize) -> Option<&BuiltProc>
     ensures { option_map (λ b. b.now) result ≡ slice_get procs.now at }
 {
     procs.get(at)
@@ -84,22 +85,63 @@ fn with_text<'a>(
     }
 }
 
+// The same, with or without digests.
+fn found_by<'a>(
+    digests: &Option<Positions<'_>>,
+    procs: &'a [BuiltProc],
+    text: &DigestedText,
+) -> Option<&'a BuiltProc>
+    requires { AreDigests digests.now procs.now }
+    ensures { option_map (λ b. b.now) result ≡ with_text procs.now text.now }
+{
+    match digests {
+        Some(digests) => with_text(digests, procs, text),
+        None => first_with(procs, text.text()),
+    }
+}
+
+/// The procedure before at this place, if it has the text.
+pub fn there<'a>(before: &Before<'a>, place: usize, text: &[u8]) -> Option<&'a BuiltProc>
+    ensures { option_map (λ b. b.now) result ≡ having_text (slice_get before.now.built.now.procs place) text.now }
+{
+    match proc_at(before.built.procs(), place) {
+        None => None,
+        Some(kept) => if has_text(kept, text) {
+            Some(kept)
+        } else {
+            None
+        },
+    }
+}
+
 /// The first procedure before with this dependency text.
 pub fn candidate<'a>(before: &Before<'a>, text: &DigestedText) -> Option<&'a BuiltProc>
     requires { IsBefore before.now }
     ensures { option_map (λ b. b.now) result ≡ with_text before.now.built.now.procs text.now }
 {
-    with_text(&before.digests, before.built.procs(), text)
+    found_by(&before.digests, before.built.procs(), text)
 }
 
-/// What was built before, to be looked at.
-pub fn looked_at<'a>(alloc: Global, built: &'a Built) -> Result<Before<'a>, AllocError>
+/// What was built before, to be looked at; few texts are looked for where one body alone is another one.
+pub fn looked_at<'a>(
+    alloc: Global,
+    built: &'a Built,
+    but: Option<u64>,
+) -> Result<Before<'a>, AllocError>
     ensures before { IfOk result IsBefore }
     ensures same { IfOk result (λ b. b.built.now ≡ built.now) }
 {
-    let found = digests(alloc, built.procs())?;
-    Ok(Before {
-        built,
-        digests: found,
-    })
+    match but {
+        Some(_) => Ok(Before {
+            built,
+            digests: None,
+        }),
+        None => {
+            let found = digests(alloc, built.procs())?;
+            Ok(Before {
+                built,
+                digests: Some(found),
+            })
+        }
+    }
 }

@@ -65,18 +65,11 @@ impl DigestedText {
         Ok(DigestedText { shared })
     }
 
-    /// The text; where the other one is the same, it is shared with it.
-    pub fn like(
-        alloc: Global,
-        text: Vec<u8>,
-        other: &DigestedText,
-    ) -> Result<DigestedText, AllocError>
-        ensures { IfOk result (λ d. d ≡ text.items) }
+    /// It once more, the same one in memory.
+    pub fn share(&self) -> Result<DigestedText, AllocError>
+        ensures { IfOk result (λ d. d ≡ self.now) }
     {
-        if text.as_slice() != other.text() {
-            return DigestedText::of(alloc, text);
-        }
-        let shared = Arc::try_clone(&other.shared)?;
+        let shared = Arc::try_clone(&self.shared)?;
         Ok(DigestedText { shared })
     }
 

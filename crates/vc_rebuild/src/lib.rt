@@ -18,12 +18,14 @@ pub mod shared;
 
 // A procedure kept or built, and then a program.
 mod candidate;
+mod change;
 mod collected;
 mod large;
 mod procedure;
 pub mod program;
 
 pub use built::Built;
+pub use change::changes_body;
 pub use kept::BuiltProc;
-pub use program::{rebuild, texts_fix_obligations};
+pub use program::{rebuild, rebuild_changed, texts_fix_obligations};
 pub use shared::KeptGoal;

@@ -1,5 +1,5 @@
 // A procedure whose obligations are kept or built.
-ghost use Rattle.std.specs.Prelude.{◌≡◌, ◌+◌, cond, map, Contains, IfOk, IsSome, OnOk};
+ghost use Rattle.std.specs.Prelude.{◌≡◌, ◌+◌, true, cond, map, bytes_eq, Contains, IfOk, IsSome, OnOk};
 ghost use Rattle.std.specs.Arc.{arc_value};
 ghost use Rattle.bpl_model.specs.NoGoto.{BodyHasNoGoto};
 ghost use Rattle.vc_build.specs.Depends.{depends};
@@ -7,14 +7,17 @@ ghost use Rattle.vc_build.specs.Goals.{goals_by_passes};
 ghost use Rattle.vc_rebuild.specs.Kept.{kept_of, is_new};
 ghost use Rattle.vc_rebuild.specs.Inside.{SameObligations, TextsDecide};
 ghost use Rattle.vc_rebuild.specs.Looked.{IsBefore};
+ghost use Rattle.vc_rebuild.specs.Change.{KeptBut};
 
-use crate::candidate::{Before, candidate};
+use crate::candidate::{Before, candidate, there};
+use crate::change::{has_name, unread};
 use crate::digest::DigestedText;
 use crate::kept::BuiltProc;
 use crate::shared::{KeptGoal, share_all};
 use crate::text::depends;
 use bpl_model::{Links, Proc};
 use bv_base::Steps;
+use flow_core::Mark;
 use logic_core::Sequence;
 use std::alloc::{AllocError, Global};
 use std::sync::Arc;
@@ -32,22 +35,6 @@ pub struct MadeProc {
     pub is_new: bool,
 }
 
-// The procedure's dependency text. Where the procedure before has the same one, it is shared with it.
-fn text_of(
-    alloc: Global,
-    links: &Links<'_>,
-    proc: &Proc,
-    there: Option<&BuiltProc>,
-) -> Result<DigestedText, AllocError>
-    ensures { IfOk result (λ t. t ≡ depends links.now proc.now) }
-{
-    let text = depends(alloc, links, proc)?;
-    match there {
-        Some(there) => DigestedText::like(alloc, text, there.depends()),
-        None => DigestedText::of(alloc, text),
-    }
-}
-
 // The procedure with these obligations, and the marks that it has in the present program.
 #[tactic(auto, using(crate::proofs::MarksInOrder::goals_again, crate::proofs::MarksInOrder::as_many_goals))]
 fn with_marks(
@@ -63,7 +50,8 @@ fn with_marks(
 {
     let marks = marks_of(alloc, links.parts(), proc)?;
     let name = proc.name.copy(alloc)?;
-    Ok(BuiltProc::of(name, text, Sequence::of(marks), shared))
+    let built = BuiltProc::of(alloc, name, text, Sequence::of(marks), shared)?;
+    Ok(built)
 }
 
 // The goals, built, and asked for in so many turns.
@@ -98,6 +86,47 @@ fn kept_proc(
 {
     let shared = Arc::try_clone(kept.sharing())?;
     Ok(with_marks(alloc, links, proc, text, shared)?)
+}
+
+// Whether its goals have these marks.
+fn has_marks(kept: &BuiltProc, marks: &[Mark]) -> bool
+    ensures { result ≡ true → map (λ g. g.mark) kept.now.goals ≡ marks.now }
+{
+    kept.marks() == marks
+}
+
+// The procedure before, which is this one.
+fn kept_whole(links: &Links<'_>, proc: &Proc, kept: &BuiltProc) -> Result<BuiltProc, BuildFault>
+    requires { kept.now ≡ kept_of links.now proc.now }
+    ensures { IfOk result (λ b. b ≡ kept_of links.now proc.now) }
+{
+    let _links = links;
+    let _proc = proc;
+    let built = kept.share()?;
+    Ok(built)
+}
+
+// The procedure with the obligations of one before that has its dependency text. Where the name and the
+// marks are the same too, it is that one.
+fn kept_there(
+    alloc: Global,
+    links: &Links<'_>,
+    proc: &Proc,
+    kept: &BuiltProc,
+) -> Result<BuiltProc, BuildFault>
+    requires text { kept.now.depends ≡ depends links.now proc.now }
+    requires same { SameObligations kept.now.goals (goals_by_passes links.now proc.now) }
+    ensures { IfOk result (λ b. b ≡ kept_of links.now proc.now) }
+{
+    let marks = marks_of(alloc, links.parts(), proc)?;
+    if has_name(kept, proc) {
+        if has_marks(kept, marks.as_slice()) {
+            return kept_whole(links, proc, kept);
+        }
+    }
+    drop(marks);
+    let text = kept.depends().share()?;
+    kept_proc(alloc, links, proc, text, kept)
 }
 
 // The procedure, built; its goals are asked for in so many turns.
@@ -156,9 +185,10 @@ fn with_text<L: Ledger>(
     }
 }
 
-/// The procedure, which has a body, with its goals. Whichever procedure before has its dependency text
-/// has its obligations. As a rule it is the procedure at this place, whose text is looked at first.
-pub fn made_proc<L: Ledger>(
+// The procedure, by its dependency text. Whichever procedure before has it has its obligations. As a rule
+// it is the procedure at this place, whose text is looked at first.
+#[tactic(auto, using(crate::proofs::KeptGoals::same_as_there, crate::proofs::KeptGoals::text_there))]
+fn made_by_text<L: Ledger>(
     alloc: Global,
     before: &Before<'_>,
     place: usize,
@@ -175,7 +205,48 @@ pub fn made_proc<L: Ledger>(
     ensures told { IfOk result (λ r. r.is_new ≡ is_new before.now.built.now.procs (kept_of links.now proc.now)) }
     ensures steps { OnOk result (steps.new ≡ steps.old + cond (is_new before.now.built.now.procs (kept_of links.now proc.now)) 1 0) }
 {
-    let there = before.built.procs().get(place);
-    let text = text_of(alloc, links, proc, there)?;
-    with_text(alloc, before, links, proc, text, steps)
+    let text = depends(alloc, links, proc)?;
+    match there(before, place, text.as_slice()) {
+        Some(kept) => {
+            let is_new = false;
+            let built = kept_there(alloc, links, proc, kept)?;
+            Ok(MadeProc { built, is_new })
+        }
+        None => {
+            let text = DigestedText::of(alloc, text)?;
+            with_text(alloc, before, links, proc, text, steps)
+        }
+    }
+}
+
+/// The procedure, which has a body, with its goals. Where one declaration's body alone has changed, and
+/// it is another's, it is kept of the procedure at this place, if that has its name; its text isn't read.
+pub fn made_proc<L: Ledger>(
+    alloc: Global,
+    before: &Before<'_>,
+    place: usize,
+    but: Option<u64>,
+    links: &Links<'_>,
+    proc: &Proc,
+    steps: &mut Steps<L>,
+) -> Result<MadeProc, BuildFault>
+    requires there { Contains links.now.procs proc.now }
+    requires no_goto { BodyHasNoGoto proc.now.body }
+    requires body { IsSome proc.now.body }
+    requires before { IsBefore before.now }
+    requires decided { TextsDecide before.now.built.now.procs links.now }
+    requires kept { KeptBut before.now.built.now.procs links.now but }
+    ensures built { IfOk result (λ r. r.built ≡ kept_of links.now proc.now) }
+    ensures told { IfOk result (λ r. r.is_new ≡ is_new before.now.built.now.procs (kept_of links.now proc.now)) }
+    ensures steps { OnOk result (steps.new ≡ steps.old + cond (is_new before.now.built.now.procs (kept_of links.now proc.now)) 1 0) }
+{
+    let found = unread(alloc, before, place, but, links, proc)?;
+    match found {
+        Some(kept) => {
+            let is_new = false;
+            let built = kept_there(alloc, links, proc, kept)?;
+            Ok(MadeProc { built, is_new })
+        }
+        None => made_by_text(alloc, before, place, links, proc, steps),
+    }
 }

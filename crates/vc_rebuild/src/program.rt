@@ -10,6 +10,7 @@ ghost use Rattle.vc_build.specs.Rebuild.{with_body, built, rebuilt};
 ghost use Rattle.vc_rebuild.specs.Kept.{all_goals, having_body, kept_of, is_new, new_in, program_after};
 ghost use Rattle.vc_rebuild.specs.Inside.{AreBuilt, HaveNoGoto, TextsDecide, TextsFix};
 ghost use Rattle.vc_rebuild.specs.Looked.{IsBefore};
+ghost use Rattle.vc_rebuild.specs.Change.{IsChangedAt, KeptBut};
 
 use crate::built::Built;
 use crate::candidate::{Before, looked_at};
@@ -59,6 +60,7 @@ fn add_with_body<L: Ledger>(
     alloc: Global,
     found: &mut Collected,
     before: &Before<'_>,
+    but: Option<u64>,
     links: &Links<'_>,
     proc: &Proc,
     steps: &mut Steps<L>,
@@ -69,12 +71,13 @@ fn add_with_body<L: Ledger>(
     requires body { IsSome proc.now.body }
     requires before { IsBefore before.now }
     requires decided { TextsDecide before.now.built.now.procs links.now }
+    requires kept { KeptBut before.now.built.now.procs links.now but }
     ensures added { OnOk result (found.new ≡ found.old ++ kept_of links.now proc.now ∷ []) }
     ensures told { IfOk result (λ n. n ≡ cond (is_new before.now.built.now.procs (kept_of links.now proc.now)) 1 0) }
     ensures steps { OnOk result (steps.new ≡ steps.old + cond (is_new before.now.built.now.procs (kept_of links.now proc.now)) 1 0) }
     ensures fault { IfErr result (IsFaultOf (flat_map (goals_by_passes links.now) links.now.procs)) }
 {
-    match made_proc(alloc, before, found.len(), links, proc, steps) {
+    match made_proc(alloc, before, found.len(), but, links, proc, steps) {
         Ok(made) => add_made(alloc, found, links, made),
         Err(fault) => Err(fault_with(alloc, links, fault)),
     }
@@ -86,6 +89,7 @@ fn add_procedure<L: Ledger>(
     alloc: Global,
     found: &mut Collected,
     before: &Before<'_>,
+    but: Option<u64>,
     links: &Links<'_>,
     proc: &Proc,
     steps: &mut Steps<L>,
@@ -95,6 +99,7 @@ fn add_procedure<L: Ledger>(
     requires no_goto { BodyHasNoGoto proc.now.body }
     requires before { IsBefore before.now }
     requires decided { TextsDecide before.now.built.now.procs links.now }
+    requires kept { KeptBut before.now.built.now.procs links.now but }
     ensures added { OnOk result (found.new ≡ found.old ++ map (kept_of links.now) (having_body (proc.now ∷ []))) }
     ensures told { IfOk result (λ n. n ≡ new_in before.now.built.now.procs links.now (proc.now ∷ [])) }
     ensures steps { OnOk result (steps.new ≡ steps.old + new_in before.now.built.now.procs links.now (proc.now ∷ [])) }
@@ -102,7 +107,7 @@ fn add_procedure<L: Ledger>(
 {
     match &proc.body {
         None => Ok(0),
-        Some(_) => add_with_body(alloc, found, before, links, proc, steps),
+        Some(_) => add_with_body(alloc, found, before, but, links, proc, steps),
     }
 }
 
@@ -111,12 +116,14 @@ fn add_procedures<L: Ledger>(
     alloc: Global,
     found: &mut Collected,
     before: &Before<'_>,
+    but: Option<u64>,
     links: &Links<'_>,
     steps: &mut Steps<L>,
 ) -> Result<u64, BuildFault>
     requires no_goto { HaveNoGoto links.now.procs }
     requires before { IsBefore before.now }
     requires decided { TextsDecide before.now.built.now.procs links.now }
+    requires kept { KeptBut before.now.built.now.procs links.now but }
     ensures added { OnOk result (found.new ≡ found.old ++ map (kept_of links.now) (with_body links.now)) }
     ensures told { IfOk result (λ n. n ≡ new_in before.now.built.now.procs links.now links.now.procs) }
     ensures steps { OnOk result (steps.new ≡ steps.old + new_in before.now.built.now.procs links.now links.now.procs) }
@@ -125,7 +132,7 @@ fn add_procedures<L: Ledger>(
     let procs = &links.parts().procs;
     let mut rebuilt: u64 = 0;
     for i in 0..procs.len() {
-        rebuilt += add_procedure(alloc, found, before, links, &procs[i], steps)?;
+        rebuilt += add_procedure(alloc, found, before, but, links, &procs[i], steps)?;
     }
     Ok(rebuilt)
 }
@@ -135,22 +142,50 @@ fn add_procedures<L: Ledger>(
 fn rebuild_plain<L: Ledger>(
     alloc: Global,
     old: &Built,
+    but: Option<u64>,
     links: &Links<'_>,
     steps: &mut Steps<L>,
 ) -> Result<Built, BuildFault>
     requires no_goto { HaveNoGoto links.now.procs }
     requires decided { TextsDecide old.now.procs links.now }
+    requires kept { KeptBut old.now.procs links.now but }
     requires built { AreBuilt (map (kept_of links.now) (with_body links.now)) }
     ensures program { IfOk result (λ b. b ≡ program_after old.now.procs links.now) }
     ensures within { IfOk result (λ b. large (flat_map (goals_by_passes links.now) links.now.procs) ≡ None) }
     ensures fault { IfErr result (IsFaultOf (flat_map (goals_by_passes links.now) links.now.procs)) }
     ensures steps { OnOk result (steps.new ≡ steps.old + new_in old.now.procs links.now links.now.procs) }
 {
-    let before = looked_at(alloc, old)?;
+    let before = looked_at(alloc, old, but)?;
     let mut found = Collected::new(alloc);
-    let rebuilt = add_procedures(alloc, &mut found, &before, links, steps)?;
+    let rebuilt = add_procedures(alloc, &mut found, &before, but, links, steps)?;
     let procs = Sequence::of(found.into_procs());
     Ok(old.with_procs(procs, rebuilt))
+}
+
+/// As `rebuild`, where the position of a declaration may be told: then the program is that before, but for
+/// the body of this declaration, and the dependency texts of other procedures aren't read.
+pub fn rebuild_changed<L: Ledger>(
+    alloc: Global,
+    old: &Built,
+    module: &Module,
+    but: Option<u64>,
+    steps: &mut Steps<L>,
+) -> Result<Built, BuildFault>
+    requires forward { AllGoForward «module».now }
+    requires resolved { IsResolved «module».now }
+    requires changed { IsChangedAt but old.now.procs «module».now }
+    ensures goals { IfOk result (λ b. b.procs ≡ built «module».now) }
+    ensures rebuilt { IfOk result (λ b. b.rebuilt ≡ rebuilt old.now.procs «module».now) }
+    ensures within { IfOk result (λ b. program_large «module».now ≡ None) }
+    ensures fault { IfErr result (IsFaultBy (program_large «module».now)) }
+    ensures steps { OnOk result (steps.new ≡ steps.old + rebuilt old.now.procs «module».now) }
+{
+    equal_dependency_texts_have_equal_obligations();
+    old.is_built();
+    let removed = without_gotos(alloc, module)?;
+    let plain = plain_of(&removed, module);
+    let links = Links::of(alloc, plain)?;
+    rebuild_plain(alloc, old, but, &links, steps)
 }
 
 /// The goals of the program, of each procedure with a body in order, where it has no fault. A procedure
@@ -172,12 +207,7 @@ pub fn rebuild<L: Ledger>(
     ensures fault { IfErr result (IsFaultBy (program_large «module».now)) }
     ensures steps { OnOk result (steps.new ≡ steps.old + rebuilt old.now.procs «module».now) }
 {
-    equal_dependency_texts_have_equal_obligations();
-    old.is_built();
-    let removed = without_gotos(alloc, module)?;
-    let plain = plain_of(&removed, module);
-    let links = Links::of(alloc, plain)?;
-    rebuild_plain(alloc, old, &links, steps)
+    rebuild_changed(alloc, old, module, None, steps)
 }
 
 /// What is known of all that was built of two programs: where procedures of them have equal dependency

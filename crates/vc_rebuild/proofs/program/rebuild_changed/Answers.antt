@@ -11,8 +11,10 @@ use Rattle.vc_build.specs.Rebuild.{with_body, built, rebuilt}
 use Rattle.vc_rebuild.specs.Kept.{Program, kept_of, new_in, program_after}
 use Rattle.vc_rebuild.specs.Inside.{AreBuilt, HaveNoGoto, TextsDecide}
 use Rattle.vc_rebuild.proofs.Programs.{are_built, kept_built, kept_rebuilt, goals_left, without_gotos}
+use Rattle.vc_rebuild.specs.Change.{KeptBut}
 use Rattle.vc_rebuild.proofs.KeptGoals.{texts_decide}
-use Rattle.vc_rebuild.proofs.program.rebuild.Goals as goal
+use Rattle.vc_rebuild.proofs.OneBody.{kept_but}
+use Rattle.vc_rebuild.proofs.program.rebuild_changed.Goals as goal
 
 abbrev goals_of : Module → List Goal
 goals_of m = flat_map (goals_by_passes m) m.procs
@@ -24,6 +26,10 @@ pub rebuild_plain-requires-clause-decided : goal.rebuild_plain-requires-clause-d
 rebuild_plain-requires-clause-decided g c =
     let decided = texts_decide c.equal_dependency_texts_have_equal_obligations.ensures c.args.module.now c.requires.resolved c.args.old.now.procs c.is_built.ensures in
     subst (TextsDecide c.args.old.now.procs) (sym (c.in_ok-links.ensures ∙ c.plain_of-plain.ensures)) decided
+
+pub rebuild_plain-requires-clause-kept : goal.rebuild_plain-requires-clause-kept
+rebuild_plain-requires-clause-kept g c =
+    subst (λ (x : Module). KeptBut c.args.old.now.procs x c.args.but) (sym (c.in_ok-links.ensures ∙ c.plain_of-plain.ensures)) (kept_but c.args.but c.args.old.now.procs c.args.module.now c.requires.changed)
 
 pub rebuild_plain-requires-clause-built : goal.rebuild_plain-requires-clause-built
 rebuild_plain-requires-clause-built g c = subst (λ (x : Module). AreBuilt (map (kept_of x) (with_body x))) (sym (c.in_ok-links.ensures ∙ c.plain_of-plain.ensures)) (are_built c.args.module.now c.requires.resolved)
