@@ -14,7 +14,8 @@ use Rattle.bpl_resolve.proofs.SameBefore.{none_here}
 use Rattle.body_revision.specs.Revised.{IsRevised}
 use Rattle.body_revision.specs.EarlierDecls.{names_of_decls, bodies_of_decls, turned, earlier_decls}
 use Rattle.body_revision.proofs.KeptBodies.{of_revised}
-use Rattle.body_revision.proofs.SameTable.{revised_first, same_table, same_counts}
+use Rattle.body_revision.proofs.SameTable.{revised_first, tables_alike, same_counts}
+use Rattle.body_revision.proofs.DeclarationReadings.{each_like}
 
 bodies_stay : (n : Name) (ps : Option Params) (g : Signature) (ss zs : List Spec) (a b : Option Body) → is_some b ≡ is_some a → body_names (procedure n ps g zs b) ≡ body_names (procedure n ps g ss a)
 bodies_stay n ps g ss zs None None h = refl
@@ -23,7 +24,7 @@ bodies_stay n ps g ss zs (Some a) None h = absurd (false≢true h)
 bodies_stay n ps g ss zs (Some a) (Some b) h = refl
 
 revised_before : (b : Before) (d e : DeclBody) → IsRevised d e → before_with b e ≡ before_with b d
-revised_before b = of_revised (before_with b) (λ n ps g ss zs x y same h. λ i. record { names = n.text ∷ b.names; bodies = bodies_stay n ps g ss zs x y h i ++ b.bodies }) (λ n ps g x y. refl) (λ x y. refl)
+revised_before b = of_revised (before_with b) (λ n ps g ss zs x y same h. λ i. record { names = n.text ∷ b.names; bodies = bodies_stay n ps g ss zs x y h i ++ b.bodies }) (λ n ps g x y. refl) (λ x y. refl) (λ n ps ins v x y h. refl)
 
 none_in : (k : ℕ) (f : Option Fault) (later : Option (ℕ × Fault)) → in_decl k f later ≡ None → (f ≡ None) × (later ≡ None)
 none_in k None later h = (refl, h)
@@ -59,6 +60,7 @@ pub revised_fault : (ds : List Decl) (at : ℕ) (d e : Decl) → slice_get ds at
     → fault_of (slice_set ds at e) ≡ in_decl at (first_fault (decl_faults (table_of ds) (counts_after no_counts ds) (earlier_decls (take at ds)) e.body)) None
 revised_fault ds at d e is r none =
     let place : 0 + at ≡ at = omega arith in
-    (λ i. first_from 0 (faults_after (same_table ds at d e is r i) (same_counts ds at d e is r i) nothing_before (slice_set ds at e)))
+    (λ i. first_from 0 (faults_after (table_of (slice_set ds at e)) (same_counts ds at d e is r i) nothing_before (slice_set ds at e)))
+    ∙ ap (first_from 0) (each_like (table_of (slice_set ds at e)) (table_of ds) (tables_alike ds at d e is r) (counts_after no_counts ds) nothing_before (slice_set ds at e))
     ∙ revised_from (table_of ds) (counts_after no_counts ds) 0 [] [] ds at d e is r none
     ∙ ap (λ k. in_decl k (first_fault (decl_faults (table_of ds) (counts_after no_counts ds) (earlier_decls (take at ds)) e.body)) None) place

@@ -86,16 +86,16 @@ lacking_stays m n ps g ss zs (Some a) None h = absurd (false≢true h)
 lacking_stays m n ps g ss zs (Some a) (Some b) h = refl
 
 pub lacks_stays : (m : Text) (d e : DeclBody) → IsRevised d e → lacks_body m e ≡ lacks_body m d
-lacks_stays m = of_revised (lacks_body m) (λ n ps g ss zs a b same h. lacking_stays m n ps g ss zs a b h) (λ n ps g a b. refl) (λ x y. refl)
+lacks_stays m = of_revised (lacks_body m) (λ n ps g ss zs a b same h. lacking_stays m n ps g ss zs a b h) (λ n ps g a b. refl) (λ x y. refl) (λ n ps ins v x y h. refl)
 
 pub gives_stays : (m : Text) (d e : DeclBody) → IsRevised d e → gives_body m e ≡ gives_body m d
-gives_stays m = of_revised (gives_body m) (λ n ps g ss zs a b same h. refl) (λ n ps g a b. refl) (λ x y. refl)
+gives_stays m = of_revised (gives_body m) (λ n ps g ss zs a b same h. refl) (λ n ps g a b. refl) (λ x y. refl) (λ n ps ins v x y h. refl)
 
 pub kind_stays : (d e : DeclBody) → IsRevised d e → is_procedure e ≡ is_procedure d
-kind_stays = of_revised is_procedure (λ n ps g ss zs a b same h. refl) (λ n ps g a b. refl) (λ x y. refl)
+kind_stays = of_revised is_procedure (λ n ps g ss zs a b same h. refl) (λ n ps g a b. refl) (λ x y. refl) (λ n ps ins v x y h. refl)
 
 pub axiom_stays : (d e : DeclBody) → IsRevised d e → is_axiom e ≡ is_axiom d
-axiom_stays = of_revised is_axiom (λ n ps g ss zs a b same h. refl) (λ n ps g a b. refl) (λ x y. refl)
+axiom_stays = of_revised is_axiom (λ n ps g ss zs a b same h. refl) (λ n ps g a b. refl) (λ x y. refl) (λ n ps ins v x y h. refl)
 
 -- what is found is so with a revision
 pub place_stays : (ds : List Decl) (at : ℕ) (d e : Decl) → slice_get ds at ≡ Some d → IsRevised d.body e.body → (k : ℕ) (f : DeclBody) → procedure_place (slice_set ds at e) k f ≡ procedure_place ds k f
@@ -197,7 +197,8 @@ apart ds at d e n k other g r found is same = by r
         let there = found (ap is_procedure q.new) in
         false≢true (sym (lacking_found ds at q.name q.params q.signature q.specs q.new_specs q.before q.after there.0 n (ap (procedure_place ds at) (sym q.new) ∙ there.1) q.bodies (ap (lacks_body n) (sym q.old) ∙ here)) ∙ some_only (gives_body n) ds k is.alone)
     by (inr (inl q)) = false≢true (ap (lacks_body n) (sym q.old) ∙ here)
-    by (inr (inr q)) = false≢true (ap (lacks_body n) (sym q.old) ∙ here)
+    by (inr (inr (inl q))) = false≢true (ap (lacks_body n) (sym q.old) ∙ here)
+    by (inr (inr (inr q))) = false≢true (ap (lacks_body n) (sym q.old) ∙ here)
 
 -- ---- the place, by what the code finds
 

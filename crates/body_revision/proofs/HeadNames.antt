@@ -5,7 +5,7 @@ use Rattle.bpl_ast.specs.Place.{Ty}
 use Rattle.bpl_ast.specs.Tree.{no_groups}
 use Rattle.bpl_ast.specs.Statement.{DeclBody, constant, function, axiom_of, variables, synonym, procedure, implementation, Decl}
 use Rattle.bpl_scopes.specs.Scopes.{Table, table_of, Counts, no_counts, counts_with, counts_after, entries_of, entries_after}
-use Rattle.bpl_sorts.specs.Erased.{users_with, replaced_body, replaced_from, Unique, one_more, axioms_from, axioms_after, uniques, as_integers, erased, maps_over}
+use Rattle.user_types.specs.Erased.{users_with, replaced_body, replaced_from, Unique, one_more, axioms_from, axioms_after, uniques, as_integers, erased, maps_over}
 use Rattle.body_revision.specs.ReadHeads.{head_in, heads_from}
 use Rattle.body_revision.specs.Names.{DeclareAlike}
 use Rattle.body_revision.specs.ReadingLaws.{HeadsDeclareAll}

@@ -1,30 +1,33 @@
--- A revision leaves what depends on no clause, no body and no axiom, and what other procedures are.
+-- A revision leaves what depends on no clause, no body, no axiom and no value of a function, and what other procedures are.
 use Rattle.std.proofs.Common.{◌≡◌, refl, sym, ap, ◌∙◌, inl, inr, ℕ, zero, suc, true, false, List, [], ◌∷◌, set, slice_get, Option, Some, None}
 use Rattle.std.specs.Prelude.{is_some}
 use Rattle.logic_terms.proofs.Booleans.{neither}
-use Rattle.bpl_ast.specs.Place.{Name, Params}
+use Rattle.bpl_ast.specs.Place.{Name, Params, Ty}
 use Rattle.bpl_ast.specs.Tree.{Expr}
-use Rattle.bpl_ast.specs.Statement.{Body, Signature, Spec, DeclBody, constant, function, axiom_of, variables, synonym, procedure, implementation, Decl}
+use Rattle.bpl_ast.specs.Statement.{Argument, Body, Signature, Spec, DeclBody, constant, function, axiom_of, variables, synonym, procedure, implementation, Decl}
 use Rattle.bpl_scopes.specs.Scopes.{Text, Table, Counts}
 use Rattle.bpl_resolve.specs.Elaborate.{Implemented, or_else, own_body, implements, implementation_of, proc_of, procs_in}
-use Rattle.body_revision.specs.Revised.{names_modified, IsRevised}
+use Rattle.body_revision.specs.Revised.{names_modified, value_applies, value_quantified, ApplyTheSame, IsRevised}
 use Rattle.body_revision.specs.Procedures.{gives_body, any_decl}
 
--- ---- what depends on no clause, no body and no axiom
+-- ---- what depends on no clause, no body, no axiom and no value
 
 pub of_revised : {A : Type 0} (f : DeclBody → A)
     → ((n : Name) (ps : Option Params) (g : Signature) (ss zs : List Spec) (a b : Option Body) → names_modified zs ≡ names_modified ss → is_some b ≡ is_some a → f (procedure n ps g zs b) ≡ f (procedure n ps g ss a))
     → ((n : Name) (ps : Option Params) (g : Signature) (a b : Body) → f (implementation n ps g b) ≡ f (implementation n ps g a))
-    → ((x y : Expr) → f (axiom_of y) ≡ f (axiom_of x)) → (d e : DeclBody) → IsRevised d e → f e ≡ f d
-of_revised f p q s d e (inl r) = ap f r.new ∙ (p r.name r.params r.signature r.specs r.new_specs r.before r.after r.modified r.bodies ∙ sym (ap f r.old))
-of_revised f p q s d e (inr (inl r)) = ap f r.new ∙ (q r.name r.params r.signature r.before r.after ∙ sym (ap f r.old))
-of_revised f p q s d e (inr (inr r)) = ap f r.new ∙ (s r.before r.after ∙ sym (ap f r.old))
+    → ((x y : Expr) → f (axiom_of y) ≡ f (axiom_of x))
+    → ((n : Name) (ps : Option Params) (ins : List Argument) (t : Ty) (x y : Option Expr) → ApplyTheSame ins x y → f (function n ps ins t y) ≡ f (function n ps ins t x)) → (d e : DeclBody) → IsRevised d e → f e ≡ f d
+of_revised f p q s v d e (inl r) = ap f r.new ∙ (p r.name r.params r.signature r.specs r.new_specs r.before r.after r.modified r.bodies ∙ sym (ap f r.old))
+of_revised f p q s v d e (inr (inl r)) = ap f r.new ∙ (q r.name r.params r.signature r.before r.after ∙ sym (ap f r.old))
+of_revised f p q s v d e (inr (inr (inl r))) = ap f r.new ∙ (s r.before r.after ∙ sym (ap f r.old))
+of_revised f p q s v d e (inr (inr (inr r))) = ap f r.new ∙ (v r.name r.params r.ins r.result r.before r.after r.same ∙ sym (ap f r.old))
 
 -- two of one and the same
 pub of_itself : (d e : DeclBody) → IsRevised d e → IsRevised d d
 of_itself d e (inl r) = inl (record { name = r.name; params = r.params; signature = r.signature; specs = r.specs; new_specs = r.specs; before = r.before; after = r.before; modified = refl; bodies = refl; old = r.old; new = r.old })
 of_itself d e (inr (inl r)) = inr (inl (record { name = r.name; params = r.params; signature = r.signature; before = r.before; after = r.before; old = r.old; new = r.old }))
-of_itself d e (inr (inr r)) = inr (inr (record { before = r.before; after = r.before; old = r.old; new = r.old }))
+of_itself d e (inr (inr (inl r))) = inr (inr (inl (record { before = r.before; after = r.before; old = r.old; new = r.old })))
+of_itself d e (inr (inr (inr r))) = inr (inr (inr (record { name = r.name; params = r.params; ins = r.ins; result = r.result; before = r.before; after = r.before; same = record { applied = refl; quantified = refl }; old = r.old; new = r.old })))
 
 pub parted : (d e f : DeclBody) → IsRevised d e → IsRevised d f → IsRevised e f
 parted d e f (inl r) (inl s) =
@@ -45,15 +48,39 @@ parted d e f (inl r) (inl s) =
       new = s.new;
     })
 parted d e f (inl r) (inr (inl s)) = let same : procedure r.name r.params r.signature r.specs r.before ≡ implementation s.name s.params s.signature s.before = sym r.old ∙ s.old in absurd (cc)
-parted d e f (inl r) (inr (inr s)) = let same : procedure r.name r.params r.signature r.specs r.before ≡ axiom_of s.before = sym r.old ∙ s.old in absurd (cc)
+parted d e f (inl r) (inr (inr (inl s))) = let same : procedure r.name r.params r.signature r.specs r.before ≡ axiom_of s.before = sym r.old ∙ s.old in absurd (cc)
+parted d e f (inl r) (inr (inr (inr s))) = let same : procedure r.name r.params r.signature r.specs r.before ≡ function s.name s.params s.ins s.result s.before = sym r.old ∙ s.old in absurd (cc)
 parted d e f (inr (inl r)) (inl s) = let same : implementation r.name r.params r.signature r.before ≡ procedure s.name s.params s.signature s.specs s.before = sym r.old ∙ s.old in absurd (cc)
 parted d e f (inr (inl r)) (inr (inl s)) =
     let same : implementation r.name r.params r.signature r.before ≡ implementation s.name s.params s.signature s.before = sym r.old ∙ s.old in
     inr (inl (record { name = s.name; params = s.params; signature = s.signature; before = r.after; after = s.after; old = r.new ∙ cc same; new = s.new }))
-parted d e f (inr (inl r)) (inr (inr s)) = let same : implementation r.name r.params r.signature r.before ≡ axiom_of s.before = sym r.old ∙ s.old in absurd (cc)
-parted d e f (inr (inr r)) (inl s) = let same : axiom_of r.before ≡ procedure s.name s.params s.signature s.specs s.before = sym r.old ∙ s.old in absurd (cc)
-parted d e f (inr (inr r)) (inr (inl s)) = let same : axiom_of r.before ≡ implementation s.name s.params s.signature s.before = sym r.old ∙ s.old in absurd (cc)
-parted d e f (inr (inr r)) (inr (inr s)) = inr (inr (record { before = r.after; after = s.after; old = r.new; new = s.new }))
+parted d e f (inr (inl r)) (inr (inr (inl s))) = let same : implementation r.name r.params r.signature r.before ≡ axiom_of s.before = sym r.old ∙ s.old in absurd (cc)
+parted d e f (inr (inl r)) (inr (inr (inr s))) = let same : implementation r.name r.params r.signature r.before ≡ function s.name s.params s.ins s.result s.before = sym r.old ∙ s.old in absurd (cc)
+parted d e f (inr (inr (inl r))) (inl s) = let same : axiom_of r.before ≡ procedure s.name s.params s.signature s.specs s.before = sym r.old ∙ s.old in absurd (cc)
+parted d e f (inr (inr (inl r))) (inr (inl s)) = let same : axiom_of r.before ≡ implementation s.name s.params s.signature s.before = sym r.old ∙ s.old in absurd (cc)
+parted d e f (inr (inr (inl r))) (inr (inr (inl s))) = inr (inr (inl (record { before = r.after; after = s.after; old = r.new; new = s.new })))
+parted d e f (inr (inr (inl r))) (inr (inr (inr s))) = let same : axiom_of r.before ≡ function s.name s.params s.ins s.result s.before = sym r.old ∙ s.old in absurd (cc)
+parted d e f (inr (inr (inr r))) (inl s) = let same : function r.name r.params r.ins r.result r.before ≡ procedure s.name s.params s.signature s.specs s.before = sym r.old ∙ s.old in absurd (cc)
+parted d e f (inr (inr (inr r))) (inr (inl s)) = let same : function r.name r.params r.ins r.result r.before ≡ implementation s.name s.params s.signature s.before = sym r.old ∙ s.old in absurd (cc)
+parted d e f (inr (inr (inr r))) (inr (inr (inl s))) = let same : function r.name r.params r.ins r.result r.before ≡ axiom_of s.before = sym r.old ∙ s.old in absurd (cc)
+parted d e f (inr (inr (inr r))) (inr (inr (inr s))) =
+    let same : function r.name r.params r.ins r.result r.before ≡ function s.name s.params s.ins s.result s.before = sym r.old ∙ s.old in
+    let ins : r.ins ≡ s.ins = cc same in
+    let before : r.before ≡ s.before = cc same in
+    inr (inr (inr (record {
+      name = s.name;
+      params = s.params;
+      ins = s.ins;
+      result = s.result;
+      before = r.after;
+      after = s.after;
+      same = record {
+        applied = s.same.applied ∙ (sym (λ i. value_applies (ins i) (before i)) ∙ (sym r.same.applied ∙ (λ i. value_applies (ins i) r.after)));
+        quantified = s.same.quantified ∙ (sym (ap value_quantified before) ∙ sym r.same.quantified);
+      };
+      old = r.new ∙ cc same;
+      new = s.new;
+    })))
 
 -- ---- implementations
 

@@ -3,6 +3,10 @@ pub mod KeptBodies
 pub mod FoundPlaces
 pub mod ComparedHeads
 pub mod OtherAxioms
+pub mod TablesAlike
+pub mod ReadingsAlike
+pub mod StatementReadings
+pub mod DeclarationReadings
 pub mod SameTable
 pub mod SameTexts
 pub mod FirstOfRevised
@@ -10,9 +14,12 @@ pub mod OwnFaults
 pub mod SetParts
 pub mod RevisedModule
 pub mod RevisedAxiom
+pub mod FunctionEntries
+pub mod RevisedFunction
 pub mod StillNew
 pub mod StayFaultless
 pub mod HeadNames
 pub mod ReadBodies
 pub mod NewInReadings
 pub mod PutBack
+pub mod SameApplied

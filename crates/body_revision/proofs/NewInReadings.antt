@@ -2,15 +2,15 @@
 use Rattle.std.proofs.Common.{◌≡◌, sym, ap, ◌∙◌, ℕ, ◌<◌, List, [], ◌∷◌, length, slice_get, Some}
 use Rattle.bpl_ast.specs.Statement.{Decl}
 use Rattle.bpl_scopes.specs.Scopes.{table_of, no_counts, counts_after}
-use Rattle.bpl_sorts.specs.Erased.{erased}
+use Rattle.user_types.specs.Erased.{erased}
 use Rattle.bpl_resolve.specs.Elaborate.{decl_text, procs_in, axioms_in}
 use Rattle.body_revision.specs.Revised.{IsRevised}
 use Rattle.body_revision.specs.Procedures.{procedure_by}
 use Rattle.body_revision.specs.Names.{AreNamesOf, own_fault}
-use Rattle.body_revision.specs.Revision.{IsPartOf, IsNew, IsMade}
+use Rattle.body_revision.specs.Revision.{values_in, IsPartOf, IsNew, IsMade}
 use Rattle.body_revision.specs.declared.declared_names.DeclaredNames.{DeclaredNames}
 use Rattle.body_revision.specs.declared.revised.ModulePart.{ModulePart}
-use Rattle.body_revision.specs.declared.revised.ModulePart.TheVariants.{Procedure, Axiom}
+use Rattle.body_revision.specs.declared.revised.ModulePart.TheVariants.{Procedure, Axiom, Function}
 use Rattle.body_revision.specs.declared.revised.Revision.{Revision}
 use Rattle.body_revision.proofs.FoundPlaces.{procedure_there}
 use Rattle.body_revision.proofs.ReadBodies.{erased_there, erased_revised, place_read, procedures_read, axioms_read, procedure_read}
@@ -29,6 +29,7 @@ module _ (ds : List Decl) (at : ℕ) (e : Decl) (n : DeclaredNames) (names : Are
     counted = made.counted ∙ sym (axioms_read ds at there);
     made = sym (λ i. axioms_in (names.alike.table i) (names.alike.counts i) e.body) ∙ made.made;
   }
+  part_is_new (Function k f) made = sym (λ i. values_in (names.alike.table i) (names.alike.counts i) e.body) ∙ made
 
   pub made_is_new : (count : ℕ) (r : Revision) → ((d : Decl) → slice_get ds at ≡ Some d → IsRevised d.body e.body) → count ≡ length (erased ds) → IsMade n ds at count e r → IsNew (erased ds) at e r
   made_is_new count r revised all made = record {

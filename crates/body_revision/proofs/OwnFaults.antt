@@ -4,15 +4,16 @@ use Rattle.std.proofs.lemmas.Option.{none-some}
 use Rattle.std.proofs.lemmas.Bool.{false≢true}
 use Rattle.std.specs.Prelude.{is_some}
 use Rattle.bpl_ast.specs.Place.{Name}
-use Rattle.bpl_ast.specs.Statement.{Body, DeclBody, procedure, implementation, Decl}
+use Rattle.bpl_ast.specs.Statement.{Body, DeclBody, function, procedure, implementation, Decl}
 use Rattle.bpl_scopes.specs.declared.fault.Fault.{Fault}
 use Rattle.bpl_scopes.specs.declared.fault.TypeKind.TheVariants.{Twice as twice}
 use Rattle.bv_base.specs.Text.{is_among}
 use Rattle.bpl_scopes.specs.Fault.{first_fault, again, if_so}
 use Rattle.bpl_scopes.specs.Scopes.{contract_with, Table, table_of, Counts, no_counts, counts_after, entity_of}
-use Rattle.bpl_scopes.specs.TypeFaults.{group_where_faults}
+use Rattle.bpl_scopes.specs.Functions.{argument_names}
+use Rattle.bpl_scopes.specs.TypeFaults.{params_faults, type_faults, group_where_faults}
 use Rattle.bpl_scopes.proofs.IsFirst.{no_first-no_fault}
-use Rattle.bpl_declaration_faults.specs.DeclFaults.{Before, decl_faults, nothing_before, in_decl, fault_of, signature_faults, parameter_clause_faults, optional_locals, has_body, spec_faults, body_faults, optional_body_faults, implemented_faults, implemented_modifies}
+use Rattle.bpl_declaration_faults.specs.DeclFaults.{Before, decl_faults, nothing_before, in_decl, fault_of, cycle_faults, argument_type_faults, function_value_faults, signature_faults, parameter_clause_faults, optional_locals, has_body, spec_faults, body_faults, optional_body_faults, implemented_faults, implemented_modifies}
 use Rattle.bpl_declaration_faults.specs.Variables.{names_in_body}
 use Rattle.bpl_statement_faults.specs.StmtFaults.{modified_by}
 use Rattle.body_revision.specs.Revised.{IsRevised}
@@ -51,7 +52,13 @@ own_by t c b d e (inl r) none =
     let others : List Fault = signature_faults t r.params r.signature ++ (parameter_clause_faults t c r.signature ++ (again twice [] (names_in_body r.signature (optional_locals r.after)) ++ (flat_map (spec_faults t c r.signature) r.new_specs
     ++ optional_body_faults t c r.signature (Some (modified_by t (contract_with r.signature r.new_specs))) r.after))) in
     ap (decl_faults t c b) r.new ∙ (λ i. once i ++ (still i ++ others)) ∙ sym (ap (decl_faults t c nothing_before) r.new)
-own_by t c b d e (inr (inr r)) none = ap (decl_faults t c b) r.new ∙ sym (ap (decl_faults t c nothing_before) r.new)
+own_by t c b d e (inr (inr (inl r))) none = ap (decl_faults t c b) r.new ∙ sym (ap (decl_faults t c nothing_before) r.new)
+own_by t c b d e (inr (inr (inr r))) none =
+    let n = r.name in
+    let old : decl_faults t c b (function n r.params r.ins r.result r.before) ≡ [] = ap (decl_faults t c b) (sym r.old) ∙ none in
+    let once : again twice b.names (n ∷ []) ≡ [] = front_empty (again twice b.names (n ∷ [])) _ old in
+    let others : List Fault = cycle_faults t n ++ (params_faults r.params ++ (again twice [] (argument_names r.ins) ++ (argument_type_faults t r.ins ++ (type_faults t [] r.result ++ function_value_faults t c n r.ins r.result r.after)))) in
+    ap (decl_faults t c b) r.new ∙ (λ i. once i ++ others) ∙ sym (ap (decl_faults t c nothing_before) r.new)
 own_by t c b d e (inr (inl r)) none =
     let n = r.name in
     let old : decl_faults t c b (implementation r.name r.params r.signature r.before) ≡ [] = ap (decl_faults t c b) (sym r.old) ∙ none in

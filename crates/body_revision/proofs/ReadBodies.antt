@@ -1,5 +1,5 @@
 -- Readings of a program with revisions.
-use Rattle.std.proofs.Common.{◌≡◌, refl, sym, ap, ◌∙◌, subst, arith, inl, inr, Bool, true, false, ◌||◌, option_map, ℕ, zero, suc, ◌<◌, List, [], ◌∷◌, ◌++◌, length, take, get_or, slice_get, slice_set, count_by, cond, ◌+◌, Some, None, length-append}
+use Rattle.std.proofs.Common.{◌≡◌, refl, sym, ap, ◌∙◌, subst, arith, inl, inr, Bool, true, false, ◌||◌, option_map, ℕ, zero, suc, ◌<◌, List, [], ◌∷◌, ◌++◌, length, take, get_or, slice_get, slice_set, flat_map, count_by, cond, ◌+◌, Some, None, length-append}
 use Rattle.std.proofs.lemmas.List.Sums.{sum_by-cons}
 use Rattle.std.proofs.lemmas.Option.{slice_get-get_or}
 use Rattle.std.proofs.lemmas.Bool.{false≢true}
@@ -9,11 +9,12 @@ use Rattle.bpl_ast.specs.Place.{Ty}
 use Rattle.bpl_ast.specs.Tree.{eq, Expr, expr, number, variable, related}
 use Rattle.bpl_ast.specs.Statement.{DeclBody, constant, function, axiom_of, variables, synonym, procedure, implementation, Decl, axioms_with}
 use Rattle.bpl_scopes.specs.Scopes.{Text, Table, table_of}
-use Rattle.bpl_sorts.specs.Erased.{users_with, replaced_body, replaced_from, replaced, uniques_in, Unique, uniques, one_more, axioms_from, axioms_after, carrier_axioms, as_integers, erased, maps_over, told_apart}
+use Rattle.user_types.specs.Erased.{users_with, kept_unique, uniques_of, replaced_body, replaced_from, replaced, uniques_in, Unique, uniques, one_more, axioms_from, axioms_after, carrier_axioms, as_integers, erased, maps_over, told_apart}
 use Rattle.body_revision.specs.Revised.{IsRevised}
 use Rattle.body_revision.specs.Procedures.{is_procedure, is_axiom, lacks_body, gives_body, any_decl, only_place, if_at, procedure_place, procedure_by}
 use Rattle.body_revision.specs.Revision.{all_put, AreRevised}
-use Rattle.body_revision.proofs.SameTable.{same_table}
+use Rattle.body_revision.proofs.SameTable.{tables_alike}
+use Rattle.body_revision.proofs.TablesAlike.{LikeTables, user_like}
 use Rattle.body_revision.proofs.SetParts.{same_parts}
 use Rattle.body_revision.proofs.KeptBodies.{of_revised}
 use Rattle.body_revision.proofs.StayFaultless.{all_there, all_still}
@@ -50,19 +51,21 @@ module _ (f : ℕ → Place → Ty) (t : Table) where
   old_stays : (k : ℕ) (d e : DeclBody) → IsRevised d e → replaced_body f t k d ≡ d
   old_stays k d e (inl r) = ap (replaced_body f t k) r.old ∙ sym r.old
   old_stays k d e (inr (inl r)) = ap (replaced_body f t k) r.old ∙ sym r.old
-  old_stays k d e (inr (inr r)) = ap (replaced_body f t k) r.old ∙ sym r.old
+  old_stays k d e (inr (inr (inl r))) = ap (replaced_body f t k) r.old ∙ sym r.old
+  old_stays k d e (inr (inr (inr r))) = ap (replaced_body f t k) r.old ∙ sym r.old
 
   new_stays : (k : ℕ) (d e : DeclBody) → IsRevised d e → replaced_body f t k e ≡ e
   new_stays k d e (inl r) = ap (replaced_body f t k) r.new ∙ sym r.new
   new_stays k d e (inr (inl r)) = ap (replaced_body f t k) r.new ∙ sym r.new
-  new_stays k d e (inr (inr r)) = ap (replaced_body f t k) r.new ∙ sym r.new
+  new_stays k d e (inr (inr (inl r))) = ap (replaced_body f t k) r.new ∙ sym r.new
+  new_stays k d e (inr (inr (inr r))) = ap (replaced_body f t k) r.new ∙ sym r.new
 
   pub as_long : (k : ℕ) (ds : List Decl) → length (replaced_from f t k ds) ≡ length ds
   as_long k [] = refl
   as_long k (d ∷ ds) = ap suc (as_long (users_with k d.body) ds)
 
   same_users : (k : ℕ) (d e : DeclBody) → IsRevised d e → users_with k e ≡ users_with k d
-  same_users k = of_revised (users_with k) (λ n ps g ss zs a b q h. refl) (λ n ps g a b. refl) (λ x y. refl)
+  same_users k = of_revised (users_with k) (λ n ps g ss zs a b q h. refl) (λ n ps g a b. refl) (λ x y. refl) (λ n ps ins v x y h. refl)
 
   from_set : (k : ℕ) (ds : List Decl) (at : ℕ) (e : Decl) → RevisedAt ds at e → replaced_from f t k (slice_set ds at e) ≡ slice_set (replaced_from f t k ds) at e
   from_set k [] at e r = refl
@@ -112,30 +115,59 @@ module _ (f : ℕ → Place → Ty) (t : Table) where
       sum_by-cons (one p) (record x { body = replaced_body f t u x.body }) (take at (replaced_from f t u xs))
       ∙ (λ i. cond (stays u x.body i) 1 0 + as_many p stays u xs at i) ∙ sym (sum_by-cons (one p) x (take at xs))
 
+-- over tables that differ in the values of functions alone
+
+module _ (t u : Table) (like : LikeTables t u) where
+  body_like : (f : ℕ → Place → Ty) (k : ℕ) (b : DeclBody) → replaced_body f t k b ≡ replaced_body f u k b
+  body_like f k (constant w ns s) = λ i. constant (kept_unique (user_like t u like s i) w) ns s
+  body_like f k (synonym n None) = refl
+  body_like f k (synonym n (Some s)) = refl
+  body_like f k (function n ps ins r x) = refl
+  body_like f k (axiom_of x) = refl
+  body_like f k (variables gs) = refl
+  body_like f k (procedure n ps s ss b) = refl
+  body_like f k (implementation n ps s b) = refl
+
+  from_like : (f : ℕ → Place → Ty) (k : ℕ) (ds : List Decl) → replaced_from f t k ds ≡ replaced_from f u k ds
+  from_like f k [] = refl
+  from_like f k (d ∷ ds) = λ i. record d { body = body_like f (users_with k d.body) d.body i } ∷ from_like f (users_with k d.body) ds i
+
+  unique_like : (b : DeclBody) → uniques_in t b ≡ uniques_in u b
+  unique_like (constant w ns s) = λ i. uniques_of w (user_like t u like s i) ns
+  unique_like (synonym n s) = refl
+  unique_like (function n ps ins r x) = refl
+  unique_like (axiom_of x) = refl
+  unique_like (variables gs) = refl
+  unique_like (procedure n ps s ss b) = refl
+  unique_like (implementation n ps s b) = refl
+
+  uniques_like : (ds : List Decl) → uniques t ds ≡ uniques u ds
+  uniques_like ds = λ i. flat_map (λ (d : Decl). unique_like d.body i) ds
+
 -- ---- carriers
 
 axioms_stay : (k : ℕ) (ds : List Decl) (at : ℕ) (e : Decl) → RevisedAt ds at e → axioms_after k (slice_set ds at e) ≡ axioms_after k ds
 axioms_stay k [] at e r = refl
-axioms_stay k (x ∷ xs) zero e r = ap (λ n. axioms_after n xs) (of_revised (axioms_with k) (λ n ps g ss zs a b q h. refl) (λ n ps g a b. refl) (λ y z. refl) x.body e.body (r x refl))
+axioms_stay k (x ∷ xs) zero e r = ap (λ n. axioms_after n xs) (of_revised (axioms_with k) (λ n ps g ss zs a b q h. refl) (λ n ps g a b. refl) (λ y z. refl) (λ n ps ins v y z h. refl) x.body e.body (r x refl))
 axioms_stay k (x ∷ xs) (suc at) e r = axioms_stay (axioms_with k x.body) xs at e r
 
 module _ (ds : List Decl) (at : ℕ) (e : Decl) (there : at < length ds) (r : RevisedAt ds at e) where
   stood : slice_get ds at ≡ Some (get_or ds at e)
   stood = slice_get-get_or ds at e there
 
-  tables : table_of (slice_set ds at e) ≡ table_of ds
-  tables = same_table ds at (get_or ds at e) e stood (r (get_or ds at e) stood)
+  tables : LikeTables (table_of (slice_set ds at e)) (table_of ds)
+  tables = tables_alike ds at (get_or ds at e) e stood (r (get_or ds at e) stood)
 
   uniques_set : (t : Table) → uniques t (slice_set ds at e) ≡ uniques t ds
   uniques_set t = same_parts (λ (d : Decl). uniques_in t d.body) ds at (get_or ds at e) e stood
-      (of_revised (uniques_in t) (λ n ps g ss zs a b q h. refl) (λ n ps g a b. refl) (λ x y. refl) (get_or ds at e).body e.body (r (get_or ds at e) stood))
+      (of_revised (uniques_in t) (λ n ps g ss zs a b q h. refl) (λ n ps g a b. refl) (λ x y. refl) (λ n ps ins v x y h. refl) (get_or ds at e).body e.body (r (get_or ds at e) stood))
 
   read_set : (f : ℕ → Place → Ty) → replaced f (slice_set ds at e) ≡ slice_set (replaced f ds) at e
-  read_set f = (λ i. replaced_from f (tables i) 0 (slice_set ds at e)) ∙ from_set f (table_of ds) 0 ds at e r
+  read_set f = from_like (table_of (slice_set ds at e)) (table_of ds) tables f 0 (slice_set ds at e) ∙ from_set f (table_of ds) 0 ds at e r
 
   axioms_set : carrier_axioms (slice_set ds at e) ≡ carrier_axioms ds
   axioms_set =
-      (λ i. axioms_from (λ j. 0) (axioms_stay 0 ds at e r i) (uniques (tables i) (slice_set ds at e)))
+      (λ i. axioms_from (λ j. 0) (axioms_stay 0 ds at e r i) (uniques_like (table_of (slice_set ds at e)) (table_of ds) tables (slice_set ds at e) i))
       ∙ ap (axioms_from (λ j. 0) (axioms_after 0 ds)) (uniques_set (table_of ds))
 
   within : at < length (replaced as_integers ds)

@@ -13,7 +13,7 @@ use Rattle.bpl_scopes.specs.Scopes.{Text, Table, table_of, Counts, no_counts, co
 use Rattle.bpl_resolve.specs.Elaborate.{or_else, implements, proc_of, implementation_of, consts_in, globals_in, axioms_in, function_def, procs_in, decl_text, typed_module, module_of}
 use Rattle.bpl_resolve.proofs.GoesForward.{not_equal}
 use Rattle.bpl_resolve.proofs.Ways.{same_text, text_itself}
-use Rattle.body_revision.specs.Revised.{IsOtherProcedure, IsOtherImplementation, IsOtherAxiom, IsRevised}
+use Rattle.body_revision.specs.Revised.{IsOtherProcedure, IsOtherImplementation, IsOtherAxiom, IsOtherFunction, IsRevised}
 use Rattle.body_revision.proofs.SameTable.{same_table, same_counts}
 use Rattle.body_revision.specs.Procedures.{is_procedure, lacks_body, gives_body, procedure_place, procedure_by}
 use Rattle.body_revision.proofs.SetParts.{same_parts, other_part, only_part}
@@ -38,16 +38,23 @@ module _ (ds : List Decl) (at : ℕ) (d e : Decl) (g : slice_get ds at ≡ Some 
   pub parts_revised : IsRevised d.body e.body → (t : Table) (c : Counts) (fs : List Tree) (qs : List Proc) → flat_map (λ (x : Decl). axioms_in t c x.body) (set ds at e) ≡ fs → flat_map (λ (x : Decl). procs_in (set ds at e) t c x.body) (set ds at e) ≡ qs
       → typed_module (set ds at e) t c ≡ record (typed_module ds t c) { axioms = fs; procs = qs; texts = set (map (decl_text t (length ds)) ds) at (decl_text t (length ds) e) }
   parts_revised r t c fs qs axioms procs = λ i. record {
-    consts = same_parts (λ (x : Decl). consts_in t c x.body) ds at d e g (of_revised (consts_in t c) (λ n ps s ss zs a b q h. refl) (λ n ps s a b. refl) (λ x y. refl) d.body e.body r) i;
+    consts = same_parts (λ (x : Decl). consts_in t c x.body) ds at d e g (of_revised (consts_in t c) (λ n ps s ss zs a b q h. refl) (λ n ps s a b. refl) (λ x y. refl) (λ n ps ins v x y h. refl) d.body e.body r) i;
     axioms = axioms i;
     functions = flat_map (λ n. function_def t c n (function_in (entity_of t n))) (in_number_order t);
-    globals = same_parts (λ (x : Decl). globals_in t c x.body) ds at d e g (of_revised (globals_in t c) (λ n ps s ss zs a b q h. refl) (λ n ps s a b. refl) (λ x y. refl) d.body e.body r) i;
+    globals = same_parts (λ (x : Decl). globals_in t c x.body) ds at d e g (of_revised (globals_in t c) (λ n ps s ss zs a b q h. refl) (λ n ps s a b. refl) (λ x y. refl) (λ n ps ins v x y h. refl) d.body e.body r) i;
     procs = procs i;
     texts = texts i;
   }
     where
       texts : map (decl_text t (length (set ds at e))) (set ds at e) ≡ set (map (decl_text t (length ds)) ds) at (decl_text t (length ds) e)
       texts = (λ i. map (decl_text t (length-set ds at e i)) (set ds at e)) ∙ map-set (decl_text t (length ds)) ds at e
+
+  -- what procedures give, where it implements what it did
+  pub procs_stay : ((n : Text) → implements n e.body ≡ implements n d.body) → ((xs : List Decl) (t : Table) (c : Counts) → procs_in xs t c e.body ≡ procs_in xs t c d.body)
+      → (t : Table) (c : Counts) → flat_map (λ (x : Decl). procs_in (set ds at e) t c x.body) (set ds at e) ≡ flat_map (λ (x : Decl). procs_in ds t c x.body) ds
+  procs_stay given own t c =
+      same_parts (λ (x : Decl). procs_in (set ds at e) t c x.body) ds at d e g (own (set ds at e) t c)
+      ∙ (λ i. flat_map (λ (x : Decl). same_procs (set ds at e) ds (λ n. same_implementation n ds at d e g (given n)) t c x.body i) ds)
 
   -- ---- a procedure
 
@@ -133,10 +140,14 @@ module _ (ds : List Decl) (at : ℕ) (d e : Decl) (g : slice_get ds at ≡ Some 
     no_axiom : IsOtherAxiom d.body e.body → ⊥
     no_axiom q = none-some place (ap (procedure_place ds at) (sym q.new) ∙ found)
 
+    no_function : IsOtherFunction d.body e.body → ⊥
+    no_function q = none-some place (ap (procedure_place ds at) (sym q.new) ∙ found)
+
     axioms_stay : IsRevised d.body e.body → (t : Table) (c : Counts) → axioms_in t c e.body ≡ axioms_in t c d.body
     axioms_stay (inl q) t c = ap (axioms_in t c) q.new ∙ sym (ap (axioms_in t c) q.old)
     axioms_stay (inr (inl q)) t c = ap (axioms_in t c) q.new ∙ sym (ap (axioms_in t c) q.old)
-    axioms_stay (inr (inr q)) t c = absurd (no_axiom q)
+    axioms_stay (inr (inr (inl q))) t c = absurd (no_axiom q)
+    axioms_stay (inr (inr (inr q))) t c = absurd (no_function q)
 
     procs_revised : IsRevised d.body e.body → (t : Table) (c : Counts) (p : Proc) → procs_in (e ∷ []) t c (procedure_by ds place e) ≡ p ∷ []
         → flat_map (λ (x : Decl). procs_in (set ds at e) t c x.body) (set ds at e) ≡ set (flat_map (λ (x : Decl). procs_in ds t c x.body) ds) (count_by (λ (x : Decl). is_procedure x.body) (take place ds)) p
@@ -144,7 +155,8 @@ module _ (ds : List Decl) (at : ℕ) (d e : Decl) (g : slice_get ds at ≡ Some 
         let here : at ≡ place = own_place ds at q.name q.params q.signature q.new_specs q.after place (ap (procedure_place ds at) (sym q.new) ∙ found) in
         own_procs q t c p place found (sym (ap (procs_in (e ∷ []) t c) (ap (λ b. cond b e.body (get_or ds place e).body) (ap is_procedure q.new))) ∙ made)
         ∙ (λ i. set (flat_map (λ (x : Decl). procs_in ds t c x.body) ds) (count_by (λ (x : Decl). is_procedure x.body) (take (here i) ds)) p)
-    procs_revised (inr (inr q)) t c p made = absurd (no_axiom q)
+    procs_revised (inr (inr (inl q))) t c p made = absurd (no_axiom q)
+    procs_revised (inr (inr (inr q))) t c p made = absurd (no_function q)
     procs_revised (inr (inl q)) t c p made =
         let is = given ds at q.name q.params q.signature q.after place (ap (procedure_place ds at) (sym q.new) ∙ found) in
         given_procs q t c p place is (get_or ds place e) (slice_get-get_or ds place e (only_there (lacks_body q.name.text) ds place is.lacks)) (only_is (lacks_body q.name.text) ds place e is.lacks)
@@ -155,7 +167,7 @@ module _ (ds : List Decl) (at : ℕ) (d e : Decl) (g : slice_get ds at ≡ Some 
     module_revised p made =
         let t : Table = table_of ds in
         let c : Counts = counts_after no_counts ds in
-        (λ i. typed_module (set ds at e) (same_table ds at d e g r i) (same_counts ds at d e g r i))
+        (λ i. typed_module (set ds at e) (same_table ds at d e g r no_function i) (same_counts ds at d e g r i))
         ∙ parts_revised r t c (flat_map (λ (x : Decl). axioms_in t c x.body) ds) (set (flat_map (λ (x : Decl). procs_in ds t c x.body) ds) (count_by (λ (x : Decl). is_procedure x.body) (take place ds)) p)
         (same_parts (λ (x : Decl). axioms_in t c x.body) ds at d e g (axioms_stay r t c)) (procs_revised r t c p made)
 
@@ -171,7 +183,8 @@ module _ (ds : List Decl) (at : ℕ) (d e : Decl) (g : slice_get ds at ≡ Some 
         stands (inl q) =
             let here : at ≡ place = own_place ds at q.name q.params q.signature q.new_specs q.after place (ap (procedure_place ds at) (sym q.new) ∙ found) in
             ap (λ k. is_procedure (get_or ds k e).body) (sym here) ∙ ap (λ (x : Decl). is_procedure x.body) (get_or_from_slice_get ds at d e g) ∙ ap is_procedure q.old
-        stands (inr (inr q)) = absurd (no_axiom q)
+        stands (inr (inr (inl q))) = absurd (no_axiom q)
+        stands (inr (inr (inr q))) = absurd (no_function q)
         stands (inr (inl q)) =
             let is = given ds at q.name q.params q.signature q.after place (ap (procedure_place ds at) (sym q.new) ∙ found) in
             lacks_procedure q.name.text (get_or ds place e).body (only_is (lacks_body q.name.text) ds place e is.lacks)

@@ -8,7 +8,9 @@ use Rattle.bpl_declaration_faults.specs.DeclFaults.{fault_of}
 use Rattle.body_revision.specs.Revised.{IsRevised}
 use Rattle.body_revision.specs.Names.{own_fault}
 use Rattle.body_revision.specs.Revision.{all_put, AreRevised, HaveNoFaults}
-use Rattle.body_revision.proofs.SameTable.{same_table, same_counts}
+use Rattle.body_revision.proofs.SameTable.{tables_alike, same_counts}
+use Rattle.body_revision.proofs.TablesAlike.{LikeTables, like_itself, like_through}
+use Rattle.body_revision.proofs.DeclarationReadings.{own_like}
 use Rattle.body_revision.proofs.OwnFaults.{none_by_itself}
 use Rattle.body_revision.proofs.FoundPlaces.{still_revised}
 
@@ -30,9 +32,10 @@ module _ (ds : List Decl) (c : ℕ × Decl) (cs : List (ℕ × Decl)) (h : AreRe
   revised_there : IsRevised (get_or (all_put ds cs) c.0 c.1).body (c.1).body
   revised_there = all_still ds cs h.1 c.0 c.1 h.0.1 (get_or (all_put ds cs) c.0 c.1) stood
 
-all_tables : (ds : List Decl) (cs : List (ℕ × Decl)) → AreRevised ds cs → table_of (all_put ds cs) ≡ table_of ds
-all_tables ds [] h = refl
-all_tables ds (c ∷ cs) h = same_table (all_put ds cs) c.0 (get_or (all_put ds cs) c.0 c.1) c.1 (stood ds c cs h) (revised_there ds c cs h) ∙ all_tables ds cs h.1
+all_tables : (ds : List Decl) (cs : List (ℕ × Decl)) → AreRevised ds cs → LikeTables (table_of (all_put ds cs)) (table_of ds)
+all_tables ds [] h = like_itself (table_of ds)
+all_tables ds (c ∷ cs) h = like_through (table_of (all_put ds (c ∷ cs))) (table_of (all_put ds cs)) (table_of ds)
+    (tables_alike (all_put ds cs) c.0 (get_or (all_put ds cs) c.0 c.1) c.1 (stood ds c cs h) (revised_there ds c cs h)) (all_tables ds cs h.1)
 
 all_counts : (ds : List Decl) (cs : List (ℕ × Decl)) → AreRevised ds cs → counts_after no_counts (all_put ds cs) ≡ counts_after no_counts ds
 all_counts ds [] h = refl
@@ -42,4 +45,5 @@ pub stay_faultless : (ds : List Decl) (cs : List (ℕ × Decl)) → fault_of ds 
 stay_faultless ds [] none h own = none
 stay_faultless ds (c ∷ cs) none h own =
     none_by_itself (all_put ds cs) c.0 (get_or (all_put ds cs) c.0 c.1) c.1 (stood ds c cs h) (revised_there ds c cs h) (stay_faultless ds cs none h.1 own.1)
-    ((λ i. own_fault (all_tables ds cs h.1 i) (all_counts ds cs h.1 i) (c.1).body) ∙ own.0)
+    ((λ i. own_fault (table_of (all_put ds cs)) (all_counts ds cs h.1 i) (c.1).body)
+    ∙ (own_like (table_of (all_put ds cs)) (table_of ds) (all_tables ds cs h.1) (counts_after no_counts ds) (c.1).body ∙ own.0))

@@ -1,7 +1,7 @@
--- Which declarations declare procedures, and which state axioms; and where the procedure stands that a declaration declares or implements.
+-- Which declarations declare procedures or functions, and which state axioms; and where the procedure stands that a declaration declares or implements.
 use Rattle.std.specs.Prelude.{ℕ, suc, nat_eq, Bool, true, false, cond, List, [], ◌∷◌, bytes_eq, Option, Some, None, option_map, get_or}
 use Rattle.std.specs.List.{list_any}
-use Rattle.bpl_ast.specs.Statement.{DeclBody, axiom_of, procedure, implementation, Decl}
+use Rattle.bpl_ast.specs.Statement.{DeclBody, axiom_of, function, procedure, implementation, Decl}
 use Rattle.bpl_scopes.specs.Scopes.{Text}
 use Rattle.body_revision.specs.declared.places.Sought.{Sought}
 use Rattle.body_revision.specs.declared.places.Sought.TheVariants.{WithoutBody, Implementation}
@@ -17,6 +17,10 @@ is_implementation d = false
 abbrev pub is_axiom : DeclBody → Bool
 is_axiom (axiom_of x) = true
 is_axiom d = false
+
+abbrev pub declares_function : DeclBody → Bool
+declares_function (function n ps ins r x) = true
+declares_function d = false
 
 -- a procedure of this name that has no body of its own
 abbrev pub lacks_body : Text → DeclBody → Bool

@@ -4,7 +4,7 @@ use Rattle.bv_base.specs.declared.place.Place.{Place}
 use Rattle.bpl_ast.specs.Place.{Ty}
 use Rattle.bpl_ast.specs.Tree.{no_groups}
 use Rattle.bpl_ast.specs.Statement.{DeclBody, constant, function, axiom_of, variables, synonym, procedure, implementation, Decl}
-use Rattle.bpl_sorts.specs.Erased.{users_with}
+use Rattle.user_types.specs.Erased.{users_with}
 
 -- axioms and implementations declare nothing, and the body of a procedure adds nothing
 module _ (stands : ℕ → Place → Ty) where

@@ -1,7 +1,7 @@
 -- What the laws of heads and of readings of user types say.
 use Rattle.std.specs.Prelude.{◌≡◌, ℕ, List}
 use Rattle.bpl_ast.specs.Statement.{Decl}
-use Rattle.bpl_sorts.specs.Erased.{as_integers, maps_over, erased, told_apart}
+use Rattle.user_types.specs.Erased.{as_integers, maps_over, erased, told_apart}
 use Rattle.body_revision.specs.Names.{DeclareAlike}
 use Rattle.body_revision.specs.Revision.{all_put, AreRevised}
 use Rattle.body_revision.specs.ReadHeads.{heads_from}

@@ -2,9 +2,10 @@
 ghost use Rattle.std.specs.Prelude.{◌≡◌, ◌⊎◌, IsTrue, IfOk, IfSome, is_some};
 ghost use Rattle.bpl_ast.specs.DeclView.{body_of};
 ghost use Rattle.body_revision.specs.Procedures.{is_procedure, is_implementation};
-ghost use Rattle.body_revision.specs.Revised.{names_modified, HasParts, IsImplementation, IsOtherImplementation, IsOtherAxiom, IsRevised};
+ghost use Rattle.body_revision.specs.Revised.{names_modified, HasParts, IsImplementation, IsOtherImplementation, IsOtherAxiom, IsOtherFunction, IsRevised};
 
 use crate::axioms::is_other_axiom;
+use crate::functions::is_other_function;
 use crate::names::{same_name, same_optional_params};
 use crate::specs::{same_modified, same_signature};
 use bpl_ast::{DeclBody, Name, Signature, Spec, TypeParams};
@@ -116,22 +117,36 @@ fn is_other_implementation(old: &DeclBody, new: &DeclBody) -> bool
     }
 }
 
-// Whether they are implementations that differ in their bodies alone, or axioms.
-fn is_other_plain(old: &DeclBody, new: &DeclBody) -> bool
-    ensures equal { IsTrue result → IsOtherImplementation (body_of old.now) (body_of new.now) ⊎ IsOtherAxiom (body_of old.now) (body_of new.now) }
-    ensures told { IsOtherImplementation (body_of old.now) (body_of new.now) ⊎ IsOtherAxiom (body_of old.now) (body_of new.now) → IsTrue result }
+// Whether they are axioms, or functions that differ in values that apply the same alone.
+fn is_other_fact(alloc: Global, old: &DeclBody, new: &DeclBody) -> Result<bool, AllocError>
+    ensures equal { IfOk result (λ b. IsTrue b → IsOtherAxiom (body_of old.now) (body_of new.now) ⊎ IsOtherFunction (body_of old.now) (body_of new.now)) }
+    ensures told { IfOk result (λ b. IsOtherAxiom (body_of old.now) (body_of new.now) ⊎ IsOtherFunction (body_of old.now) (body_of new.now) → IsTrue b) }
+{
+    if is_other_axiom(old, new) {
+        Ok(true)
+    } else {
+        is_other_function(alloc, old, new)
+    }
+}
+
+// Whether they are implementations that differ in their bodies alone, axioms, or such functions.
+fn is_other_plain(alloc: Global, old: &DeclBody, new: &DeclBody) -> Result<bool, AllocError>
+    ensures equal { IfOk result (λ b. IsTrue b → IsOtherImplementation (body_of old.now) (body_of new.now) ⊎ (IsOtherAxiom (body_of old.now) (body_of new.now) ⊎ IsOtherFunction (body_of old.now) (body_of new.now))) }
+    ensures told { IfOk result (λ b. IsOtherImplementation (body_of old.now) (body_of new.now) ⊎ (IsOtherAxiom (body_of old.now) (body_of new.now) ⊎ IsOtherFunction (body_of old.now) (body_of new.now)) → IsTrue b) }
 {
     if is_other_implementation(old, new) {
-        true
+        Ok(true)
     } else {
-        is_other_axiom(old, new)
+        is_other_fact(alloc, old, new)
     }
 }
 
 /// Whether one declaration is a revision of the other: a procedure with other clauses or another body,
-/// an implementation with another body, or an axiom with another expression. Names, type parameters,
-/// parameters and results are equal, and stand at the same places; two procedures name the same in
-/// `modifies`, and both have a body, or none has. The only error is want of memory.
+/// an implementation with another body, an axiom with another expression, or a function with another
+/// value. Names, type parameters, parameters and results are equal, and stand at the same places; two
+/// procedures name the same in `modifies`, and both have a body, or none has; the values of two functions
+/// apply the same functions in the same order, and both have a quantifier, or none has. The only error is
+/// want of memory.
 pub fn is_revised(alloc: Global, old: &DeclBody, new: &DeclBody) -> Result<bool, AllocError>
     ensures equal { IfOk result (λ b. IsTrue b → IsRevised (body_of old.now) (body_of new.now)) }
     ensures told { IfOk result (λ b. IsRevised (body_of old.now) (body_of new.now) → IsTrue b) }
@@ -141,6 +156,6 @@ pub fn is_revised(alloc: Global, old: &DeclBody, new: &DeclBody) -> Result<bool,
             Some(theirs) => is_other_procedure(alloc, &mine, &theirs),
             None => Ok(false),
         },
-        None => Ok(is_other_plain(old, new)),
+        None => is_other_plain(alloc, old, new),
     }
 }

@@ -10,14 +10,21 @@
 //! two readings, as integers and told apart, is made of the declarations' heads alone.
 #![tactic(auto)]
 
-// Equal names, types and expressions.
+// Equal names, types, parameters and expressions.
+mod arguments;
 mod exprs;
 mod names;
 mod parts;
 mod specs;
 mod types;
 
+// Values of functions that apply the same.
+mod applied;
+mod quantified;
+mod values;
+
 // Equal heads.
+mod functions;
 pub mod heads;
 
 // What the program declares, in the readings of its user types too, and the faults.
@@ -25,8 +32,9 @@ pub mod declared_names;
 pub mod faultless;
 pub mod readings;
 
-// The module: what is new and where it stands, the procedure or the axiom, and the whole.
+// The module: what is new and where it stands, the procedure, the axiom or the value, and the whole.
 mod axioms;
+mod function_values;
 pub mod module;
 pub(crate) mod places;
 mod procedures;

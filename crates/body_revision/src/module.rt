@@ -10,6 +10,8 @@ ghost use Rattle.body_revision.specs.Revision.{IsPartOf, IsMade, is_nowhere};
 use crate::axioms::{axiom_in, count_axioms, is_axiom};
 use crate::declared_names::DeclaredNames;
 use crate::faultless::own_fault;
+use crate::function_values::function_part;
+use crate::functions::declares_function;
 use crate::places::{procedure_by, procedure_place};
 use crate::procedures::{count_procedures, procedure_of};
 use crate::revised::{ModulePart, Revision};
@@ -82,6 +84,10 @@ fn part_of<'d, 'a>(
         let part = axiom_part(alloc, declared, order, decls, at, decl)?;
         return Ok(Some(part));
     }
+    if declares_function(decl.body()) {
+        let part = function_part(alloc, declared, order, decl)?;
+        return Ok(Some(part));
+    }
     match procedure_place(decls, at, decl) {
         Some(place) => {
             let part = procedure_part(alloc, declared, order, decls, at, place, decl)?;
@@ -124,10 +130,10 @@ fn new_part<'a>(
 }
 
 /// What is new in the module of a program of so many declarations where this declaration takes the
-/// place of one of these of which it is a revision, if it has no fault of its own, and is an axiom or
-/// its procedure is found. The names are those of the program; of procedures' contracts only what they
-/// modify counts in them, and of axioms nothing: so it is new too where other declarations have given
-/// way to revisions. The only error is want of memory.
+/// place of one of these of which it is a revision, if it has no fault of its own, and is an axiom or a
+/// function, or its procedure is found. The names are those of the program; of procedures' contracts only
+/// what they modify counts in them, of functions' values only what they apply, and of axioms nothing: so
+/// it is new too where other declarations have given way to revisions. The only error is want of memory.
 pub fn revision<'a>(
     alloc: Global,
     names: &DeclaredNames<'a>,

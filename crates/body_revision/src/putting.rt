@@ -1,12 +1,12 @@
 // What is new is put into a module.
-ghost use Rattle.std.specs.Prelude.{◌≡◌, ◌<◌, length, slice_get, Some};
+ghost use Rattle.std.specs.Prelude.{◌≡◌, ◌<◌, length, option_map, slice_get, Some};
 ghost use Rattle.bpl_model.specs.Module.{with_procedure};
 ghost use Rattle.bpl_model.specs.Typed.{IsTypedModule};
-ghost use Rattle.body_revision.specs.Revision.{with_axiom, revised, HasPlaces};
+ghost use Rattle.body_revision.specs.Revision.{with_axiom, with_value, with_function, revised, HasPlaces};
 
 use crate::revised::{ModulePart, Revision};
-use bpl_model::{DeclText, DeclaredProc, Module, Parts};
-use logic_core::Formula;
+use bpl_model::{DeclText, DeclaredProc, Function, Module, Parts};
+use logic_core::{Formula, Term};
 use std::alloc::Global;
 use std::mem;
 
@@ -14,6 +14,13 @@ use std::mem;
 #[derive(Drop)]
 struct DeclaredAxiom {
     formula: Formula,
+    text: DeclText,
+}
+
+// The value of a function, and the texts of its declaration.
+#[derive(Drop)]
+struct DeclaredValue {
+    body: Term,
     text: DeclText,
 }
 
@@ -74,6 +81,80 @@ fn put_axiom(
     let before = put_among(&mut parts, axiom_at, decl_at, declared);
     *typed = Module::new(parts);
     before
+}
+
+// Puts a value in the place of a function's own, which is given back.
+fn put_value(function: &mut Function, body: Term) -> Term
+    ensures put { function.new ≡ with_value body function.old }
+    ensures body { result ≡ function.old.def.body }
+{
+    mem::replace(&mut function.def.body, body)
+}
+
+// Puts the value of a function and the texts of its declaration among the parts, in the place of others,
+// which are given back.
+fn put_function_among(
+    parts: &mut Parts,
+    at: usize,
+    decl_at: usize,
+    declared: DeclaredValue,
+) -> DeclaredValue
+    requires functions { at < length parts.old.functions }
+    requires texts { decl_at < length parts.old.texts }
+    ensures put { parts.new ≡ with_function at declared.body decl_at declared.text parts.old }
+    ensures body { Some result.body ≡ option_map (λ f. f.def.body) (slice_get parts.old.functions at) }
+    ensures text { Some result.text ≡ slice_get parts.old.texts decl_at }
+{
+    let DeclaredValue { body, text } = declared;
+    let body = put_value(&mut parts.functions[at], body);
+    let text = mem::replace(&mut parts.texts[decl_at], text);
+    DeclaredValue { body, text }
+}
+
+// The same, in a module.
+fn put_function(
+    alloc: Global,
+    typed: &mut Module,
+    at: usize,
+    decl_at: usize,
+    declared: DeclaredValue,
+) -> DeclaredValue
+    requires functions { at < length typed.old.functions }
+    requires texts { decl_at < length typed.old.texts }
+    requires typed { IsTypedModule (with_function at declared.body decl_at declared.text typed.old) }
+    ensures put { typed.new ≡ with_function at declared.body decl_at declared.text typed.old }
+    ensures body { Some result.body ≡ option_map (λ f. f.def.body) (slice_get typed.old.functions at) }
+    ensures text { Some result.text ≡ slice_get typed.old.texts decl_at }
+{
+    let module = mem::replace(typed, empty_module(alloc));
+    let mut parts = module.into_parts();
+    let before = put_function_among(&mut parts, at, decl_at, declared);
+    *typed = Module::new(parts);
+    before
+}
+
+// What stood where the value of a function is put.
+fn put_body(
+    alloc: Global,
+    typed: &mut Module,
+    at: usize,
+    decl_at: usize,
+    declared: DeclaredValue,
+) -> Revision
+    requires functions { at < length typed.old.functions }
+    requires texts { decl_at < length typed.old.texts }
+    requires typed { IsTypedModule (with_function at declared.body decl_at declared.text typed.old) }
+    ensures put { typed.new ≡ with_function at declared.body decl_at declared.text typed.old }
+    ensures places { HasPlaces typed.new result }
+    ensures back { revised result typed.new ≡ typed.old }
+{
+    let before = put_function(alloc, typed, at, decl_at, declared);
+    let DeclaredValue { body, text } = before;
+    Revision {
+        decl_at,
+        part: ModulePart::Function { at, body },
+        text,
+    }
 }
 
 // What stood where a procedure is put.
@@ -138,6 +219,9 @@ pub fn put_revision(alloc: Global, typed: &mut Module, revision: Revision) -> Re
         }
         ModulePart::Axiom { at, formula } => {
             put_formula(alloc, typed, at, decl_at, DeclaredAxiom { formula, text })
+        }
+        ModulePart::Function { at, body } => {
+            put_body(alloc, typed, at, decl_at, DeclaredValue { body, text })
         }
     }
 }

@@ -2,15 +2,15 @@
 // each user type.
 ghost use Rattle.std.specs.Prelude.{◌≡◌, [], unwrap_or, option_map, IfOk};
 ghost use Rattle.bpl_ast.specs.DeclView.{body_of};
-ghost use Rattle.bpl_sorts.specs.Views.{stands_by};
+ghost use Rattle.user_types.specs.Views.{stands_by};
 ghost use Rattle.body_revision.specs.ReadHeads.{head_in, heads_from};
 
 use bpl_ast::copy_names::copy_type_params;
 use bpl_ast::{Decl, DeclBody};
-use bpl_sorts::Reading;
-use bpl_sorts::readings::{stands_by, users_with};
 use std::alloc::{AllocError, Global};
 use std::sync::Arc;
+use user_types::Reading;
+use user_types::readings::{stands_by, users_with};
 
 // The head of a declaration, up to and with which there are so many user types, or `None` where it is the
 // whole declaration.

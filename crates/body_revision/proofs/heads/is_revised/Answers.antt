@@ -16,7 +16,7 @@ pub returns-in-None-parts_of-clause-told : goal.returns-in-None-parts_of-clause-
 returns-in-None-parts_of-clause-told c r = absurd (no_procedure_new _ _ (sym c.parts_of.ensures.told ∙ ap is_some c.in-Some.is) (sym c.parts_of-in-Some.ensures.told ∙ ap is_some c.in-None-parts_of.is) r)
 
 pub returns-in-None-clause-equal : goal.returns-in-None-clause-equal
-returns-in-None-clause-equal c t = inr (c.is_other_plain.ensures.equal t)
+returns-in-None-clause-equal c = IfOk-weaker c.is_other_plain.result _ _ (λ b h t. inr (h t)) c.is_other_plain.ensures.equal
 
 pub returns-in-None-clause-told : goal.returns-in-None-clause-told
-returns-in-None-clause-told c r = c.is_other_plain.ensures.told (no_procedure _ _ (sym c.parts_of.ensures.told ∙ ap is_some c.in-None.is) r)
+returns-in-None-clause-told c = IfOk-weaker c.is_other_plain.result _ _ (λ b h r. h (no_procedure _ _ (sym c.parts_of.ensures.told ∙ ap is_some c.in-None.is) r)) c.is_other_plain.ensures.told

@@ -21,3 +21,12 @@ put_formula-requires-clause-typed c = subst (λ (p : ModulePart). IsTypedModule 
 
 pub returns-in-Axiom-clause-put : goal.returns-in-Axiom-clause-put
 returns-in-Axiom-clause-put c = c.put_formula.ensures.put ∙ sym (ap (λ (p : ModulePart). with_part p c.args.revision.decl_at c.args.revision.text c.args.typed.now) c.in-Axiom.is)
+
+pub put_body-requires-clause-functions : goal.put_body-requires-clause-functions
+put_body-requires-clause-functions c = subst (λ (p : ModulePart). IsThere p c.args.typed.now) c.in-Function.is c.requires.places.0
+
+pub put_body-requires-clause-typed : goal.put_body-requires-clause-typed
+put_body-requires-clause-typed c = subst (λ (p : ModulePart). IsTypedModule (with_part p c.args.revision.decl_at c.args.revision.text c.args.typed.now)) c.in-Function.is c.requires.typed
+
+pub returns-in-Function-clause-put : goal.returns-in-Function-clause-put
+returns-in-Function-clause-put c = c.put_body.ensures.put ∙ sym (ap (λ (p : ModulePart). with_part p c.args.revision.decl_at c.args.revision.text c.args.typed.now) c.in-Function.is)

@@ -1,5 +1,5 @@
 use Rattle.std.proofs.Common.{◌≡◌, ◌++◌, drop}
-use Rattle.bpl_sorts.specs.Views.{stands_by}
+use Rattle.user_types.specs.Views.{stands_by}
 use Rattle.body_revision.specs.ReadHeads.{heads_from}
 use Rattle.body_revision.proofs.readings.read_heads.Given as goal
 
