@@ -8,8 +8,8 @@ use Rattle.bpl_scopes.specs.Scopes.{Table, table_of}
 use Rattle.canonical_text.specs.WrittenExpression.{IsName, AreNames, SomeNames}
 use Rattle.canonical_text.specs.WrittenStatement.{IsWrittenDecl}
 use Rattle.canonical_text.specs.RoundTrip.{AreWrittenDecls}
-use Rattle.bpl_sorts.specs.UserTypes.{user_of}
-use Rattle.bpl_sorts.specs.Erased.{users_with, replaced_body, replaced_from, replaced, Unique, uniques_of, uniques_in, uniques, one_more, axioms_from, axioms_after, carrier_axioms, as_integers, erased}
+use Rattle.user_types.specs.UserTypes.{user_of}
+use Rattle.user_types.specs.Erased.{users_with, replaced_body, replaced_from, replaced, Unique, uniques_of, uniques_in, uniques, one_more, axioms_from, axioms_after, carrier_axioms, as_integers, erased}
 
 -- a declaration keeps its name, and whether it is an axiom
 body_written : (t : Table) (j : ℕ) (d : DeclBody) → IsWrittenDecl d → IsWrittenDecl (replaced_body as_integers t j d)

@@ -21,3 +21,4 @@ mod PutAgain
 mod SharedGoals
 mod ChangedGoals
 mod Declined
+mod OneBody

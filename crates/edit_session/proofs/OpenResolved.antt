@@ -8,8 +8,8 @@ use Rattle.bpl_scopes.specs.declared.fault.Fault.{Fault}
 use Rattle.bpl_scopes.specs.Scopes.{table_of}
 use Rattle.bpl_declaration_faults.specs.DeclFaults.{fault_of}
 use Rattle.bpl_model.specs.Module.{Module}
-use Rattle.bpl_sorts.specs.Erased.{erased}
-use Rattle.bpl_sorts.specs.CarrierFaults.{carrier_fault}
+use Rattle.user_types.specs.Erased.{erased}
+use Rattle.user_types.specs.CarrierFaults.{carrier_fault}
 use Rattle.canonical_text.specs.RoundTrip.{AreWrittenDecls}
 use Rattle.bpl_resolve.specs.Elaborate.{decl_text, module_of}
 use Rattle.rebuild_laws.specs.Resolved.{IsResolved}

@@ -1,7 +1,7 @@
 -- What is found of all goals, procedure by procedure.
-use Rattle.std.proofs.Common.{◌≡◌, ◌∙◌, refl, sym, ap, arith, add-one, append_assoc, drop-cons, ℕ, ◌+◌, ◌<◌, List, get_or, [], ◌∷◌, ◌++◌, map, length, take, drop, sum, length-append}
+use Rattle.std.proofs.Common.{◌≡◌, ◌∙◌, refl, sym, ap, arith, append_assoc, ℕ, ◌+◌, ◌<◌, List, get_or, [], ◌∷◌, ◌++◌, map, length, take, drop, sum, length-append}
 use Rattle.std.specs.Prelude.{flat_map}
-use Rattle.std.proofs.lemmas.List.{map-id, take-map, drop-map, take_at, drop_at, length-map}
+use Rattle.std.proofs.lemmas.List.{map-id, take-map, drop-map, take_at, drop_at, at_drop_more, length-map}
 use Rattle.std.proofs.lemmas.List.Sums.{sum_by-cons}
 use Rattle.obligation_text.specs.Asked.{Asked}
 use Rattle.tableau.specs.Settled.{Settled, settled_by}
@@ -11,7 +11,7 @@ use Rattle.tableau.specs.Search.{Verdict}
 use Rattle.flow_core.specs.declared.mark.Mark.{Mark}
 use Rattle.bpl_ast.specs.Statement.{Decl}
 use Rattle.bpl_model.specs.Module.{Module}
-use Rattle.report_text.specs.Report.{report}
+use Rattle.report_text.specs.Report.{report, proc_lines}
 use Rattle.stmt_checksum.specs.SumLines.{sum_lines}
 use Rattle.program_opening.specs.ProcGoals.{ProcGoals}
 use Rattle.check_report.specs.Scratch.{verdicts, lines_on}
@@ -19,7 +19,7 @@ use Rattle.check_report.proofs.Answered.{map_map}
 use Rattle.check_report.proofs.ProgramQuestions.{map_flat}
 use Rattle.edit_session.specs.Program.{question, text_or_none, proof_line}
 use Rattle.edit_session.specs.Sums.{sums_on}
-use Rattle.edit_session.specs.Built.{proc_goals, goal_counts, questions_of, in_parts}
+use Rattle.edit_session.specs.Built.{proc_goals, goal_counts, questions_of, in_parts, told_lines}
 use Rattle.edit_session.specs.AnswerLines.{report_by}
 
 -- parts of a list that is joined of parts are those parts
@@ -30,19 +30,28 @@ parts_back f g (b ∷ bs) xs e =
     let back : map f (drop (length (g b)) xs) ≡ flat_map g bs = sym (drop-map f (length (g b)) xs) ∙ ap (drop (length (g b))) e ∙ drop_at (g b) (flat_map g bs) (length (g b)) refl in
     λ i. front i ∷ parts_back f g bs (drop (length (g b)) xs) back i
 
--- the next part
-drop_next : (ns : List ℕ) (k : ℕ) → k < length ns → drop k ns ≡ get_or ns k 0 ∷ drop (k + 1) ns
-drop_next ns k below = rw (add-one, drop-cons ns k 0)
+-- of the procedure at a place and those behind it
+pub counts_next : (bs : List BuiltProc) (k : ℕ) (b : BuiltProc) → k < length bs → b ≡ get_or bs k b → sum (goal_counts (drop k bs)) ≡ length b.goals + sum (goal_counts (drop (k + 1) bs))
+counts_next bs k b below is =
+    at_drop_more (λ xs. sum (goal_counts xs)) bs k b below ∙ ap (λ x. sum (goal_counts (x ∷ drop (k + 1) bs))) (sym is) ∙ sum_by-cons (λ n. n) (length b.goals) (goal_counts (drop (k + 1) bs))
 
-pub sum_next : (ns : List ℕ) (k : ℕ) → k < length ns → sum (drop k ns) ≡ get_or ns k 0 + sum (drop (k + 1) ns)
-sum_next ns k below = ap sum (drop_next ns k below) ∙ sum_by-cons (λ n. n) (get_or ns k 0) (drop (k + 1) ns)
+lines_next : (bs : List BuiltProc) (k : ℕ) (b : BuiltProc) (vs own behind : List Verdict) → k < length bs → b ≡ get_or bs k b → own ≡ take (length b.goals) vs → behind ≡ drop (length b.goals) vs
+    → told_lines (drop k bs) vs ≡ proc_lines b.name (map (λ (g : Goal). g.mark) b.goals) own ++ told_lines (drop (k + 1) bs) behind
+lines_next bs k b vs own behind below is first rest =
+    at_drop_more (λ xs. told_lines xs vs) bs k b below ∙ ap (λ x. told_lines (x ∷ drop (k + 1) bs) vs) (sym is)
+    ∙ (λ i. proc_lines b.name (map (λ (g : Goal). g.mark) b.goals) (sym first i) ++ told_lines (drop (k + 1) bs) (sym rest i))
 
-pub parts_more : {A B : Type 0} (f : A → B) (ns : List ℕ) (k n : ℕ) (xs ys : List A) (found : List (List B)) (part : List B) (all : List (List B)) → k < length ns → get_or ns k 0 ≡ n
-    → found ++ map (map f) (in_parts (drop k ns) xs) ≡ all → part ≡ map f (take n xs) → ys ≡ drop n xs → (found ++ part ∷ []) ++ map (map f) (in_parts (drop (k + 1) ns) ys) ≡ all
-parts_more f ns k n xs ys found part all below same before this left =
-    let rest : map (map f) (in_parts (drop k ns) xs) ≡ map f (take n xs) ∷ map (map f) (in_parts (drop (k + 1) ns) (drop n xs)) =
-    ap (λ ms. map (map f) (in_parts ms xs)) (drop_next ns k below ∙ ap (λ m. m ∷ drop (k + 1) ns) same) in
-    append_assoc found (part ∷ []) (map (map f) (in_parts (drop (k + 1) ns) ys)) ∙ (λ i. found ++ this i ∷ map (map f) (in_parts (drop (k + 1) ns) (left i))) ∙ ap (λ ps. found ++ ps) (sym rest) ∙ before
+-- the lines of a procedure that came behind, and those that are left
+pub lines_more : (bs : List BuiltProc) (k : ℕ) (b : BuiltProc) (vs own behind : List Verdict) (old new whole : List (List ℕ)) → k < length bs → b ≡ get_or bs k b → own ≡ take (length b.goals) vs → behind ≡ drop (length b.goals) vs
+    → new ≡ old ++ proc_lines b.name (map (λ (g : Goal). g.mark) b.goals) own → old ++ told_lines (drop k bs) vs ≡ whole → new ++ told_lines (drop (k + 1) bs) behind ≡ whole
+lines_more bs k b vs own behind old new whole below is first rest came before =
+    ap (λ ls. ls ++ told_lines (drop (k + 1) bs) behind) came ∙ append_assoc old (proc_lines b.name (map (λ (g : Goal). g.mark) b.goals) own) (told_lines (drop (k + 1) bs) behind)
+    ∙ ap (λ ls. old ++ ls) (sym (lines_next bs k b vs own behind below is first rest)) ∙ before
+
+-- parts of what is mapped
+parts_mapped : {A B : Type 0} (f : A → B) (ns : List ℕ) (xs : List A) → in_parts ns (map f xs) ≡ map (map f) (in_parts ns xs)
+parts_mapped f [] xs = refl
+parts_mapped f (n ∷ ns) xs = λ i. take-map f n xs i ∷ (ap (in_parts ns) (drop-map f n xs) ∙ parts_mapped f ns (drop n xs)) i
 
 -- the verdicts of a procedure's goals are as many as the goals
 same_counts : (turns : ℕ) (bs : List BuiltProc) → map (λ (b : BuiltProc). length (verdicts turns b.goals)) bs ≡ goal_counts bs
@@ -96,6 +105,12 @@ pub reported_lines : (turns : ℕ) (bs : List BuiltProc) (ns : List (List ℕ)) 
 reported_lines turns bs ns mss vss n k v =
     let found : vss ≡ map (λ (p : ProcGoals). verdicts turns p.goals) (map proc_goals bs) = v ∙ sym (map_map proc_goals (λ (p : ProcGoals). verdicts turns p.goals) bs) in
     λ i. report (its_names bs ns n i) (its_marks bs mss k i) (found i)
+
+-- the lines by the verdicts of the answers are the report's
+pub answered_lines : {X : Type 0} (value : X → Settled) (turns : ℕ) (bs : List BuiltProc) (xs : List X) → map value xs ≡ map settled_by (questions_of turns bs)
+    → told_lines bs (map (λ x. (value x).verdict) xs) ≡ lines_on turns (map proc_goals bs)
+answered_lines value turns bs xs answers =
+    reported_lines turns bs _ _ _ refl refl (parts_mapped (λ x. (value x).verdict) (goal_counts bs) xs ∙ verdicts_by_proc value turns bs xs answers)
 
 -- by the answers of the questions
 pub reported_by : (turns : ℕ) (bs : List BuiltProc) (xs : List Settled) → xs ≡ map settled_by (questions_of turns bs) → report_by (map proc_goals bs) xs ≡ lines_on turns (map proc_goals bs)

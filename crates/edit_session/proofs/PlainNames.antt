@@ -5,7 +5,7 @@ use Rattle.bv_base.specs.declared.place.Place.{Place}
 use Rattle.bpl_ast.specs.Place.{Ty}
 use Rattle.bpl_ast.specs.Statement.{DeclBody, constant, function, axiom_of, variables, synonym, procedure, implementation, Decl}
 use Rattle.bpl_scopes.specs.Scopes.{Table, table_of, Counts, no_counts, counts_with, counts_after, entries_of, entries_after}
-use Rattle.bpl_sorts.specs.Erased.{users_with, replaced_body, replaced_from, as_integers, erased, maps_over, told_apart}
+use Rattle.user_types.specs.Erased.{users_with, replaced_body, replaced_from, as_integers, erased, maps_over, told_apart}
 use Rattle.body_revision.specs.Names.{DeclareAlike}
 use Rattle.body_revision.proofs.HeadNames.{erased_alike}
 use Rattle.program_opening.specs.NoUsers.{is_user_type, has_user_types}

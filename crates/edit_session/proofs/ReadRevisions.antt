@@ -9,7 +9,7 @@ use Rattle.bpl_ast.specs.Statement.{Decl}
 use Rattle.bpl_scopes.specs.declared.fault.Fault.{Fault}
 use Rattle.bpl_scopes.specs.Functions.{in_number_order}
 use Rattle.bpl_scopes.specs.Scopes.{table_of, no_counts, counts_after}
-use Rattle.bpl_sorts.specs.Erased.{erased, told_apart}
+use Rattle.user_types.specs.Erased.{erased, told_apart}
 use Rattle.body_revision.specs.Names.{DeclareAlike, AreNamesOf, own_fault}
 use Rattle.body_revision.specs.Revised.{IsRevised}
 use Rattle.body_revision.specs.Revision.{IsNew, IsMade, AreNew, AreRevised, HaveNoFaults}

@@ -9,8 +9,8 @@ use Rattle.bpl_declaration_faults.specs.DeclFaults.{fault_of}
 use Rattle.bpl_goto.specs.Forward.{AllGoForward}
 use Rattle.bpl_model.specs.Module.{Module}
 use Rattle.bpl_model.specs.Typed.{IsTypedModule}
-use Rattle.bpl_sorts.specs.Erased.{erased, told_apart}
-use Rattle.bpl_sorts.proofs.TypedModules.{no_fault}
+use Rattle.user_types.specs.Erased.{erased, told_apart}
+use Rattle.user_types.proofs.NoneTaken.{no_fault}
 use Rattle.canonical_text.specs.RoundTrip.{AreWrittenDecls}
 use Rattle.fault_text.specs.FaultView.{SourcesAreShort}
 use Rattle.bpl_resolve.specs.Elaborate.{module_of}
@@ -82,7 +82,7 @@ can_be_put ds (c ∷ cs) [] none new = absurd new
 can_be_put ds (c ∷ cs) (v ∷ vs) none new =
     let rest = go_together ds cs vs none new.1 in
     let all = go_together ds (c ∷ cs) (v ∷ vs) none new in
-    let there = new_there (all_put ds cs) c.0 c.1 v (over_all ds cs vs c.0 c.1 v new.1 new.0) in (
+    let there = new_there (all_put ds cs) c.0 c.1 v rest.0 (over_all ds cs vs c.0 c.1 v new.1 new.0) in (
       can_be_put ds cs vs none new.1,
       (subst (λ (x : Module). HasPlaces x v) rest.1 there, subst IsTypedModule all.1 (module_typed (all_put ds (c ∷ cs)) all.0)),
     )

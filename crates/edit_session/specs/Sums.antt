@@ -2,7 +2,7 @@
 use Rattle.std.specs.Prelude.{ℕ, List, map}
 use Rattle.bpl_ast.specs.Statement.{Decl}
 use Rattle.bpl_model.specs.Module.{Module}
-use Rattle.bpl_sorts.specs.Erased.{erased}
+use Rattle.user_types.specs.Erased.{erased}
 use Rattle.program_opening.specs.ProcGoals.{ProcGoals, goals_by_proc}
 use Rattle.stmt_checksum.specs.SumLines.{sum_lines}
 

@@ -17,8 +17,9 @@ ghost use Rattle.edit_session.specs.Told.{IsOpened, IsUndone, IsReported, ArePro
 
 use crate::changed::changed_between;
 use crate::goals;
-use crate::lines::{proof_lines, report_lines};
+use crate::lines::proof_lines;
 use crate::program::OpenProgram;
+use crate::reported::report_lines;
 use board_core::{Difference, Opened};
 use goal_board::GoalBoard;
 use request_text::Reply;

@@ -2,7 +2,7 @@
 ghost use Rattle.std.specs.Prelude.{◌≡◌, ◌++◌, map, length, string_bytes, IfOk, OnOk};
 ghost use Rattle.std.specs.Arc.{arc_value};
 ghost use Rattle.edit_session.specs.Program.{question};
-ghost use Rattle.edit_session.specs.Built.{questions_of, goal_counts};
+ghost use Rattle.edit_session.specs.Built.{questions_of};
 
 use flow_core::Mark;
 use obligation_text::Asked;
@@ -10,13 +10,20 @@ use std::alloc::{AllocError, Global};
 use std::sync::Arc;
 use vc_rebuild::{BuiltProc, KeptGoal};
 
+/// The procedure's name.
+pub fn name_of(proc: &BuiltProc) -> &str
+    ensures { result.now ≡ proc.now.name }
+{
+    proc.name().text.as_str()
+}
+
 /// The names of the procedures.
 pub fn names(alloc: Global, procs: &[BuiltProc]) -> Result<Vec<String>, AllocError>
     ensures { IfOk result (λ v. map string_bytes v.items ≡ map (λ b. b.name) procs.now) }
 {
     let mut found = Vec::new(alloc);
     for proc in procs {
-        found.push(String::from_str(alloc, proc.name().text.as_str())?)?;
+        found.push(String::from_str(alloc, name_of(proc))?)?;
     }
     Ok(found)
 }
@@ -45,17 +52,6 @@ pub fn count_of(proc: &BuiltProc) -> usize
     ensures { result ≡ length proc.now.goals }
 {
     proc.marks().len()
-}
-
-/// How many goals each procedure has.
-pub fn counts(alloc: Global, procs: &[BuiltProc]) -> Result<Vec<usize>, AllocError>
-    ensures { IfOk result (λ v. v.items ≡ goal_counts procs.now) }
-{
-    let mut found = Vec::new(alloc);
-    for proc in procs {
-        found.push(count_of(proc))?;
-    }
-    Ok(found)
 }
 
 // The same question in so many turns.

@@ -4,17 +4,20 @@
 //! Each report is the report from scratch of the program that is open, and what it calls correct is safe.
 #![tactic(auto)]
 
-// The goals that were built: names, marks, questions, and the answers of each procedure.
+// The goals that were built: names, marks and questions.
 mod goals;
-mod verdicts;
 
 // The texts of requests, the lines of replies, and the replies that refuse a program.
 mod lines;
 mod refusals;
+mod reported;
 mod texts;
 
 // The program that is open, and declarations that are to be.
 pub mod program;
+
+// The body of one declaration, where it alone is another one.
+mod alone;
 
 // The program after some of its procedures have got other clauses or bodies.
 mod revising;

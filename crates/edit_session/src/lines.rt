@@ -2,22 +2,20 @@
 ghost use Rattle.std.specs.Prelude.{◌≡◌, map, string_bytes, IfOk};
 ghost use Rattle.std.specs.Arc.{arc_value};
 ghost use Rattle.std.specs.Option.{option_copied};
-ghost use Rattle.bpl_sorts.specs.Erased.{erased};
-ghost use Rattle.tableau.specs.Settled.{Settled as settled, settled_by};
-ghost use Rattle.check_report.specs.Scratch.{lines_on};
+ghost use Rattle.user_types.specs.Erased.{erased};
+ghost use Rattle.tableau.specs.Settled.{Settled as settled};
 ghost use Rattle.edit_session.specs.Program.{text_or_none, proof_line};
-ghost use Rattle.edit_session.specs.Built.{proc_goals, questions_of};
+ghost use Rattle.edit_session.specs.Built.{proc_goals};
 ghost use Rattle.edit_session.specs.Sums.{sums_on};
 
-use crate::goals::{counts, marks, names};
-use crate::verdicts::verdicts;
+use crate::goals::{marks, names};
 use bpl_ast::Program;
 use bpl_model::Module;
-use bpl_sorts::erase;
 use proof_core::proof::Proof;
 use std::alloc::{AllocError, Global};
 use std::sync::Arc;
 use tableau::settled::Settled;
+use user_types::erase;
 use vc_rebuild::BuiltProc;
 
 /// The text that the bytes are. Where they are none, it is answered as want of memory is; the bytes of
@@ -40,24 +38,6 @@ fn texts(alloc: Global, lines: Vec<Vec<u8>>) -> Result<Vec<String>, AllocError>
         found.push(text_of(line)?)?;
     }
     Ok(found)
-}
-
-/// The report's lines, by the answer to each goal.
-pub fn report_lines(
-    alloc: Global,
-    procs: &[BuiltProc],
-    answers: Vec<Arc<Settled, Global>>,
-    turns: u64,
-) -> Result<Vec<String>, AllocError>
-    requires { map arc_value answers.items ≡ map settled_by (questions_of turns procs.now) }
-    ensures { IfOk result (λ v. map string_bytes v.items ≡ lines_on turns (map proc_goals procs.now)) }
-{
-    let names = names(alloc, procs)?;
-    let marks = marks(alloc, procs)?;
-    let counts = counts(alloc, procs)?;
-    let found = verdicts(alloc, &counts, &answers)?;
-    let lines = report_text::report(alloc, &names, &marks, &found)?;
-    texts(alloc, lines)
 }
 
 // The text of a proof, none of no proof.

@@ -3,10 +3,11 @@ ghost use Rattle.std.specs.Prelude.{◌≡◌, ◌<◌, ◌-◌, ◌^◌, map, l
 ghost use Rattle.bpl_ast.specs.Statement.{Decl as decl_of};
 ghost use Rattle.bpl_goto.specs.Forward.{AllGoForward};
 ghost use Rattle.bpl_scopes.specs.Scopes.{table_of, no_counts, counts_after};
-ghost use Rattle.bpl_sorts.specs.Erased.{erased, told_apart};
+ghost use Rattle.user_types.specs.Erased.{erased, told_apart};
 ghost use Rattle.canonical_text.specs.RoundTrip.{AreWrittenDecls};
 ghost use Rattle.rebuild_laws.specs.Resolved.{IsResolved};
 ghost use Rattle.vc_build.specs.Rebuild.{built};
+ghost use Rattle.vc_rebuild.specs.Change.{IsChangedAt};
 ghost use Rattle.body_revision.specs.Names.{AreNamesOf, own_fault};
 ghost use Rattle.body_revision.specs.Revised.{IsRevised};
 ghost use Rattle.body_revision.specs.Revision.{AreRevised, HaveNoFaults, all_revised};
@@ -19,6 +20,7 @@ ghost use Rattle.edit_session.specs.Built.{questions_of};
 ghost use Rattle.edit_session.specs.Revising.{changes, AreBrought, AreRevisions, IsRevision, CanBePut, IsReopened};
 ghost use Rattle.edit_session.specs.Told.{IsUndone};
 
+use crate::alone::changed_alone;
 use crate::board_calls::open_goals;
 use crate::program::count_decls;
 use body_revision::faultless::own_fault;
@@ -26,7 +28,6 @@ use body_revision::module::revision;
 use body_revision::{DeclaredNames, Revision, is_revised, put_revision, read_heads};
 use bpl_ast::Decl;
 use bpl_model::Module;
-use bpl_sorts::Reading;
 use bv_base::Steps;
 use goal_board::GoalBoard;
 use program_edits::Replacement;
@@ -34,8 +35,9 @@ use program_opening::typing::has_user_types;
 use request_text::Reply;
 use std::alloc::{AllocError, Global};
 use std::sync::ledger::Ledger;
+use user_types::Reading;
 use vc_build::BuildFault;
-use vc_rebuild::{Built, rebuild};
+use vc_rebuild::{Built, rebuild_changed};
 
 // So many revisions at most are made at once: each takes a place on the stack while the module is built.
 const MOST_REVISIONS: usize = 200;
@@ -245,19 +247,21 @@ fn reopen<B: GoalBoard, L: Ledger>(
     alloc: Global,
     kept: &mut Built,
     typed: &Module,
+    but: Option<u64>,
     board: &mut B,
     turns: u64,
     steps: &mut Steps<L>,
 ) -> Result<Reply, BuildFault>
     requires forward { AllGoForward typed.now }
     requires resolved { IsResolved typed.now }
+    requires changed { IsChangedAt but kept.old.procs typed.now }
     requires room { B.workers ≡ 0 → (B.state board.old).version < 2 ^ 64 - 1 }
     requires goals { (B.state board.old).present ≡ map key_of (questions_of turns kept.old.procs) }
     ensures opened { IfOk result (λ x. IsReopened B.workers (B.state board.old) (B.noted board.old) (B.state board.new) (B.noted board.new) turns typed.now kept.old.procs kept.new.procs (reply_view x)) }
     ensures kept { OnErr result (kept.new ≡ kept.old) }
     ensures board { OnErr result (IsUndone B.workers (B.state board.old) (B.noted board.old) (B.state board.new) (B.noted board.new)) }
 {
-    let new = rebuild(alloc, kept, typed, steps)?;
+    let new = rebuild_changed(alloc, kept, typed, but, steps)?;
     let reply = open_goals(alloc, board, kept, &new, new.rebuilt(), turns)?;
     *kept = new;
     Ok(reply)
@@ -270,6 +274,7 @@ fn reopen_with<B: GoalBoard, L: Ledger>(
     alloc: Global,
     typed: &mut Module,
     kept: &mut Built,
+    but: Option<u64>,
     board: &mut B,
     revisions: &mut Vec<Revision>,
     turns: u64,
@@ -278,6 +283,7 @@ fn reopen_with<B: GoalBoard, L: Ledger>(
     requires each { CanBePut typed.old revisions.old.items }
     requires forward { AllGoForward (all_revised typed.old revisions.old.items) }
     requires resolved { IsResolved (all_revised typed.old revisions.old.items) }
+    requires changed { IsChangedAt but kept.old.procs (all_revised typed.old revisions.old.items) }
     requires room { B.workers ≡ 0 → (B.state board.old).version < 2 ^ 64 - 1 }
     requires goals { (B.state board.old).present ≡ map key_of (questions_of turns kept.old.procs) }
     ensures revised { IfSome result (λ x. typed.new ≡ all_revised typed.old revisions.old.items) }
@@ -287,13 +293,13 @@ fn reopen_with<B: GoalBoard, L: Ledger>(
     ensures board { IfNone result (IsUndone B.workers (B.state board.old) (B.noted board.old) (B.state board.new) (B.noted board.new)) }
 {
     match revisions.pop() {
-        None => match reopen(alloc, kept, typed, board, turns, steps) {
+        None => match reopen(alloc, kept, typed, but, board, turns, steps) {
             Ok(reply) => Some(reply),
             Err(_) => None,
         },
         Some(revision) => {
             let before = put_revision(alloc, typed, revision);
-            match reopen_with(alloc, typed, kept, board, revisions, turns, steps) {
+            match reopen_with(alloc, typed, kept, but, board, revisions, turns, steps) {
                 Some(reply) => {
                     drop(before);
                     Some(reply)
@@ -335,7 +341,8 @@ pub fn reopen_revised<B: GoalBoard, L: Ledger>(
     let count = count_decls(typed);
     match revisions_of(alloc, decls, count, replacements) {
         Ok(Some(mut revisions)) => {
-            reopen_with(alloc, typed, kept, board, &mut revisions, turns, steps)
+            let but = changed_alone(typed, revisions.as_slice());
+            reopen_with(alloc, typed, kept, but, board, &mut revisions, turns, steps)
         }
         Ok(None) | Err(_) => None,
     }

@@ -5,6 +5,7 @@ use Rattle.bpl_model.specs.Typed.{IsTypedModule}
 use Rattle.bpl_model.specs.Module.{Module}
 use Rattle.rebuild_laws.specs.Resolved.{IsResolved}
 use Rattle.body_revision.specs.Revision.{HasPlaces, revised, all_revised}
+use Rattle.vc_rebuild.specs.Change.{IsChangedAt}
 use Rattle.edit_session.specs.Revising.{CanBePut}
 use Rattle.edit_session.proofs.Revised.{last_put, last_revised, none_revised}
 use Rattle.edit_session.proofs.revising.+reopen_with.Goals as goal
@@ -18,6 +19,11 @@ pub reopen-requires-clause-resolved : goal.reopen-requires-clause-resolved
 reopen-requires-clause-resolved g t c =
     let none : c.args.revisions.now.items ≡ [] = grind (arith, common_steps) in
     subst IsResolved (none_revised c.args.typed.now c.args.revisions.now.items none) c.requires.resolved
+
+pub reopen-requires-clause-changed : goal.reopen-requires-clause-changed
+reopen-requires-clause-changed g t c =
+    let none : c.args.revisions.now.items ≡ [] = grind (arith, common_steps) in
+    subst (IsChangedAt c.args.but c.args.kept.now.procs) (none_revised c.args.typed.now c.args.revisions.now.items none) c.requires.changed
 
 pub returns-in-Ok-clause-revised : goal.returns-in-Ok-clause-revised
 returns-in-Ok-clause-revised g t c =
@@ -49,7 +55,16 @@ reopen_with-requires g t c =
           outlives.1,
           (
             subst (λ (n : Module). CanBePut n rest) (sym put) last.rest,
-            (subst (λ (n : Module). AllGoForward (all_revised n rest)) (sym put) (subst AllGoForward whole c.requires.forward), (subst (λ (n : Module). IsResolved (all_revised n rest)) (sym put) (subst IsResolved whole c.requires.resolved), (c.requires.room, c.requires.goals))),
+            (
+              subst (λ (n : Module). AllGoForward (all_revised n rest)) (sym put) (subst AllGoForward whole c.requires.forward),
+              (
+                subst (λ (n : Module). IsResolved (all_revised n rest)) (sym put) (subst IsResolved whole c.requires.resolved),
+                (
+                  subst (λ (n : Module). IsChangedAt c.args.but c.args.kept.now.procs (all_revised n rest)) (sym put) (subst (IsChangedAt c.args.but c.args.kept.now.procs) whole c.requires.changed),
+                  (c.requires.room, c.requires.goals),
+                ),
+              ),
+            ),
           ),
         ),
       ),

@@ -1,6 +1,6 @@
 use Rattle.std.proofs.Common.{subst}
 use Rattle.std.proofs.lemmas.Result.{IfOk-weaker}
-use Rattle.bpl_sorts.specs.Erased.{maps_over, told_apart}
+use Rattle.user_types.specs.Erased.{maps_over, told_apart}
 use Rattle.body_revision.specs.Names.{AreNamesOf}
 use Rattle.body_revision.specs.ReadHeads.{heads_from}
 use Rattle.body_revision.proofs.HeadNames.{heads_declare}

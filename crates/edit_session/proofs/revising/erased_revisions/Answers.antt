@@ -1,5 +1,5 @@
 use Rattle.std.proofs.Common.{subst}
-use Rattle.bpl_sorts.specs.Erased.{as_integers, erased}
+use Rattle.user_types.specs.Erased.{as_integers, erased}
 use Rattle.body_revision.specs.Names.{AreNamesOf}
 use Rattle.body_revision.specs.ReadHeads.{heads_from}
 use Rattle.body_revision.proofs.HeadNames.{heads_declare}

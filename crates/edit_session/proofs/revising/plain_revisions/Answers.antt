@@ -1,5 +1,5 @@
 use Rattle.std.proofs.lemmas.Result.{IfOk-weaker}
-use Rattle.bpl_sorts.specs.Erased.{erased}
+use Rattle.user_types.specs.Erased.{erased}
 use Rattle.edit_session.proofs.PlainNames.{plain_declares}
 use Rattle.edit_session.proofs.ReadRevisions.{names_alike, plain_revisions}
 use Rattle.edit_session.proofs.revising.plain_revisions.Goals as goal

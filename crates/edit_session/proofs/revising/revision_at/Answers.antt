@@ -1,5 +1,5 @@
 use Rattle.std.proofs.lemmas.Result.{IfOk-weaker}
-use Rattle.bpl_sorts.specs.Erased.{erased}
+use Rattle.user_types.specs.Erased.{erased}
 use Rattle.edit_session.proofs.ReadRevisions.{in_order, one_revision}
 use Rattle.edit_session.proofs.revising.revision_at.Goals as goal
 

@@ -1,6 +1,6 @@
 use Rattle.std.proofs.Common.{◌∙◌}
 use Rattle.std.proofs.lemmas.Result.{err_from_is_err_and}
-use Rattle.bpl_sorts.specs.Erased.{erased}
+use Rattle.user_types.specs.Erased.{erased}
 use Rattle.edit_session.specs.Sums.{sums_on}
 use Rattle.edit_session.proofs.Answering.{without_memory, sums_line}
 use Rattle.edit_session.proofs.Sessions.{session}
