@@ -1,38 +1,37 @@
 -- The faults of declarations, and what they give the module, over two tables that differ in the values of functions alone, are the same.
-use Rattle.std.proofs.Common.{◌≡◌, refl, sym, ap, ◌∙◌, ℕ, ◌+◌, Bool, true, false, ◌&&◌, List, [], ◌∷◌, ◌++◌, map, filter_map, flat_map, filter, reverse, length, bytes_eq, nat_eq, Option, Some, None, option_map}
+use Rattle.std.proofs.Common.{◌≡◌, refl, ap, ◌∙◌, ℕ, ◌+◌, true, false, ◌&&◌, List, [], ◌∷◌, ◌++◌, map, filter_map, flat_map, filter, reverse, length, nat_eq, Option, Some, None, option_map}
 use Rattle.std.specs.List.{list_any, range_with_len}
 use Rattle.bv_base.specs.Text.{is_among}
 use Rattle.bv_base.specs.declared.place.Place.{Place}
-use Rattle.logic_core.specs.Tree.{Kind, Tree}
+use Rattle.logic_core.specs.Tree.{Tree}
 use Rattle.bpl_ast.specs.Place.{Name, Params, Ty}
 use Rattle.bpl_ast.specs.Tree.{Expr, first_place, Groups, no_groups, group, Clause, no_clause, clause}
 use Rattle.bpl_ast.specs.Statement.{Argument, Body, Spec as SpecTree, requires, ensures, modifies, Signature, DeclBody, constant, function, axiom_of, variables, synonym, procedure, implementation, Decl}
-use Rattle.bpl_scopes.specs.declared.fault.TypeKind.TheVariants.{Twice as twice, Unknown as unknown, Kind as wrong_kind, Arity as arity, Cycle as cycle}
-use Rattle.bpl_scopes.specs.declared.fault.Fault.{Fault}
+use Rattle.bpl_scopes.specs.declared.fault.TypeKind.TheVariants.{Twice as twice, Kind as wrong_kind, Arity as arity, Cycle as cycle}
 use Rattle.bpl_scopes.specs.declared.part.Part.{Part}
 use Rattle.bpl_scopes.specs.declared.part.Part.TheVariants.{Function as in_function, Axiom as in_axiom, Requires as in_requires, Ensures as in_ensures, Body as in_body, ClauseOfGlobal as in_clause_of_global, ClauseOfIn as in_clause_of_in, ClauseOfOut as in_clause_of_out, ClauseOfLocal as in_clause_of_local}
 use Rattle.bpl_scopes.specs.declared.part.Role.{Role}
 use Rattle.bpl_scopes.specs.declared.part.Role.TheVariants.{In as in_parameter, Out as out_parameter, Local as local_variable}
 use Rattle.bpl_scopes.specs.Fault.{fault, unless, if_so, again, first_fault}
-use Rattle.bpl_scopes.specs.Scopes.{Text, Heading, contract_with, Entity, a_constant, a_global, a_function, a_synonym, a_procedure, Table, Counts, names_of, only_names, texts_of, signature_names, entry_of, entity_of, Entry, Var, BoundVar, Scope}
-use Rattle.bpl_scopes.specs.Sorts.{sort_of_type, sorts_of_names, sort_in}
-use Rattle.bpl_scopes.specs.Functions.{argument_names, function_in, is_logical, leads_to_itself}
+use Rattle.bpl_scopes.specs.Scopes.{Text, Heading, contract_with, Entity, a_constant, a_global, a_function, a_synonym, a_procedure, Table, Counts, names_of, only_names, texts_of, signature_names, entry_of, entity_of, Entry, Var}
+use Rattle.bpl_scopes.specs.Sorts.{sort_of_type, sort_in}
+use Rattle.bpl_scopes.specs.Functions.{argument_names}
 use Rattle.bpl_scopes.specs.TypeFaults.{group_where_faults, params_faults}
 use Rattle.bpl_faults.specs.NameFaults.{same_sort_faults}
 use Rattle.bpl_faults.specs.ExprFaults.{expr_faults, formula_faults, group_clause_faults}
-use Rattle.bpl_statement_faults.specs.StmtFaults.{modified_by, is_global, body_stmts_faults}
-use Rattle.bpl_declaration_faults.specs.Variables.{vars_from, first_parameter, locals_of, names_in_body, in_vars, out_vars, parameters, local_vars, body_vars, scope_of, bound_argument, function_scope}
-use Rattle.bpl_declaration_faults.specs.DeclFaults.{argument_type_faults, function_body_faults, function_value_faults, unique_faults, synonym_faults, cycle_faults, signature_faults, parameter_clause_faults, modified_entity_faults, modified_faults, clause_faults_in, spec_faults, local_faults, body_faults, optional_locals, optional_body_faults, has_body, agree, same_texts, same_groups, same_parameters, implemented_faults, implemented_modifies, Before, decl_faults, before_with, nothing_before, faults_after}
-use Rattle.bpl_model.specs.Module.{Const, Function, Global, Local, Spec, Proc, DeclText}
-use Rattle.bpl_terms.specs.Terms.{term_of, sort_or_int, no_term}
+use Rattle.bpl_statement_faults.specs.StmtFaults.{modified_by, body_stmts_faults}
+use Rattle.bpl_declaration_faults.specs.Variables.{vars_from, first_parameter, locals_of, names_in_body, in_vars, out_vars, parameters, local_vars, body_vars, scope_of, bound_argument}
+use Rattle.bpl_declaration_faults.specs.DeclFaults.{function_body_faults, function_value_faults, unique_faults, synonym_faults, cycle_faults, signature_faults, parameter_clause_faults, modified_entity_faults, modified_faults, spec_faults, local_faults, body_faults, optional_locals, optional_body_faults, has_body, agree, same_texts, same_groups, same_parameters, implemented_faults, implemented_modifies, Before, decl_faults, before_with, nothing_before, faults_after}
+use Rattle.bpl_model.specs.Module.{Spec}
+use Rattle.bpl_terms.specs.Terms.{term_of, sort_or_int}
 use Rattle.bpl_texts.specs.Uses.{decl_uses, contract_uses, is_declared_at, leads_of}
 use Rattle.canonical_text.specs.Lines.{text, contract}
-use Rattle.bpl_resolve.specs.Elaborate.{stmts_of, clause_term, clause_terms, locals_with, entity_number, modified_number, spec_in, spec_of, Implemented, or_else, own_body, implementation_of, proc_locals, proc_body, proc_of, consts_in, globals_with, globals_in, axioms_in, value_term, function_def, procs_in, decl_text}
+use Rattle.bpl_resolve.specs.Elaborate.{stmts_of, clause_term, clause_terms, locals_with, entity_number, modified_number, spec_of, Implemented, or_else, own_body, implementation_of, proc_locals, proc_body, proc_of, consts_in, globals_with, globals_in, axioms_in, value_term, function_def, procs_in, decl_text}
 use Rattle.body_revision.proofs.TablesAlike.{LikeTables, LikeFound, of_found, like_found, same_decl, itself_like, logical_like, type_like, arguments_like, groups_like}
 use Rattle.body_revision.specs.Names.{own_fault}
 use Rattle.body_revision.specs.Revision.{values_in}
 use Rattle.body_revision.proofs.ReadingsAlike.{scope, number_like, type_faults_like, group_types_like, sort_like, faults_like, formula_like, group_clauses_like, term_like}
-use Rattle.body_revision.proofs.StatementReadings.{global_like, modified_like, body_stmts_like, stmts_of_like}
+use Rattle.body_revision.proofs.StatementReadings.{modified_like, body_stmts_like, stmts_of_like}
 
 module _ (t u : Table) (like : LikeTables t u) where
   -- ---- variables

@@ -2,24 +2,22 @@
 use Rattle.std.proofs.Common.{◌≡◌, ◌⊎◌, refl, sym, ap, ◌∙◌, inl, inr, ℕ, ◌+◌, nat_eq, Bool, true, false, ◌&&◌, not, List, [], ◌∷◌, ◌++◌, map, length, Option, Some, None, pos, negsuc}
 use Rattle.bv_base.specs.Text.{is_among}
 use Rattle.bv_base.specs.declared.place.Place.{Place}
-use Rattle.logic_terms.specs.Tree.{Kind, int, boolean, Tree, num, call, negation as negation_term, all, some, equal, mul, read, write, linear, truth as truth_term, choose as choose_term, Trees, no_trees, tree, Parts, no_parts, part, Patterns, no_patterns, pattern}
+use Rattle.logic_terms.specs.Tree.{Kind, int, boolean, Tree, num, call, negation as negation_term, all, some, equal, mul, read, write, linear, truth as truth_term, choose as choose_term, tree, no_parts, part, pattern}
 use Rattle.logic_terms.specs.Wide.{when}
 use Rattle.logic_terms.specs.Sorts.{is, read_sort, write_sort, choice_sort}
 use Rattle.bpl_ast.specs.Place.{Name, Ty, integer, boolean as truth_type, named, map_type, Tys, no_tys, ty}
-use Rattle.bpl_ast.specs.Statement.{Argument}
-use Rattle.bpl_ast.specs.Tree.{Relation, Expr, expr, first_place, Node, number, truth, variable, apply, old, choose, quantified, iffs, implies, ands, ors, related, sums, products, negation, minus, indexed, Exprs, no_exprs, item, Terms, no_terms, plus, less, Indices, no_indices, at_index, update, Triggers, no_triggers, trigger, Groups, no_groups, group, Clause, no_clause, clause}
-use Rattle.bpl_scopes.specs.declared.fault.Fault.{Fault}
-use Rattle.bpl_scopes.specs.declared.fault.TypeKind.TheVariants.{Twice as twice, Kind as wrong_kind, Trigger as bad_trigger, QuantifierHere as quantifier_here, Arity as arity, Unbuilt as unbuilt}
+use Rattle.bpl_ast.specs.Tree.{Expr, expr, first_place, Node, number, truth, variable, apply, old, choose, quantified, iffs, implies, ands, ors, related, sums, products, negation, minus, indexed, Exprs, no_exprs, item, Terms, no_terms, plus, less, Indices, no_indices, at_index, update, Triggers, no_triggers, trigger, Groups, no_groups, group, Clause, no_clause, clause}
+use Rattle.bpl_scopes.specs.declared.fault.TypeKind.TheVariants.{Twice as twice, Kind as wrong_kind, Trigger as bad_trigger, QuantifierHere as quantifier_here, Arity as arity}
 use Rattle.bpl_scopes.specs.declared.part.Part.{Part}
 use Rattle.bpl_scopes.specs.declared.part.Part.TheVariants.{Axiom as in_axiom, Function as in_function, Requires as in_requires, Ensures as in_ensures, Body as in_body, ClauseOfGlobal as in_clause_of_global, ClauseOfIn as in_clause_of_in, ClauseOfOut as in_clause_of_out, ClauseOfLocal as in_clause_of_local}
 use Rattle.bpl_scopes.specs.Fault.{fault, unless, if_so, again}
-use Rattle.bpl_scopes.specs.Scopes.{Text, Heading, Entity, a_constant, a_global, a_function, a_synonym, a_procedure, Table, Counts, names_of, only_names, texts_of, entity_of, Var, BoundVar, Scope, Meaning, bound_to, stands_for, declared_as, nothing, has_name, unless_out, var_in, var_of, entity_in, declared_meaning, free_meaning, bound_meaning, bound_names, meaning, hidden_in}
-use Rattle.bpl_scopes.specs.Sorts.{is_int_alone, sort_of_type, sorts_of_types, argument_sorts, sorts_of_names, bounds_of, within, reads_globals, sort_of_entity, sort_of_meaning, applied_heading, are_same, application_sort, all_are, all_known, relation_sort, sort_in, node_sort, sorts_in, are_ints, indices_sort, are_patterns}
-use Rattle.bpl_scopes.specs.Functions.{is_logical, function_number, position_of, in_number_order}
+use Rattle.bpl_scopes.specs.Scopes.{Text, Heading, Entity, a_constant, a_global, a_function, a_synonym, a_procedure, Table, Counts, names_of, only_names, texts_of, entity_of, Var, BoundVar, Scope, Meaning, bound_to, stands_for, declared_as, nothing, has_name, var_of, entity_in, declared_meaning, free_meaning, bound_meaning, bound_names, meaning}
+use Rattle.bpl_scopes.specs.Sorts.{is_int_alone, sort_of_type, argument_sorts, sorts_of_names, bounds_of, reads_globals, sort_of_meaning, applied_heading, are_same, application_sort, all_are, all_known, relation_sort, sort_in, node_sort, sorts_in, are_ints, indices_sort, are_patterns}
+use Rattle.bpl_scopes.specs.Functions.{is_logical, function_number, position_of}
 use Rattle.bpl_scopes.specs.TypeFaults.{type_name_faults, params_faults, domain_faults, name_faults, type_faults, types_faults, group_type_faults, group_where_faults}
-use Rattle.bpl_faults.specs.NameFaults.{entity_faults, variable_faults, function_faults, application_faults, old_faults, sort_faults, same_sort_faults, map_faults, entry_sort}
+use Rattle.bpl_faults.specs.NameFaults.{variable_faults, application_faults, old_faults, sort_faults, same_sort_faults, map_faults, entry_sort}
 use Rattle.bpl_faults.specs.ExprFaults.{is_trigger, comparison_faults, parameter_sorts, count, expr_faults, node_faults, operand_faults, argument_faults, term_faults, index_faults, trigger_faults, pattern_faults, faults_as, formula_faults, clause_faults, group_clause_faults}
-use Rattle.bpl_terms.specs.Terms.{meaning_term, entity_term, left_of, implied, comparison, binder, sort_or_int, bound_sorts, term_in, node_term, terms_in, parts_in, indexed_term, patterns_in}
+use Rattle.bpl_terms.specs.Terms.{meaning_term, left_of, implied, comparison, binder, sort_or_int, term_in, node_term, terms_in, parts_in, indexed_term, patterns_in}
 use Rattle.body_revision.proofs.TablesAlike.{LikeHeading, LikeFound, LikeTables, of_found, like_found, logical_like, order_like, type_like, types_like, arguments_like, groups_like, bounds_like}
 
 -- ---- meanings

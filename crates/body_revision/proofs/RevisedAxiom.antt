@@ -5,7 +5,7 @@ use Rattle.std.proofs.lemmas.List.Concat.{length-flat_map}
 use Rattle.std.proofs.lemmas.List.Folds.{length-flat_map-take}
 use Rattle.logic_core.specs.Tree.{Tree}
 use Rattle.bpl_ast.specs.Statement.{DeclBody, constant, function, axiom_of, variables, synonym, procedure, implementation, Decl}
-use Rattle.bpl_scopes.specs.Scopes.{Text, Table, table_of, Counts, no_counts, counts_after}
+use Rattle.bpl_scopes.specs.Scopes.{Table, table_of, Counts, no_counts, counts_after}
 use Rattle.bpl_resolve.specs.Elaborate.{implements, axioms_in, procs_in, decl_text, typed_module, module_of}
 use Rattle.body_revision.specs.Revised.{IsOtherAxiom, IsOtherFunction}
 use Rattle.body_revision.specs.Revision.{with_axiom}

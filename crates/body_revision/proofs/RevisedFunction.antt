@@ -1,24 +1,22 @@
 -- The module with another value of a function.
-use Rattle.std.proofs.Common.{◌≡◌, refl, sym, ap, ◌∙◌, subst, arith, inl, inr, ℕ, zero, suc, ◌+◌, ◌<◌, Bool, true, false, cond, bytes_eq, List, [], ◌∷◌, ◌++◌, map, length, get_or, set, flat_map, slice_get, Option, Some, None, option_map}
+use Rattle.std.proofs.Common.{◌≡◌, refl, sym, ap, ◌∙◌, arith, inl, inr, ℕ, suc, ◌+◌, ◌<◌, Bool, true, false, cond, bytes_eq, List, [], ◌∷◌, ◌++◌, map, length, get_or, set, flat_map, slice_get, Option, Some, None, option_map}
 use Rattle.std.proofs.lemmas.List.{length-set, length-map, map-set}
-use Rattle.std.proofs.lemmas.Bool.{false≢true}
 use Rattle.std.proofs.lemmas.Option.{slice_get_within}
 use Rattle.bv_base.specs.Text.{is_among}
 use Rattle.logic_core.specs.Tree.{Tree}
 use Rattle.logic_terms.proofs.Booleans.{neither}
-use Rattle.bpl_ast.specs.Tree.{Expr}
-use Rattle.bpl_ast.specs.Statement.{DeclBody, function, Decl}
+use Rattle.bpl_ast.specs.Statement.{function, Decl}
 use Rattle.bpl_model.specs.Module.{Function}
 use Rattle.bpl_model.specs.Numbering.{defs_of}
 use Rattle.bpl_scopes.specs.Positions.{first_at}
 use Rattle.bpl_scopes.specs.Scopes.{Text, Heading, a_function, Table, table_of, Counts, no_counts, counts_after, entity_of}
-use Rattle.bpl_scopes.specs.Functions.{is_function, function_in, in_number_order, position_of, function_number}
+use Rattle.bpl_scopes.specs.Functions.{function_in, in_number_order, position_of, function_number}
 use Rattle.bpl_declaration_faults.specs.DeclFaults.{nothing_before, fault_of}
 use Rattle.bpl_resolve.specs.Elaborate.{implements, consts_in, globals_in, axioms_in, value_term, function_def, procs_in, decl_text, typed_module, module_of}
 use Rattle.bpl_resolve.proofs.DistinctOrder.{Distinct, order_distinct}
 use Rattle.bpl_resolve.proofs.EntriesFine.{synonyms_fine, none_faulty}
 use Rattle.bpl_resolve.proofs.GoesForward.{not_equal}
-use Rattle.bpl_resolve.proofs.FunctionOrder.{AllFunctions, order_only}
+use Rattle.bpl_resolve.proofs.FunctionOrder.{order_only}
 use Rattle.bpl_resolve.proofs.ModuleSorts.{fine, acyclic, functions_at}
 use Rattle.bpl_resolve.proofs.ScopesFit.{some_heading}
 use Rattle.bpl_resolve.proofs.Ways.{Member, any_member, same_text, text_itself}

@@ -2,7 +2,7 @@
 use Rattle.std.proofs.Common.{◌≡◌, refl, sym, ap, ◌∙◌, subst, inl, inr, ℕ, zero, suc, ◌+◌, List, [], ◌∷◌, ◌++◌, slice_get, slice_set, Some}
 use Rattle.std.specs.Option.{unwrap_or}
 use Rattle.bpl_ast.specs.Statement.{DeclBody, function, procedure, Decl}
-use Rattle.bpl_scopes.specs.Scopes.{a_procedure, Table, table_of, Counts, counts_with, counts_after, no_counts, entries_of, entries_after}
+use Rattle.bpl_scopes.specs.Scopes.{a_procedure, table_of, Counts, counts_with, counts_after, no_counts, entries_of, entries_after}
 use Rattle.body_revision.specs.Revised.{IsOtherFunction, IsRevised}
 use Rattle.body_revision.proofs.KeptBodies.{of_revised}
 use Rattle.body_revision.proofs.TablesAlike.{LikeTables, like_itself, like_same, like_joined}

@@ -1,27 +1,26 @@
 -- The faults of statements and what they become, over two tables that differ in the values of functions alone, are the same.
-use Rattle.std.proofs.Common.{◌≡◌, refl, sym, ap, ◌∙◌, ℕ, suc, nat_eq, Bool, true, false, ◌&&◌, not, List, [], ◌∷◌, ◌++◌, map, length, flat_map, filter, Option, Some, None, option_map}
+use Rattle.std.proofs.Common.{◌≡◌, refl, ap, ◌∙◌, ℕ, nat_eq, true, false, ◌&&◌, not, List, [], ◌∷◌, ◌++◌, map, length, flat_map, filter, Option, Some, None, option_map}
 use Rattle.std.specs.List.{list_all}
 use Rattle.bv_base.specs.Text.{is_among}
 use Rattle.bv_base.specs.declared.place.Place.{Place}
-use Rattle.logic_core.specs.Tree.{Kind, int, boolean, Tree, free, truth}
+use Rattle.logic_core.specs.Tree.{Kind, int, boolean, free, truth}
 use Rattle.logic_terms.specs.Sorts.{is, range}
 use Rattle.logic_terms.specs.Wide.{when, ◌>>=◌}
 use Rattle.bpl_ast.specs.Place.{Name}
 use Rattle.bpl_ast.specs.Tree.{Exprs, no_exprs, item}
 use Rattle.bpl_ast.specs.Statement.{Target, Guard, Invariant, Stmt as Statement, stmt as statement, Action, assert, assume, havoc, assign, call, branches, loop, «break», «return», goto, Branches, branch, otherwise, no_branch, Stmts as Statements, no_stmts as no_statements, next}
-use Rattle.bpl_scopes.specs.declared.fault.Fault.{Fault}
-use Rattle.bpl_scopes.specs.declared.fault.TypeKind.TheVariants.{Twice as twice, NotModified as not_modified, TargetTwice as target_twice, BreakHere as break_here}
+use Rattle.bpl_scopes.specs.declared.fault.TypeKind.TheVariants.{Twice as twice, NotModified as not_modified, TargetTwice as target_twice}
 use Rattle.bpl_scopes.specs.declared.part.Part.{Part}
 use Rattle.bpl_scopes.specs.Fault.{unless, again}
-use Rattle.bpl_scopes.specs.Scopes.{Text, Contract, Entity, a_constant, a_global, a_function, a_synonym, a_procedure, Table, Counts, names_of, texts_of, signature_names, entity_of, Var, Scope, Meaning, bound_to, stands_for, declared_as, nothing, meaning}
-use Rattle.bpl_scopes.specs.Sorts.{sort_in, sorts_of_names}
+use Rattle.bpl_scopes.specs.Scopes.{Text, Contract, a_constant, a_global, a_function, a_synonym, a_procedure, Table, Counts, names_of, texts_of, signature_names, entity_of, Var, Scope, Meaning, bound_to, stands_for, declared_as, nothing, meaning}
+use Rattle.bpl_scopes.specs.Sorts.{sort_in}
 use Rattle.bpl_faults.specs.NameFaults.{map_faults}
-use Rattle.bpl_faults.specs.ExprFaults.{faults_as, formula_faults, argument_faults, count}
-use Rattle.bpl_statement_faults.specs.StmtFaults.{is_global, modified_by, labels_of, many_labels_faults, BodyScope, labels_of_list, Position, outermost, label_faults, may_modify, target_entity_faults, set_faults, target_faults, targets_faults, target_sort, entry_at, entry_faults, indices_faults, sides_sorts, count_faults, assignment_faults, counted_outs_faults, contract_faults, callee_faults, callee_sorts, call_faults, guard_faults, may_break, stmts_faults, stmt_faults, action_faults, branches_faults, body_stmts_faults}
+use Rattle.bpl_faults.specs.ExprFaults.{faults_as, argument_faults, count}
+use Rattle.bpl_statement_faults.specs.StmtFaults.{is_global, modified_by, labels_of, many_labels_faults, BodyScope, labels_of_list, Position, outermost, may_modify, set_faults, target_faults, targets_faults, target_sort, entry_at, entry_faults, indices_faults, sides_sorts, count_faults, assignment_faults, counted_outs_faults, contract_faults, callee_faults, callee_sorts, call_faults, guard_faults, stmts_faults, stmt_faults, action_faults, branches_faults, body_stmts_faults}
 use Rattle.flow_core.specs.declared.mark.GoalKind.TheVariants.{Assert}
 use Rattle.bpl_model.specs.Module.{Stmt, Stmts}
-use Rattle.bpl_terms.specs.Terms.{term_of, terms_in, meaning_term, stored}
-use Rattle.bpl_resolve.specs.Elaborated.{number_of_term, target_number, target_numbers, assignment, assignments, arguments, procedure_number, guard_of, invariants_of, labelled_as, is_else, stmts_of, stmt_of, action_of, chain_of, others_of}
+use Rattle.bpl_terms.specs.Terms.{stored}
+use Rattle.bpl_resolve.specs.Elaborated.{number_of_term, target_number, target_numbers, assignments, arguments, procedure_number, guard_of, invariants_of, labelled_as, is_else, stmts_of, stmt_of, action_of, chain_of, others_of}
 use Rattle.body_revision.proofs.TablesAlike.{LikeTables, of_found, like_found, groups_like}
 use Rattle.body_revision.proofs.ReadingsAlike.{scope, of_meaning, variable_like, sort_like, faults_as_like, formula_like, argument_faults_like, meaning_term_like, term_like, terms_like}
 

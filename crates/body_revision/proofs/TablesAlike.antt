@@ -2,12 +2,11 @@
 use Rattle.std.proofs.Common.{◌≡◌, ◌⊎◌, refl, sym, ap, ◌∙◌, subst, inl, inr, ℕ, zero, suc, Bool, true, false, cond, List, [], ◌∷◌, ◌++◌, map, length, fold, filter, reverse, bytes_eq, Option, Some, None, option_map}
 use Rattle.std.specs.Prelude.{⊤}
 use Rattle.std.specs.List.{list_any}
-use Rattle.logic_terms.specs.Tree.{Kind}
 use Rattle.logic_terms.specs.Wide.{◌>>=◌}
 use Rattle.bv_base.specs.Text.{is_among}
-use Rattle.bpl_ast.specs.Place.{Name, Ty, Tys, named, integer, boolean, map_type}
+use Rattle.bpl_ast.specs.Place.{Name, Ty, Tys}
 use Rattle.bpl_ast.specs.Statement.{Argument}
-use Rattle.bpl_scopes.specs.Scopes.{Text, Heading, Entity, a_constant, a_global, a_function, a_synonym, a_procedure, Entry, Table, names_in, first_at, entry_of, entity_of, BoundVar}
+use Rattle.bpl_scopes.specs.Scopes.{Text, Heading, Entity, a_constant, a_global, a_function, a_synonym, a_procedure, Entry, Table, names_in, first_at, entry_of, entity_of}
 use Rattle.bpl_scopes.specs.Sorts.{synonym_in, sort_by, sorts_by, synonym_sort, unless_hidden, sort_of_type, sorts_of_types, argument_sorts, sorts_of_names, bounds_of}
 use Rattle.bpl_scopes.specs.Functions.{function_in, applied_by, has_quantifier, is_function, is_synonym, names_in_type, next_names, leads, leads_to_itself, is_logical_within, is_logical, numbered, function_names, in_number_order}
 use Rattle.user_types.specs.UserTypes.{user_in, user_by, user_after, user_of}

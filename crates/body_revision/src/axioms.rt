@@ -1,18 +1,16 @@
 // Axioms: one, how many stand before it, and whether two declarations state one each.
 ghost use Rattle.std.specs.Prelude.{◌≡◌, ◌&&◌, [], ◌∷◌, count_by, IfOk, IsTrue};
 ghost use Rattle.bpl_ast.specs.DeclView.{body_of};
-ghost use Rattle.bpl_ast.specs.Statement.{axiom_of};
 ghost use Rattle.bpl_scopes.specs.CountsView.{counts_seen};
 ghost use Rattle.bpl_scopes.specs.Functions.{in_number_order};
 ghost use Rattle.bpl_resolve.specs.Elaborate.{axioms_in};
 ghost use Rattle.body_revision.specs.Procedures.{is_axiom};
 ghost use Rattle.body_revision.specs.Revised.{IsOtherAxiom};
 
-use bpl_ast::{Decl, DeclBody, Expr};
+use bpl_ast::{Decl, DeclBody};
 use bpl_declaration_faults::Declared;
-use bpl_faults::Vars;
-use bpl_scopes::{Part, Positions};
-use bpl_terms::term_of;
+use bpl_resolve::constants::axiom;
+use bpl_scopes::Positions;
 use logic_core::Formula;
 use std::alloc::{AllocError, Global};
 
@@ -58,20 +56,6 @@ pub(crate) fn count_axioms(decls: &[Decl]) -> usize
     count
 }
 
-fn formula_of<'d, 'a>(
-    alloc: Global,
-    declared: &Declared<'d, 'a>,
-    order: &Positions,
-    x: &'a Expr,
-) -> Result<Formula, AllocError>
-    requires { order.now ≡ in_number_order declared.now.environment.now }
-    ensures { IfOk result (λ f. axioms_in declared.now.environment.now (counts_seen declared.now.counts) (axiom_of x.now) ≡ f ∷ []) }
-{
-    let vars = Vars::new(alloc);
-    let scope = declared.scope(alloc, Part::Axiom, &vars);
-    term_of(alloc, &scope, order, x)
-}
-
 /// The axiom that a declaration states.
 pub(crate) fn axiom_in<'d, 'a>(
     alloc: Global,
@@ -85,7 +69,7 @@ pub(crate) fn axiom_in<'d, 'a>(
 {
     match decl.body() {
         DeclBody::Axiom(x) => {
-            let formula = formula_of(alloc, declared, order, x)?;
+            let formula = axiom(alloc, declared, order, x)?;
             Ok(formula)
         }
         _ => unreachable!(),

@@ -19,8 +19,6 @@ mod specs;
 mod types;
 
 // Values of functions that apply the same.
-mod applied;
-mod quantified;
 mod values;
 
 // Equal heads.

@@ -5,9 +5,8 @@ ghost use Rattle.bpl_dependencies.specs.AppliedView.{texts_seen};
 ghost use Rattle.bpl_declaration_faults.specs.DeclFaults.{same_texts};
 ghost use Rattle.body_revision.specs.Revised.{value_applies, value_quantified, ApplyTheSame};
 
-use crate::applied::applied_in_body;
-use crate::quantified::is_quantified;
 use bpl_ast::{Argument, Expr};
+use bpl_dependencies::{applied_in_body, is_quantified};
 use std::alloc::{AllocError, Global};
 
 // What a value applies.

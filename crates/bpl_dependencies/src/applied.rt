@@ -1,11 +1,12 @@
 // The names that an expression applies, in the order of its term, where variables hide some.
-ghost use Rattle.std.specs.Prelude.{◌≡◌, ◌++◌, [], ◌∷◌, OnOk};
+ghost use Rattle.std.specs.Prelude.{◌≡◌, ◌++◌, [], ◌∷◌, IfOk, OnOk};
 ghost use Rattle.bpl_ast.specs.ExprView.{exprs_of, terms_of, indices_of, triggers_of, groups_of, clause_of, relation_of};
-ghost use Rattle.bpl_scopes.specs.Functions.{applied_in, all_applied, terms_apply, indices_apply, triggers_apply, groups_apply, clause_applies, name_applies, in_order};
+ghost use Rattle.bpl_scopes.specs.Scopes.{texts_of};
+ghost use Rattle.bpl_scopes.specs.Functions.{argument_names, applied_in, all_applied, terms_apply, indices_apply, triggers_apply, groups_apply, clause_applies, name_applies, in_order};
 ghost use Rattle.bpl_dependencies.specs.AppliedView.{texts_seen, variables_seen};
 
-use crate::variables::Variables;
-use bpl_ast::{Expr, ExprForm, Group, Index, Relation, Term, Trigger, Where};
+use crate::variables::{Variables, argument_names};
+use bpl_ast::{Argument, Expr, ExprForm, Group, Index, Relation, Term, Trigger, Where};
 use std::alloc::{AllocError, Global};
 
 /// The names that were found to be applied.
@@ -24,9 +25,9 @@ impl<'a> Applied<'a> {
         Ok(())
     }
 
-    /// Finds what an expression applies.
+    // Finds what an expression applies.
     #[cycle(applied)]
-    pub(crate) fn note_expr(
+    fn note_expr(
         &mut self,
         alloc: Global,
         variables: &Variables<'_, 'a>,
@@ -223,4 +224,24 @@ impl<'a> Applied<'a> {
         }
         Ok(())
     }
+}
+
+/// The names that the body of a function with these parameters applies, in the order of its term.
+pub fn applied_in_body<'a>(
+    alloc: Global,
+    ins: &'a [Argument],
+    body: &'a Expr,
+) -> Result<Vec<&'a [u8]>, AllocError>
+    ensures { IfOk result (λ v. texts_seen v.items ≡ applied_in (texts_of (argument_names ins.now)) body.now) }
+{
+    let params = argument_names(alloc, ins)?;
+    let variables = Variables {
+        bound: Vec::new(alloc),
+        params: &params,
+    };
+    let mut applied = Applied {
+        names: Vec::new(alloc),
+    };
+    applied.note_expr(alloc, &variables, body)?;
+    Ok(applied.names)
 }

@@ -7,30 +7,10 @@ ghost use Rattle.bpl_dependencies.specs.AppliedView.{texts_seen};
 ghost use Rattle.bpl_scopes.specs.Functions.{applied_in, argument_names, names_in_type, is_function, is_synonym};
 ghost use Rattle.bpl_dependencies.specs.Reach.{next_of, first_position, functions_among, synonyms_among, function_alone, synonym_alone, edges_seen, AreEdges};
 
-use crate::applied::Applied;
-use crate::variables::{Variables, argument_names};
-use bpl_ast::{Argument, Expr, Type};
+use crate::applied::{Applied, applied_in_body};
+use bpl_ast::Type;
 use bpl_scopes::{Entity, Entry, Table};
 use std::alloc::{AllocError, Global};
-
-fn applied_in_body<'a>(
-    alloc: Global,
-    ins: &'a [Argument],
-    body: &'a Expr,
-) -> Result<Vec<&'a [u8]>, AllocError>
-    ensures { IfOk result (λ v. texts_seen v.items ≡ applied_in (texts_of (argument_names ins.now)) body.now) }
-{
-    let params = argument_names(alloc, ins)?;
-    let variables = Variables {
-        bound: Vec::new(alloc),
-        params: &params,
-    };
-    let mut applied = Applied {
-        names: Vec::new(alloc),
-    };
-    applied.note_expr(alloc, &variables, body)?;
-    Ok(applied.names)
-}
 
 pub(crate) fn is_function_named(table: &Table, name: &[u8]) -> bool
     ensures { result ≡ is_function (entity_of table.now name.now) }

@@ -5,9 +5,9 @@
 
 // The variables that hide names, the names that an expression applies and a type names, and whether
 // a quantifier stands in an expression.
-mod applied;
+pub mod applied;
 mod named;
-mod quantified;
+pub mod quantified;
 pub mod variables;
 
 // What leads to what.
@@ -22,6 +22,8 @@ mod walk;
 // What is declared in a program.
 pub mod declarations;
 
+pub use applied::applied_in_body;
 pub use declarations::Declarations;
 pub use dependencies::Dependencies;
+pub use quantified::is_quantified;
 pub use variables::{Variables, argument_names};

@@ -7,7 +7,7 @@ use bpl_ast::{Expr, ExprForm, Index, Term};
 
 /// Whether a quantifier stands in the expression.
 #[cycle(quantified)]
-pub(crate) fn is_quantified(x: &Expr) -> bool
+pub fn is_quantified(x: &Expr) -> bool
     ensures { result ≡ is_quantified x.now }
 {
     match &x.form {

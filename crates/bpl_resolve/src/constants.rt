@@ -75,7 +75,8 @@ pub(crate) fn constants<'d, 'a>(
     Ok(consts)
 }
 
-fn axiom<'d, 'a>(
+/// The axiom that an expression states.
+pub fn axiom<'d, 'a>(
     alloc: Global,
     declared: &Declared<'d, 'a>,
     order: &Positions,

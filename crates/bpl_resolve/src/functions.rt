@@ -47,7 +47,8 @@ fn body_term<'d, 'a>(
     term_of(alloc, &scope, order, body)
 }
 
-fn value_term<'d, 'a>(
+/// The term of a value, or the number zero where there is none.
+pub fn value_term<'d, 'a>(
     alloc: Global,
     declared: &Declared<'d, 'a>,
     order: &Positions,

@@ -21,8 +21,8 @@ mod variables;
 
 // The other declarations.
 mod arguments;
-mod constants;
-mod functions;
+pub mod constants;
+pub mod functions;
 mod globals;
 mod places;
 pub mod texts;
