@@ -73,6 +73,13 @@ fn one(alloc: Global, stmt: Stmt) -> Result<Vec<Stmt>, AllocError>
     Ok(stmts)
 }
 
+// The statement as it stands.
+fn copied(alloc: Global, stmt: &Stmt) -> Result<Vec<Stmt>, AllocError>
+    ensures { IfOk result (λ v. stmts_of v.items ≡ one stmt.now) }
+{
+    one(alloc, stmt.copy(alloc)?)
+}
+
 // What stands for a statement. Its calls take the next of the variables that calls own, which begin
 // at number `first`.
 #[cycle(cut)]
@@ -117,7 +124,7 @@ fn cut_stmt(
             let cut = cut_stmt(alloc, parts, first, behind, variables)?;
             with_labels(alloc, labels, cut)
         }
-        _ => one(alloc, stmt.copy(alloc)?),
+        _ => copied(alloc, stmt),
     }
 }
 

@@ -5,7 +5,7 @@ ghost use Rattle.bpl_model.specs.Module.{assign, havoc};
 ghost use Rattle.bpl_model.specs.Contract.{modified};
 ghost use Rattle.bpl_model.specs.Typed.{IsTypedProc};
 ghost use Rattle.bpl_model.specs.Cut.{arguments, old_globals, results, contract_of, own_variables};
-ghost use Rattle.call_cut.specs.Table.{between_calls};
+ghost use Rattle.call_cut.specs.Table.{at_call, between_calls};
 
 use crate::assignment::{as_terms, pairs};
 use crate::contract::{modified, push_checks, push_postconditions};
@@ -46,18 +46,76 @@ pub fn replaced(
 {
     let changed = modified(alloc, parts, callee)?;
     enter_call(alloc, &mut variables.table, parts, callee, &changed, n)?;
-    push_owned(alloc, &callee.ins, &mut variables.own)?;
-    push_owned_globals(alloc, parts, &changed, &mut variables.own)?;
-    push_results(alloc, &callee.outs, &variables.table, &mut variables.own)?;
-    let results = result_numbers(alloc, parts, n, callee, &changed)?;
+    push_own(
+        alloc,
+        parts,
+        n,
+        callee,
+        &changed,
+        &variables.table,
+        &mut variables.own,
+    )?;
+    let stmts = statements(
+        alloc,
+        parts,
+        n,
+        at,
+        callee,
+        arguments,
+        vars,
+        &changed,
+        &variables.table,
+    )?;
+    leave_call(&mut variables.table, parts, callee, &changed);
+    Ok(stmts)
+}
+
+// The call's own variables: the arguments, the old values of the globals that the callee may modify,
+// and the results.
+fn push_own(
+    alloc: Global,
+    parts: &Parts,
+    n: u64,
+    callee: &Proc,
+    changed: &[u64],
+    table: &[u64],
+    own: &mut Vec<Local>,
+) -> Result<(), AllocError>
+    requires typed { IsTypedProc parts.now callee.now }
+    requires called { table.now ≡ at_call parts.now callee.now n }
+    requires may { changed.now ≡ modified parts.now callee.now }
+    ensures { OnOk result (own.new.items ≡ own.old.items ++ own_variables parts.now callee.now n) }
+{
+    push_owned(alloc, &callee.ins, own)?;
+    push_owned_globals(alloc, parts, changed, own)?;
+    push_results(alloc, &callee.outs, table, own)
+}
+
+// The statements, over the table of the call.
+fn statements(
+    alloc: Global,
+    parts: &Parts,
+    n: u64,
+    at: Place,
+    callee: &Proc,
+    arguments: &[Term],
+    vars: &[u64],
+    changed: &[u64],
+    table: &[u64],
+) -> Result<Vec<Stmt>, AllocError>
+    requires typed { IsTypedProc parts.now callee.now }
+    requires called { table.now ≡ at_call parts.now callee.now n }
+    requires may { changed.now ≡ modified parts.now callee.now }
+    ensures { IfOk result (λ v. v.items ≡ contract_of parts.now n at callee.now arguments.now vars.now) }
+{
+    let results = result_numbers(alloc, parts, n, callee, changed)?;
     let mut stmts = Vec::new(alloc);
     stmts.push(give_arguments(alloc, parts, n, at, callee, arguments)?)?;
-    push_checks(alloc, at, &callee.specs, &variables.table, &mut stmts)?;
-    stmts.push(keep_globals(alloc, parts, n, at, callee, &changed)?)?;
-    stmts.push(havoc_both(alloc, at, &changed, &results)?)?;
-    push_postconditions(alloc, at, &callee.specs, &variables.table, &mut stmts)?;
+    push_checks(alloc, at, &callee.specs, table, &mut stmts)?;
+    stmts.push(keep_globals(alloc, parts, n, at, callee, changed)?)?;
+    stmts.push(havoc_both(alloc, at, changed, &results)?)?;
+    push_postconditions(alloc, at, &callee.specs, table, &mut stmts)?;
     stmts.push(take_results(alloc, at, vars, &results)?)?;
-    leave_call(&mut variables.table, parts, callee, &changed);
     Ok(stmts)
 }
 

@@ -1,6 +1,7 @@
 use Rattle.std.proofs.Common.{◌≡◌, refl, ◌∙◌, ◌+◌, ◌++◌, true, [], ◌∷◌, ap, sym, subst, arith, drop}
 use Rattle.std.specs.Prelude.{OnOk, Some}
 use Rattle.std.proofs.lemmas.List.{drop_all}
+use Rattle.std.proofs.lemmas.Result.{on_ok_weaker}
 use Rattle.bpl_model.specs.Nodes.{stmts_nodes}
 use Rattle.bpl_model.specs.StmtView.{stmts_of}
 use Rattle.bpl_blocks.specs.Targets.{loop_targets}
@@ -30,6 +31,25 @@ draw_list-returns-clause-drawn t c =
     let S = c.args.setting.now in
     let gone = drop_all c.loop-stmt.stmt-index c.args.stmts.now c.loop-stmt-test.false in
     sym (with_none S c.loop-stmt.scopes c.loop-stmt.drawn) ∙ (ap (λ ys. with_list S c.loop-stmt.scopes c.loop-stmt.drawn (stmts_of ys)) (sym gone) ∙ c.loop-stmt.invariant.drawn)
+
+pub draw_branch-returns-clause-drawn : goal.draw_branch-returns-clause-drawn
+draw_branch-returns-clause-drawn t c =
+    let S = c.args.setting.now in
+    let ss = stmts_of c.args.stmts.now in
+    subst (λ e. OnOk c.end.result (c.end.new.self ≡ e))
+    (ap (ended c.draw_list.new.drawn) c.in_ok-one.ensures
+    ∙ ap (λ d. ended d (c.args.next ∷ [])) (c.in_ok-draw_list.ensures.drawn ∙ ap (λ d. with_list S c.args.scopes.now d ss) c.in_ok-assume.ensures))
+    c.end.ensures
+
+pub draw_branch-returns-clause-scopes : goal.draw_branch-returns-clause-scopes
+draw_branch-returns-clause-scopes t c = on_ok_weaker c.end.result (λ _. c.in_ok-draw_list.ensures.scopes) c.end.ensures
+
+pub draw_if-returns-clause-scopes : goal.draw_if-returns-clause-scopes
+draw_if-returns-clause-scopes t c = c.leave.ensures ∙ ap (drop 1) (c.in_ok-draw_branch-2.ensures.scopes ∙ (c.in_ok-draw_branch.ensures.scopes ∙ c.in_ok-enter.ensures))
+
+pub draw_while-returns-clause-scopes : goal.draw_while-returns-clause-scopes
+draw_while-returns-clause-scopes t c =
+    on_ok_weaker c.draw_exit.result (λ _. c.leave.ensures ∙ ap (drop 1) (c.in_ok-draw_branch.ensures.scopes ∙ c.in_ok-enter.ensures)) c.draw_exit.ensures
 
 pub draw_if-returns-clause-drawn : goal.draw_if-returns-clause-drawn
 draw_if-returns-clause-drawn t c =
