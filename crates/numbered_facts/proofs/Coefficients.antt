@@ -3,16 +3,17 @@ use Rattle.std.proofs.Common.{◌≡◌, refl, sym, ap, subst, ◌∙◌, ℕ, �
 use Rattle.std.specs.List.{AllByRecursion}
 use Rattle.std.specs.declared.alloc.AllocError.{AllocError}
 use Rattle.std.specs.declared.alloc.Global.{Global}
-use Rattle.logic_core.specs.Tree.{Tree, num, linear, no_parts, part}
+use Rattle.logic_core.specs.Tree.{Tree, num, linear, equal, no_parts, part}
 use Rattle.logic_core.specs.Same.{same_term}
 use Rattle.logic_core.specs.Sum.{Linear, sum_term, term_of}
 use Rattle.logic_core.specs.View.{parts_of}
 use Rattle.logic_core.specs.Wide.{◌>>=◌}
+use Rattle.logic_core.specs.Junction.{is_zero}
 use Rattle.logic_core.specs.Combine.{sum_of}
 use Rattle.proof_core.specs.Says as says
 use Rattle.proof_core.specs.Says.{or_else, by_truth}
 use Rattle.term_bank.specs.declared.node.Node.{Node}
-use Rattle.term_bank.specs.declared.node.Node.TheVariants.{Num, Sum}
+use Rattle.term_bank.specs.declared.node.Node.TheVariants.{Num, Sum, Eq}
 use Rattle.term_bank.specs.Node.{tree_over}
 use Rattle.term_bank.specs.Numbered.{at, Begins}
 use Rattle.term_bank.proofs.Numbers.{begins_at}
@@ -87,3 +88,14 @@ said_next us vs o r a b h e g = let none : a ≡ None = subst (λ x. StandsFor u
 -- a fact and a term say the same in a longer store
 pub truth_later : (ts us : List Tree) (b : Begins ts us) (i j : ℕ) → i < length ts → j < length ts → by_truth (at us i) (at us j) ≡ by_truth (at ts i) (at ts j)
 truth_later ts us b i j l m = λ k. by_truth (begins_at ts us i b l k) (begins_at ts us j b m k)
+
+-- what an equation says, by its sides
+pub zero_says : (f d z t : Tree) → f ≡ equal d z → is_zero z ≡ true → says.solved (sum_of d) t ≡ says.by_equation f t
+zero_says f d z t s h = ap (λ b. if b then says.solved (sum_of d) t else says.other_side d z t) (sym h) ∙ ap (λ g. says.by_equation g t) (sym s)
+
+pub side_says : (f d z t : Tree) → f ≡ equal d z → is_zero z ≡ false → says.other_side d z t ≡ says.by_equation f t
+side_says f d z t s h = ap (λ b. if b then says.solved (sum_of d) t else says.other_side d z t) (sym h) ∙ ap (λ g. says.by_equation g t) (sym s)
+
+pub others_say : (of : ℕ → Tree) (m : Node) (t : Tree) → ((d z : ℕ) → m ≡ Eq d z → ⊥) → says.by_equation (tree_over of m) t ≡ None
+others_say of (Eq d z) t h = absurd (h d z refl)
+others_say of m t h = refl

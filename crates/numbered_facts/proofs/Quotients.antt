@@ -1,14 +1,19 @@
 -- Tightened facts, by the numbers of their sums.
-use Rattle.std.proofs.Common.{◌≡◌, refl, sym, ap, subst, ◌∙◌, ℕ, ℤ, pos, ◌%◌, ◌<◌, ◌≤◌, nat_lt, nat_eq, Bool, true, false, Some, None, Result, Ok, Err, IfOk, List, [], ◌∷◌, map, length, unsigned_abs, if◌then◌else◌, lt-ltb, le-ltb}
+use Rattle.std.proofs.Common.{◌≡◌, refl, sym, ap, subst, ◌∙◌, ℕ, ℤ, pos, ◌+◌, ◌%◌, ◌<◌, ◌≤◌, nat_lt, nat_eq, Bool, true, false, Some, None, Result, Ok, Err, IfOk, List, [], ◌∷◌, ◌++◌, map, length, take, get_or, unsigned_abs, if◌then◌else◌, lt-ltb, le-ltb}
 use Rattle.std.specs.List.{AllByRecursion}
 use Rattle.std.specs.declared.alloc.AllocError.{AllocError}
+use Rattle.std.proofs.lemmas.List.{map-append, take_all, take_more}
 use Rattle.logic_core.specs.Tree.{Tree, num, truth, linear, negation, equal, at_most, part}
 use Rattle.logic_core.specs.View.{parts_of}
 use Rattle.logic_core.specs.Wide.{when}
 use Rattle.logic_core.specs.Sum.{term_of}
 use Rattle.logic_core.specs.Junction.{is_zero}
-use Rattle.logic_core.specs.Tighten.{gcd, parts_gcd, floor_div, divided, tight_at_most, tight_equal, tight_not, tighten_not}
-use Rattle.term_bank.specs.Numbered.{at}
+use Rattle.logic_core.specs.Tighten.{gcd, parts_gcd, floor_div, divided, tight_at_most, tight_equal, tight_not, tighten_not, tighten}
+use Rattle.term_bank.specs.declared.node.Node.{Node}
+use Rattle.term_bank.specs.declared.node.Node.TheVariants.{Not, Eq, Le}
+use Rattle.term_bank.specs.Node.{tree_over}
+use Rattle.term_bank.specs.Numbered.{at, Begins}
+use Rattle.term_bank.proofs.Numbers.{begins_at}
 use Rattle.numbered_terms.specs.Lists.{atoms_at}
 use Rattle.numbered_forms.specs.Sums.{sum_at}
 use Rattle.numbered_forms.specs.declared.sum.NumberedSum.{NumberedSum}
@@ -88,3 +93,39 @@ no_side_by false d z h g = ap (λ c. if c then tight_not (tight_equal d) else ne
 pub no_side : (t : Tree) → equation_side t ≡ None → tighten_not t ≡ negation t
 no_side (equal d z) h = no_side_by (is_zero z) d z refl h
 no_side t h = refl
+
+-- what a fact is tightened to, by its sides
+pub tight_zero : (t z d : Tree) → t ≡ at_most z d → is_zero z ≡ true → tight_at_most d ≡ tighten t
+tight_zero t z d s h = ap (λ b. if b then tight_at_most d else at_most z d) (sym h) ∙ ap tighten (sym s)
+
+pub at_most_stays : (t z d : Tree) → t ≡ at_most z d → is_zero z ≡ false → t ≡ tighten t
+at_most_stays t z d s h = s ∙ ap (λ b. if b then tight_at_most d else at_most z d) (sym h) ∙ ap tighten (sym s)
+
+pub equal_zero : (t d z : Tree) → t ≡ equal d z → is_zero z ≡ true → tight_equal d ≡ tighten t
+equal_zero t d z s h = ap (λ b. if b then tight_equal d else equal d z) (sym h) ∙ ap tighten (sym s)
+
+pub equal_stays : (t d z : Tree) → t ≡ equal d z → is_zero z ≡ false → t ≡ tighten t
+equal_stays t d z s h = s ∙ ap (λ b. if b then tight_equal d else equal d z) (sym h) ∙ ap tighten (sym s)
+
+pub others_stay : (of : ℕ → Tree) (m : Node) → ((z d : ℕ) → m ≡ Le z d → ⊥) → ((d z : ℕ) → m ≡ Eq d z → ⊥) → ((t : ℕ) → m ≡ Not t → ⊥) → tree_over of m ≡ tighten (tree_over of m)
+others_stay of (Le z d) a b c = absurd (a z d refl)
+others_stay of (Eq d z) a b c = absurd (b d z refl)
+others_stay of (Not t) a b c = absurd (c t refl)
+others_stay of m a b c = refl
+
+-- Le(0, d) and Eq(d, 0), of numbers in a longer store
+module _ (ts us : List Tree) (z d : ℕ) (b : Begins ts us) (l : d < length ts) (is : at us z ≡ num (pos 0)) where
+  pub at_most_later : at_most (at us z) (at us d) ≡ at_most (num (pos 0)) (at ts d)
+  at_most_later = λ k. at_most (is k) (begins_at ts us d b l k)
+
+  pub equal_later : equal (at us d) (at us z) ≡ equal (at ts d) (num (pos 0))
+  equal_later = λ k. equal (begins_at ts us d b l k) (is k)
+
+-- a loop that divides the atoms one by one
+module _ (g : ℕ) (ps : List (ℤ × ℕ)) (i : ℕ) where
+  pub divided_next : (p q : ℤ × ℕ) (old new : List (ℤ × ℕ)) → i < length ps → p ≡ get_or ps i p → old ≡ divided_atoms g (take i ps) → new ≡ old ++ q ∷ [] → q ≡ (floor_div p.0 g, p.1) → new ≡ divided_atoms g (take (i + 1) ps)
+  divided_next p q old new l e so_far next is = next ∙ (λ k. so_far k ++ is k ∷ []) ∙ ap (λ (r : ℤ × ℕ). divided_atoms g (take i ps) ++ (floor_div r.0 g, r.1) ∷ []) e
+      ∙ sym (ap (divided_atoms g) (take_more ps i p l) ∙ map-append (λ (r : ℤ × ℕ). (floor_div r.0 g, r.1)) (take i ps) (get_or ps i p ∷ []))
+
+  pub divided_all : (qs : List (ℤ × ℕ)) → length ps ≤ i → qs ≡ divided_atoms g (take i ps) → qs ≡ divided_atoms g ps
+  divided_all qs l e = e ∙ ap (divided_atoms g) (take_all i ps l)

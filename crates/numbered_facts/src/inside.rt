@@ -10,7 +10,7 @@ ghost use Rattle.numbered_facts.specs.Answers.{StandsFor, AreAt};
 ghost use Rattle.numbered_facts.specs.Atoms.{is_atom, AreAtomsIn};
 
 use crate::atoms::{atoms, atoms_at, part_occurs};
-use crate::standing::{access, call, choice, ground, ground_at, stand};
+use crate::standing::{access, call, choice, ground, ground_at};
 use crate::store::Store;
 use numbered_terms::Terms;
 use std::alloc::AllocError;
@@ -30,7 +30,6 @@ pub fn is_atom(terms: &Terms, id: TermId) -> bool
 
 impl<'a> Store<'a> {
     /// The atoms that occur in a term, inside quantifiers and triggers too, each once.
-    #[tactic(auto, using(crate::proofs::Growing::same))]
     pub fn atoms(&mut self, id: TermId) -> Result<Vec<TermId>, AllocError>
         requires { id < length self.old.terms }
         ensures grows { Grows self.old self.new }
@@ -47,7 +46,6 @@ impl<'a> Store<'a> {
     }
 
     /// Whether the first term occurs in the second, inside quantifiers and triggers too.
-    #[tactic(auto, using(crate::proofs::Growing::same))]
     pub fn occurs(&mut self, part: TermId, id: TermId) -> Result<bool, AllocError>
         requires part { part < length self.old.terms }
         requires id { id < length self.old.terms }
@@ -58,14 +56,12 @@ impl<'a> Store<'a> {
     }
 
     /// The Reads and Calls in a term outside quantifiers, in preorder, each once.
-    #[tactic(auto, using(crate::proofs::Growing::same))]
     pub fn ground(&mut self, id: TermId) -> Result<Vec<TermId>, AllocError>
         requires { id < length self.old.terms }
         ensures grows { Grows self.old self.new }
         ensures gives { IfOk result (λ v. AreAt self.new.terms v.items (each_once [] (filter is_application (outside (at self.old.terms id))))) }
     {
-        stand(&self.terms, &mut self.standing, id)?;
-        ground(&self.terms, &self.standing, id)
+        ground(&self.terms, &mut self.standing, id)
     }
 
     /// The same, where they are kept.
@@ -76,35 +72,29 @@ impl<'a> Store<'a> {
     }
 
     /// The first Call in a term outside quantifiers, in preorder.
-    #[tactic(auto, using(crate::proofs::Growing::same))]
     pub fn call(&mut self, id: TermId) -> Result<Option<TermId>, AllocError>
         requires { id < length self.old.terms }
         ensures grows { Grows self.old self.new }
         ensures gives { IfOk result (λ o. StandsFor self.new.terms o (find is_call (outside (at self.old.terms id)))) }
     {
-        stand(&self.terms, &mut self.standing, id)?;
-        Ok(call(&self.terms, &self.standing, id))
+        call(&self.terms, &mut self.standing, id)
     }
 
     /// The first If in a term outside quantifiers, in preorder.
-    #[tactic(auto, using(crate::proofs::Growing::same))]
     pub fn choice(&mut self, id: TermId) -> Result<Option<TermId>, AllocError>
         requires { id < length self.old.terms }
         ensures grows { Grows self.old self.new }
         ensures gives { IfOk result (λ o. StandsFor self.new.terms o (find is_choice (outside (at self.old.terms id)))) }
     {
-        stand(&self.terms, &mut self.standing, id)?;
-        Ok(choice(&self.terms, &self.standing, id))
+        choice(&self.terms, &mut self.standing, id)
     }
 
     /// The first Read of a Write in a term outside quantifiers, in preorder.
-    #[tactic(auto, using(crate::proofs::Growing::same))]
     pub fn access(&mut self, id: TermId) -> Result<Option<TermId>, AllocError>
         requires { id < length self.old.terms }
         ensures grows { Grows self.old self.new }
         ensures gives { IfOk result (λ o. StandsFor self.new.terms o (find is_access (outside (at self.old.terms id)))) }
     {
-        stand(&self.terms, &mut self.standing, id)?;
-        Ok(access(&self.terms, &self.standing, id))
+        access(&self.terms, &mut self.standing, id)
     }
 }

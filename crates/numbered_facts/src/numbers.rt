@@ -17,7 +17,6 @@ const FEW: usize = 16;
 
 /// Numbers, each once, in the order in which they came. A few are compared one by one, and more are
 /// looked up.
-#[derive(Drop)]
 pub(crate) struct Members {
     members: Vec<TermId>,
     index: IndexSet<usize>,
@@ -34,6 +33,17 @@ impl Model for Members {
     ghost view = { λ a. a.members.items };
 
     ghost invariant = { λ a. AreMembers a.members.items a.index.keys };
+}
+
+// Written out: a derived drop is proved again wherever a set is dropped.
+impl Drop for Members {
+    fn drop(self) {
+        let Members {
+            members: _members,
+            index: _index,
+            alloc: _,
+        } = self;
+    }
 }
 
 // The number joins the index, unless it is there.

@@ -11,7 +11,7 @@ ghost use Rattle.numbered_facts.specs.Sorted.{is_map};
 
 use crate::lefts::left;
 use crate::saying::says;
-use crate::sorts::{copy_sort, find_sort, is_boolean, is_map, sort_at};
+use crate::sorts::{is_boolean, is_map, sort};
 use crate::store::Store;
 use logic_core::Sort;
 use std::alloc::AllocError;
@@ -20,7 +20,6 @@ use term_bank::TermId;
 impl<'a> Store<'a> {
     /// The left side of a fact, by what the fact says that it is equal to. None exactly where the fact
     /// isn't oriented.
-    #[tactic(auto, using(crate::proofs::Growing::same))]
     pub fn left_side(&mut self, fact: TermId) -> Result<Option<TermId>, AllocError>
         requires { fact < length self.old.terms }
         ensures grows { Grows self.old self.new }
@@ -48,35 +47,29 @@ impl<'a> Store<'a> {
     }
 
     /// The sort of a closed term, where it is well sorted.
-    #[tactic(auto, using(crate::proofs::Growing::same))]
     pub fn sort(&mut self, id: TermId) -> Result<Option<Sort>, AllocError>
         requires { id < length self.old.terms }
         ensures grows { Grows self.old self.new }
         ensures gives { IfOk result (λ o. o ≡ sort_of self.old.vars self.old.defs [] (at self.old.terms id)) }
     {
-        find_sort(&self.terms, &mut self.sorts, &self.vars, self.defs, id)?;
-        copy_sort(self.terms.alloc(), sort_at(&self.sorts, id))
+        sort(&self.terms, &mut self.sorts, &self.vars, self.defs, id)
     }
 
     /// Whether a closed term is well sorted, of sort Bool.
-    #[tactic(auto, using(crate::proofs::Growing::same))]
     pub fn is_boolean(&mut self, id: TermId) -> Result<bool, AllocError>
         requires { id < length self.old.terms }
         ensures grows { Grows self.old self.new }
         ensures is { IfOk result (λ b. b ≡ is boolean (sort_of self.old.vars self.old.defs [] (at self.old.terms id))) }
     {
-        find_sort(&self.terms, &mut self.sorts, &self.vars, self.defs, id)?;
-        Ok(is_boolean(sort_at(&self.sorts, id)))
+        is_boolean(&self.terms, &mut self.sorts, &self.vars, self.defs, id)
     }
 
     /// Whether a closed term is well sorted, of the sort of a map.
-    #[tactic(auto, using(crate::proofs::Growing::same))]
     pub fn is_map(&mut self, id: TermId) -> Result<bool, AllocError>
         requires { id < length self.old.terms }
         ensures grows { Grows self.old self.new }
         ensures is { IfOk result (λ b. b ≡ is_map (sort_of self.old.vars self.old.defs [] (at self.old.terms id))) }
     {
-        find_sort(&self.terms, &mut self.sorts, &self.vars, self.defs, id)?;
-        Ok(is_map(sort_at(&self.sorts, id)))
+        is_map(&self.terms, &mut self.sorts, &self.vars, self.defs, id)
     }
 }

@@ -1,8 +1,9 @@
 // Sorts of closed terms, found once.
-ghost use Rattle.std.specs.Prelude.{◌≡◌, ◌<◌, Some, true, length, is_some, OnOk, OnErr, IfOk};
+ghost use Rattle.std.specs.Prelude.{◌≡◌, ◌<◌, [], Some, true, length, is_some, OnOk, OnErr, IfOk};
 ghost use Rattle.std.specs.Option.{option_copied};
-ghost use Rattle.logic_core.specs.Sorts.{is};
+ghost use Rattle.logic_core.specs.Sorts.{is, sort_of};
 ghost use Rattle.logic_core.specs.Tree.{boolean};
+ghost use Rattle.term_bank.specs.Numbered.{at};
 ghost use Rattle.numbered_terms.specs.Slots.{kept_at, AreAlike, IsPut, AreKept};
 ghost use Rattle.numbered_facts.specs.Memos.{IsSort};
 ghost use Rattle.numbered_facts.specs.Sorted.{is_map};
@@ -65,8 +66,8 @@ pub(crate) fn sort_at(memo: &Slots<Option<Sort>>, id: TermId) -> Option<&Sort>
     }
 }
 
-/// The same sort, where there is one.
-pub(crate) fn copy_sort(alloc: Global, sort: Option<&Sort>) -> Result<Option<Sort>, AllocError>
+// The same sort, where there is one.
+fn copy_sort(alloc: Global, sort: Option<&Sort>) -> Result<Option<Sort>, AllocError>
     ensures { IfOk result (λ s. s ≡ option_copied sort.entry) }
 {
     match sort {
@@ -75,8 +76,25 @@ pub(crate) fn copy_sort(alloc: Global, sort: Option<&Sort>) -> Result<Option<Sor
     }
 }
 
-/// Whether there is a sort, and it is Bool.
-pub(crate) fn is_boolean(sort: Option<&Sort>) -> bool
+/// The sort of a closed term, where it is well sorted. It is kept.
+pub(crate) fn sort(
+    terms: &Terms,
+    memo: &mut Slots<Option<Sort>>,
+    vars: &[Sort],
+    defs: &[Def],
+    id: TermId,
+) -> Result<Option<Sort>, AllocError>
+    requires id { id < length terms.now }
+    requires right { AreKept (IsSort (record { terms = terms.now; vars = vars.now; defs = defs.now })) memo.old.slots.items }
+    ensures right { AreKept (IsSort (record { terms = terms.now; vars = vars.now; defs = defs.now })) memo.new.slots.items }
+    ensures gives { IfOk result (λ s. s ≡ sort_of vars.now defs.now [] (at terms.now id)) }
+{
+    find_sort(terms, memo, vars, defs, id)?;
+    copy_sort(terms.alloc(), sort_at(memo, id))
+}
+
+// Whether there is a sort, and it is Bool.
+fn is_of_formulas(sort: Option<&Sort>) -> bool
     ensures { result ≡ is boolean (option_copied sort.entry) }
 {
     match sort {
@@ -85,8 +103,25 @@ pub(crate) fn is_boolean(sort: Option<&Sort>) -> bool
     }
 }
 
-/// Whether there is a sort, and it is that of a map.
-pub(crate) fn is_map(sort: Option<&Sort>) -> bool
+/// Whether a closed term is well sorted, of sort Bool. Its sort is kept.
+pub(crate) fn is_boolean(
+    terms: &Terms,
+    memo: &mut Slots<Option<Sort>>,
+    vars: &[Sort],
+    defs: &[Def],
+    id: TermId,
+) -> Result<bool, AllocError>
+    requires id { id < length terms.now }
+    requires right { AreKept (IsSort (record { terms = terms.now; vars = vars.now; defs = defs.now })) memo.old.slots.items }
+    ensures right { AreKept (IsSort (record { terms = terms.now; vars = vars.now; defs = defs.now })) memo.new.slots.items }
+    ensures is { IfOk result (λ b. b ≡ is boolean (sort_of vars.now defs.now [] (at terms.now id))) }
+{
+    find_sort(terms, memo, vars, defs, id)?;
+    Ok(is_of_formulas(sort_at(memo, id)))
+}
+
+// Whether there is a sort, and it is that of a map.
+fn is_of_maps(sort: Option<&Sort>) -> bool
     ensures { result ≡ is_map (option_copied sort.entry) }
 {
     match sort {
@@ -96,4 +131,21 @@ pub(crate) fn is_map(sort: Option<&Sort>) -> bool
         },
         None => false,
     }
+}
+
+/// Whether a closed term is well sorted, of the sort of a map. Its sort is kept.
+pub(crate) fn is_map(
+    terms: &Terms,
+    memo: &mut Slots<Option<Sort>>,
+    vars: &[Sort],
+    defs: &[Def],
+    id: TermId,
+) -> Result<bool, AllocError>
+    requires id { id < length terms.now }
+    requires right { AreKept (IsSort (record { terms = terms.now; vars = vars.now; defs = defs.now })) memo.old.slots.items }
+    ensures right { AreKept (IsSort (record { terms = terms.now; vars = vars.now; defs = defs.now })) memo.new.slots.items }
+    ensures is { IfOk result (λ b. b ≡ is_map (sort_of vars.now defs.now [] (at terms.now id))) }
+{
+    find_sort(terms, memo, vars, defs, id)?;
+    Ok(is_of_maps(sort_at(memo, id)))
 }

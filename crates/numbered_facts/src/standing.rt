@@ -260,8 +260,8 @@ fn is_kept(memo: &Slots<Standing>, id: TermId) -> bool
     standing_at(memo, id).is_some()
 }
 
-/// What stands in the term outside quantifiers is kept.
-pub(crate) fn stand(terms: &Terms, memo: &mut Slots<Standing>, id: TermId) -> Result<(), AllocError>
+// What stands in the term outside quantifiers is kept.
+fn stand(terms: &Terms, memo: &mut Slots<Standing>, id: TermId) -> Result<(), AllocError>
     requires id { id < length terms.now }
     requires right { AreKept (IsStanding terms.now) memo.old.slots.items }
     ensures right { AreKept (IsStanding terms.now) memo.new.slots.items }
@@ -278,13 +278,15 @@ pub(crate) fn stand(terms: &Terms, memo: &mut Slots<Standing>, id: TermId) -> Re
 /// The Reads and Calls in a term outside quantifiers, which are kept.
 pub(crate) fn ground(
     terms: &Terms,
-    memo: &Slots<Standing>,
+    memo: &mut Slots<Standing>,
     id: TermId,
 ) -> Result<Vec<TermId>, AllocError>
-    requires right { AreKept (IsStanding terms.now) memo.now.slots.items }
-    requires there { is_some (kept_at memo.now.slots.items id) ≡ true }
-    ensures { IfOk result (λ v. AreAt terms.now v.items (each_once [] (filter is_application (outside (at terms.now id))))) }
+    requires id { id < length terms.now }
+    requires right { AreKept (IsStanding terms.now) memo.old.slots.items }
+    ensures right { AreKept (IsStanding terms.now) memo.new.slots.items }
+    ensures gives { IfOk result (λ v. AreAt terms.now v.items (each_once [] (filter is_application (outside (at terms.now id))))) }
 {
+    stand(terms, memo, id)?;
     match standing_at(memo, id) {
         Some(standing) => copy_numbers(terms.alloc(), &standing.ground),
         None => Ok(Vec::new(terms.alloc())),
@@ -308,40 +310,55 @@ pub(crate) fn ground_at<'a>(
 }
 
 /// The first Call in a term outside quantifiers, which is kept.
-pub(crate) fn call(terms: &Terms, memo: &Slots<Standing>, id: TermId) -> Option<TermId>
-    requires right { AreKept (IsStanding terms.now) memo.now.slots.items }
-    requires there { is_some (kept_at memo.now.slots.items id) ≡ true }
-    ensures { StandsFor terms.now result (find is_call (outside (at terms.now id))) }
+pub(crate) fn call(
+    terms: &Terms,
+    memo: &mut Slots<Standing>,
+    id: TermId,
+) -> Result<Option<TermId>, AllocError>
+    requires id { id < length terms.now }
+    requires right { AreKept (IsStanding terms.now) memo.old.slots.items }
+    ensures right { AreKept (IsStanding terms.now) memo.new.slots.items }
+    ensures gives { IfOk result (λ o. StandsFor terms.now o (find is_call (outside (at terms.now id)))) }
 {
-    let _count = terms.len();
+    stand(terms, memo, id)?;
     match standing_at(memo, id) {
-        Some(standing) => standing.call,
-        None => None,
+        Some(standing) => Ok(standing.call),
+        None => Ok(None),
     }
 }
 
 /// The first If in a term outside quantifiers, which is kept.
-pub(crate) fn choice(terms: &Terms, memo: &Slots<Standing>, id: TermId) -> Option<TermId>
-    requires right { AreKept (IsStanding terms.now) memo.now.slots.items }
-    requires there { is_some (kept_at memo.now.slots.items id) ≡ true }
-    ensures { StandsFor terms.now result (find is_choice (outside (at terms.now id))) }
+pub(crate) fn choice(
+    terms: &Terms,
+    memo: &mut Slots<Standing>,
+    id: TermId,
+) -> Result<Option<TermId>, AllocError>
+    requires id { id < length terms.now }
+    requires right { AreKept (IsStanding terms.now) memo.old.slots.items }
+    ensures right { AreKept (IsStanding terms.now) memo.new.slots.items }
+    ensures gives { IfOk result (λ o. StandsFor terms.now o (find is_choice (outside (at terms.now id)))) }
 {
-    let _count = terms.len();
+    stand(terms, memo, id)?;
     match standing_at(memo, id) {
-        Some(standing) => standing.choice,
-        None => None,
+        Some(standing) => Ok(standing.choice),
+        None => Ok(None),
     }
 }
 
 /// The first Read of a Write in a term outside quantifiers, which is kept.
-pub(crate) fn access(terms: &Terms, memo: &Slots<Standing>, id: TermId) -> Option<TermId>
-    requires right { AreKept (IsStanding terms.now) memo.now.slots.items }
-    requires there { is_some (kept_at memo.now.slots.items id) ≡ true }
-    ensures { StandsFor terms.now result (find is_access (outside (at terms.now id))) }
+pub(crate) fn access(
+    terms: &Terms,
+    memo: &mut Slots<Standing>,
+    id: TermId,
+) -> Result<Option<TermId>, AllocError>
+    requires id { id < length terms.now }
+    requires right { AreKept (IsStanding terms.now) memo.old.slots.items }
+    ensures right { AreKept (IsStanding terms.now) memo.new.slots.items }
+    ensures gives { IfOk result (λ o. StandsFor terms.now o (find is_access (outside (at terms.now id)))) }
 {
-    let _count = terms.len();
+    stand(terms, memo, id)?;
     match standing_at(memo, id) {
-        Some(standing) => standing.access,
-        None => None,
+        Some(standing) => Ok(standing.access),
+        None => Ok(None),
     }
 }

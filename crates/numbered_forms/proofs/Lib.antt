@@ -6,4 +6,5 @@ pub mod Operands
 pub mod Negations
 mod Substituting
 pub mod NormalParts
+pub mod FromForms
 pub mod Memos

@@ -24,10 +24,10 @@ use Rattle.numbered_forms.specs.declared.sum.NumberedSum.{NumberedSum}
 use Rattle.numbered_forms.proofs.LongerStores.{terms_stay, lists_stay, atoms_stay, numbers_stay}
 
 -- two values, one behind the other, and three
-abbrev two_of : {A B : Type 0} → Option A → Option B → Option (A × B)
+abbrev pub two_of : {A B : Type 0} → Option A → Option B → Option (A × B)
 two_of p q = p >>= λ a. q >>= λ b. Some (a, b)
 
-abbrev three_of : {A B C : Type 0} → Option A → Option B → Option C → Option (A × B × C)
+abbrev pub three_of : {A B C : Type 0} → Option A → Option B → Option C → Option (A × B × C)
 three_of p q r = p >>= λ a. q >>= λ b. r >>= λ c. Some (a, b, c)
 
 pub pair_made : {A B : Type 0} (p : Option A) (q : Option B) (u : A) (v : B) → p ≡ Some u → q ≡ Some v → two_of p q ≡ Some (u, v)

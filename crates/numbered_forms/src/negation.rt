@@ -67,13 +67,13 @@ pub fn negated(terms: &mut Terms, id: TermId) -> Result<TermId, NormalFault>
         Node::Not(a) => Ok(*a),
         Node::And(parts) => {
             let parts = copy_numbers(terms.alloc(), parts)?;
-            let parts = negated_each(terms, id.number, &parts)?;
-            Ok(junction(terms, Connective::Or, &parts)?)
+            let made = negated_each(terms, id.number, &parts)?;
+            Ok(junction(terms, Connective::Or, &made)?)
         }
         Node::Or(parts) => {
             let parts = copy_numbers(terms.alloc(), parts)?;
-            let parts = negated_each(terms, id.number, &parts)?;
-            Ok(junction(terms, Connective::And, &parts)?)
+            let made = negated_each(terms, id.number, &parts)?;
+            Ok(junction(terms, Connective::And, &made)?)
         }
         Node::Le(low, high) => {
             let low = *low;

@@ -10,6 +10,8 @@ pub mod Measuring
 pub mod Items
 pub mod Replacing
 pub mod Rows
+pub mod Mapping
 pub mod FlagsKept
+pub mod FlagsTaken
 pub mod Inserting
 pub mod Results

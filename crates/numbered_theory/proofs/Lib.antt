@@ -1,9 +1,11 @@
 pub mod AccessFound
 pub mod Alone
+pub mod BackAtDistance
 pub mod CombinedMove
 pub mod Counting
 pub mod Deciding
 pub mod Entered
+pub mod FormsPassed
 pub mod Found
 pub mod KnownWays
 pub mod LeadAtoms

@@ -5,6 +5,7 @@ use Rattle.numbered_forms.proofs.Memos.{kept_more, kept_alike}
 use Rattle.numbered_facts.specs.Answers.{StandsFor}
 use Rattle.numbered_facts.specs.Memos.{IsBody}
 use Rattle.numbered_facts.proofs.Later.{bodies_later}
+use Rattle.term_bank.proofs.Numbers.{begins_same}
 use Rattle.numbered_facts.proofs.bodies.kept_body.Goals as goal
 
 pub returns-in-Some-clause-gives : goal.returns-in-Some-clause-gives
@@ -23,3 +24,9 @@ returns-clause-right c = let us = c.body_of.new.terms in let o = Some c.in_ok-id
     let body : option_map (λ (d : Def). d.body) (slice_get c.args.defs.now c.args.place) ≡ Some c.args.def.now.body = ap (option_map (λ (d : Def). d.body)) c.requires.there in
     kept_more (IsBody us c.args.defs.now) c.args.bodies.now.slots.items c.keep.new.memo.slots.items c.args.place o c.in_ok-keep.ensures.ok (bodies_later c.args.terms.now us c.body_of.ensures.grows c.args.defs.now c.args.bodies.now.slots.items c.requires.right)
     (c.in_ok-id.ensures.gives.0, body ∙ ap Some (sym c.in_ok-id.ensures.gives.1))
+
+pub returns-in-Some-clause-grows : goal.returns-in-Some-clause-grows
+returns-in-Some-clause-grows c = begins_same c.args.terms.now
+
+pub returns-clause-gives : goal.returns-clause-gives
+returns-clause-gives c = (c.in_ok-id.ensures.gives.0, ap Some (sym c.in_ok-id.ensures.gives.1))

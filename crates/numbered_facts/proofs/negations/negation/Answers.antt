@@ -1,6 +1,6 @@
 use Rattle.std.proofs.Common.{◌∙◌, sym, subst}
 use Rattle.logic_core.specs.Junction.{negated}
-use Rattle.term_bank.proofs.Numbers.{begins_at}
+use Rattle.term_bank.proofs.Numbers.{begins_at, begins_same}
 use Rattle.numbered_terms.proofs.Walking.{still_below}
 use Rattle.numbered_forms.proofs.Memos.{kept_more, kept_alike}
 use Rattle.numbered_facts.specs.Answers.{StandsFor}
@@ -21,3 +21,6 @@ pub returns-clause-right : goal.returns-clause-right
 returns-clause-right c = let ts = c.args.terms.now in let us = c.negation_of.new.terms in let b = c.negation_of.ensures.grows in
     kept_more (IsNegation us) c.args.negations.now.slots.items c.keep.new.memo.slots.items c.args.id c.in_ok-negation.negation c.in_ok-keep.ensures.ok (negations_later ts us b c.args.negations.now.slots.items c.requires.right)
     (still_below ts us c.args.id b c.requires.id, subst (λ t. StandsFor us c.in_ok-negation.negation (negated t)) (sym (begins_at ts us c.args.id b c.requires.id)) c.in_ok-negation.ensures.gives)
+
+pub returns-in-Some-clause-grows : goal.returns-in-Some-clause-grows
+returns-in-Some-clause-grows c = begins_same c.args.terms.now

@@ -1,4 +1,5 @@
 use Rattle.numbered_facts.proofs.Later.{replaced_later, replacements_later}
+use Rattle.term_bank.proofs.Numbers.{begins_same}
 use Rattle.numbered_facts.proofs.replacements.with_replaced.Goals as goal
 
 pub returns-in_err-term-clause-right : goal.returns-in_err-term-clause-right
@@ -9,3 +10,6 @@ keep_replacement-requires-clause-found c = replaced_later c.args.terms.now c.rep
 
 pub keep_replacement-requires-clause-right : goal.keep_replacement-requires-clause-right
 keep_replacement-requires-clause-right c = replacements_later c.args.terms.now c.replaced.new.terms c.replaced.ensures.grows c.args.memo.now.slots.items c.requires.right
+
+pub returns-in-Some-clause-grows : goal.returns-in-Some-clause-grows
+returns-in-Some-clause-grows c = begins_same c.args.terms.now

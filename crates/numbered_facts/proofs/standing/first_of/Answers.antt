@@ -16,3 +16,6 @@ loop-id-preserved c = first_passed c.args.terms.now (has_shape c.args.shape) c.a
 
 pub returns : goal.returns
 returns c = none_found c.args.terms.now (has_shape c.args.shape) c.args.ids.now c.loop-id.id-index (omega (arith, c.loop-id-test.false)) c.loop-id.invariant
+
+pub has_shape-requires : goal.has_shape-requires
+has_shape-requires c = item_below (length c.args.terms.now) c.args.ids.now c.loop-id.id-index c.id-item.result c.requires c.loop-id-test.true c.id-item.is

@@ -2,6 +2,7 @@ use Rattle.std.proofs.Common.{◌∙◌, sym}
 use Rattle.numbered_forms.proofs.Memos.{kept_more, kept_alike}
 use Rattle.numbered_facts.specs.Memos.{IsTight}
 use Rattle.numbered_facts.proofs.Later.{tight_later, tights_later}
+use Rattle.term_bank.proofs.Numbers.{begins_same}
 use Rattle.numbered_facts.proofs.tights.tight.Goals as goal
 
 pub returns-in-Some-clause-gives : goal.returns-in-Some-clause-gives
@@ -17,3 +18,6 @@ pub returns-clause-right : goal.returns-clause-right
 returns-clause-right c = let ts = c.args.terms.now in let us = c.tightened.new.terms in let b = c.tightened.ensures.grows in
     kept_more (IsTight us) c.args.tights.now.slots.items c.keep_number.new.memo.slots.items c.args.id c.in_ok-tight.tight c.in_ok-keep_number.ensures.ok (tights_later ts us b c.args.tights.now.slots.items c.requires.right)
     (tight_later ts us b c.args.id c.in_ok-tight.tight c.requires.id c.in_ok-tight.ensures.gives)
+
+pub returns-in-Some-clause-grows : goal.returns-in-Some-clause-grows
+returns-in-Some-clause-grows c = begins_same c.args.terms.now

@@ -149,3 +149,21 @@ pub replace_node-returns-clause-found : goal.replace_node-returns-clause-found
 replace_node-returns-clause-found t c =
     let e = as_before c.args.terms.now c.replace_each.new.terms c.args.old c.args.new c.replace_each.ensures.grows c.requires.old c.requires.new in
     on_ok_weaker c.replace_whole.result (λ r. subst (λ f. IsFound f c.replace_whole.new.terms c.replace_whole.new.found.entries c.args.id) e r) c.replace_whole.ensures.found
+
+pub replace_in-returns-then-is_lower-clause-grows : goal.replace_in-returns-then-is_lower-clause-grows
+replace_in-returns-then-is_lower-clause-grows t c = begins_same c.args.terms.now
+
+pub replace_in-returns-then-is_there-clause-grows : goal.replace_in-returns-then-is_there-clause-grows
+replace_in-returns-then-is_there-clause-grows t c = begins_same c.args.terms.now
+
+pub replace_node-returns-then-is_equal-clause-grows : goal.replace_node-returns-then-is_equal-clause-grows
+replace_node-returns-then-is_equal-clause-grows t c = begins_same c.args.terms.now
+
+pub replace_node-returns-then-are_none-clause-grows : goal.replace_node-returns-then-are_none-clause-grows
+replace_node-returns-then-are_none-clause-grows t c = begins_same c.args.terms.now
+
+pub replace_node-returns-in_err-parts-clause-grows : goal.replace_node-returns-in_err-parts-clause-grows
+replace_node-returns-in_err-parts-clause-grows t c = begins_same c.args.terms.now
+
+pub replace_node-returns-in_err-replace_each-clause-grows : goal.replace_node-returns-in_err-replace_each-clause-grows
+replace_node-returns-in_err-replace_each-clause-grows t c = c.replace_each.ensures.grows

@@ -5,6 +5,7 @@ use Rattle.numbered_terms.specs.Stored.{Numbered}
 use Rattle.numbered_facts.specs.Answers.{StandsFor}
 use Rattle.numbered_facts.proofs.Later.{memos_later}
 use Rattle.numbered_facts.proofs.WidthBelow.{counted_later}
+use Rattle.numbered_facts.proofs.Growing.{goes_on}
 use Rattle.numbered_facts.proofs.store.Store.body.Goals as goal
 
 pub body-requires : goal.body-requires
@@ -30,3 +31,6 @@ invariant_of-self c = let us = c.body.new.terms in
 pub returns-clause-gives : goal.returns-clause-gives
 returns-clause-gives c =
     subst (λ (ds : List Def). IfOk c.body.result (λ o. StandsFor c.body.new.terms o (option_map (λ (d : Def). d.body) (slice_get ds c.args.number)))) (ap (λ (n : Numbered). n.defs) c.self.view_is) c.body.ensures.gives
+
+pub returns-clause-grows : goal.returns-clause-grows
+returns-clause-grows c = goes_on (record { terms = c.self.inside.terms; vars = c.self.inside.vars.items; defs = c.self.inside.defs.now }) c.args.self.now c.body.new.terms c.self.view_is c.body.ensures.grows

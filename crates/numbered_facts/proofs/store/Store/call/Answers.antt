@@ -1,7 +1,23 @@
+use Rattle.std.proofs.Common.{sym, subst, IfOk, length, ◌<◌, find}
+use Rattle.logic_core.specs.Subterm.{outside}
+use Rattle.tableau_branch.specs.Shapes.{is_call}
+use Rattle.term_bank.specs.Numbered.{at}
+use Rattle.numbered_terms.specs.Stored.{Numbered}
+use Rattle.numbered_facts.specs.Answers.{StandsFor}
+use Rattle.numbered_facts.proofs.Growing.{stays}
 use Rattle.numbered_facts.proofs.store.Store.call.Goals as goal
 
-pub invariant_of-self : goal.invariant_of-self
-invariant_of-self c = (record { forms = c.self.invariant.0.forms; lefts = c.self.invariant.0.lefts; negations = c.self.invariant.0.negations; atoms = c.self.invariant.0.atoms; standing = c.stand.ensures.right; bodies = c.self.invariant.0.bodies; sorts = c.self.invariant.0.sorts; replacements = c.self.invariant.0.replacements; tights = c.self.invariant.0.tights }, c.self.invariant.1)
+pub call-requires-clause-id : goal.call-requires-clause-id
+call-requires-clause-id c = subst (λ (n : Numbered). c.args.id < length n.terms) (sym c.self.view_is) c.requires
 
-pub invariant_of-self-2 : goal.invariant_of-self-2
-invariant_of-self-2 c = (record { forms = c.self.invariant.0.forms; lefts = c.self.invariant.0.lefts; negations = c.self.invariant.0.negations; atoms = c.self.invariant.0.atoms; standing = c.stand.ensures.right; bodies = c.self.invariant.0.bodies; sorts = c.self.invariant.0.sorts; replacements = c.self.invariant.0.replacements; tights = c.self.invariant.0.tights }, c.self.invariant.1)
+pub call-requires-clause-right : goal.call-requires-clause-right
+call-requires-clause-right c = c.self.invariant.0.standing
+
+pub invariant_of-self : goal.invariant_of-self
+invariant_of-self c = (record { forms = c.self.invariant.0.forms; lefts = c.self.invariant.0.lefts; negations = c.self.invariant.0.negations; atoms = c.self.invariant.0.atoms; standing = c.call.ensures.right; bodies = c.self.invariant.0.bodies; sorts = c.self.invariant.0.sorts; replacements = c.self.invariant.0.replacements; tights = c.self.invariant.0.tights }, c.self.invariant.1)
+
+pub returns-clause-grows : goal.returns-clause-grows
+returns-clause-grows c = stays (record { terms = c.self.inside.terms; vars = c.self.inside.vars.items; defs = c.self.inside.defs.now }) c.args.self.now c.self.view_is
+
+pub returns-clause-gives : goal.returns-clause-gives
+returns-clause-gives c = subst (λ (n : Numbered). IfOk c.call.result (λ o. StandsFor c.self.inside.terms o (find is_call (outside (at n.terms c.args.id))))) c.self.view_is c.call.ensures.gives

@@ -1,12 +1,17 @@
-use Rattle.std.proofs.Common.{◌∙◌, refl, sym, ap}
-use Rattle.std.specs.Option.{option_copied}
-use Rattle.logic_core.specs.Tree.{boolean}
-use Rattle.logic_core.specs.Sorts.{is}
-use Rattle.numbered_facts.proofs.SortsKept.{sorts_over, sort_kept}
+use Rattle.std.proofs.Common.{◌≡◌, sym, subst, IfOk, length, ◌<◌, [], List, refl}
+use Rattle.logic_core.specs.Sorts.{is, sort_of}
+use Rattle.logic_core.specs.Tree.{boolean, Kind}
+use Rattle.term_bank.specs.Numbered.{at}
+use Rattle.numbered_terms.specs.Stored.{Numbered}
+use Rattle.numbered_facts.proofs.Growing.{stays}
+use Rattle.numbered_facts.proofs.SortsKept.{sorts_over}
 use Rattle.numbered_facts.proofs.store.Store.is_boolean.Goals as goal
 
-pub find_sort-requires-clause-right : goal.find_sort-requires-clause-right
-find_sort-requires-clause-right c = sorts_over c.self.inside.terms c.self.inside.sorts.slots.items c.self.inside.vars.items c.deref.result.now c.self.inside.defs.now c.self.inside.defs.now (sym c.deref.ensures.value) refl c.self.invariant.0.sorts
+pub is_boolean-requires-clause-id : goal.is_boolean-requires-clause-id
+is_boolean-requires-clause-id c = subst (λ (n : Numbered). c.args.id < length n.terms) (sym c.self.view_is) c.requires
+
+pub is_boolean-requires-clause-right : goal.is_boolean-requires-clause-right
+is_boolean-requires-clause-right c = sorts_over c.self.inside.terms c.self.inside.sorts.slots.items c.self.inside.vars.items c.deref.result.now c.self.inside.defs.now c.self.inside.defs.now (sym c.deref.ensures.value) refl c.self.invariant.0.sorts
 
 pub invariant_of-self : goal.invariant_of-self
 invariant_of-self c = (
@@ -17,28 +22,15 @@ invariant_of-self c = (
     atoms = c.self.invariant.0.atoms;
     standing = c.self.invariant.0.standing;
     bodies = c.self.invariant.0.bodies;
-    sorts = sorts_over c.self.inside.terms c.find_sort.new.memo.slots.items c.deref.result.now c.self.inside.vars.items c.self.inside.defs.now c.self.inside.defs.now c.deref.ensures.value refl c.find_sort.ensures.right;
+    sorts = sorts_over c.self.inside.terms c.is_boolean.new.memo.slots.items c.deref.result.now c.self.inside.vars.items c.self.inside.defs.now c.self.inside.defs.now c.deref.ensures.value refl c.is_boolean.ensures.right;
     replacements = c.self.invariant.0.replacements;
     tights = c.self.invariant.0.tights;
   },
   c.self.invariant.1,
 )
 
-pub invariant_of-self-2 : goal.invariant_of-self-2
-invariant_of-self-2 c = (
-  record {
-    forms = c.self.invariant.0.forms;
-    lefts = c.self.invariant.0.lefts;
-    negations = c.self.invariant.0.negations;
-    atoms = c.self.invariant.0.atoms;
-    standing = c.self.invariant.0.standing;
-    bodies = c.self.invariant.0.bodies;
-    sorts = sorts_over c.self.inside.terms c.find_sort.new.memo.slots.items c.deref.result.now c.self.inside.vars.items c.self.inside.defs.now c.self.inside.defs.now c.deref.ensures.value refl c.find_sort.ensures.right;
-    replacements = c.self.invariant.0.replacements;
-    tights = c.self.invariant.0.tights;
-  },
-  c.self.invariant.1,
-)
+pub returns-clause-grows : goal.returns-clause-grows
+returns-clause-grows c = stays (record { terms = c.self.inside.terms; vars = c.self.inside.vars.items; defs = c.self.inside.defs.now }) c.args.self.now c.self.view_is
 
 pub returns-clause-is : goal.returns-clause-is
-returns-clause-is c = c.is_boolean.ensures ∙ ap (is boolean) (sort_kept (record { terms = c.self.inside.terms; vars = c.self.inside.vars.items; defs = c.self.inside.defs.now }) c.args.self.now c.find_sort.new.memo.slots.items c.deref.result.now c.self.inside.defs.now c.deref.ensures.value refl c.self.view_is c.find_sort.ensures.right c.args.id (option_copied c.sort_at.result) c.sort_at.ensures)
+returns-clause-is c = subst (λ (n : Numbered). IfOk c.is_boolean.result (λ b. b ≡ is boolean (sort_of n.vars n.defs [] (at n.terms c.args.id)))) c.self.view_is (subst (λ (vs : List Kind). IfOk c.is_boolean.result (λ b. b ≡ is boolean (sort_of vs c.self.inside.defs.now [] (at c.self.inside.terms c.args.id)))) c.deref.ensures.value c.is_boolean.ensures.is)

@@ -1,7 +1,13 @@
-use Rattle.std.proofs.Common.{refl, sym, subst}
+use Rattle.std.proofs.Common.{refl, sym, subst, IfOk, length, ◌<◌, List}
+use Rattle.logic_core.specs.Tree.{Kind}
+use Rattle.tableau_branch.specs.Oriented.{left_side}
+use Rattle.term_bank.specs.Numbered.{at}
 use Rattle.numbered_terms.specs.Slots.{AreKept}
+use Rattle.numbered_terms.specs.Stored.{Numbered}
 use Rattle.numbered_facts.specs.Memos.{IsLeft}
 use Rattle.numbered_facts.proofs.SortsKept.{sorts_over}
+use Rattle.numbered_facts.specs.Answers.{StandsFor}
+use Rattle.numbered_facts.proofs.Growing.{stays}
 use Rattle.numbered_facts.proofs.store.Store.left_side.Goals as goal
 
 pub left-requires-clause-right : goal.left-requires-clause-right
@@ -26,3 +32,12 @@ invariant_of-self c = let ts = c.self.inside.terms in let ls = c.left.new.lefts.
   },
   c.self.invariant.1,
 )
+
+pub left-requires-clause-fact : goal.left-requires-clause-fact
+left-requires-clause-fact c = subst (λ (n : Numbered). c.args.fact < length n.terms) (sym c.self.view_is) c.requires
+
+pub returns-clause-grows : goal.returns-clause-grows
+returns-clause-grows c = stays (record { terms = c.self.inside.terms; vars = c.self.inside.vars.items; defs = c.self.inside.defs.now }) c.args.self.now c.self.view_is
+
+pub returns-clause-gives : goal.returns-clause-gives
+returns-clause-gives c = subst (λ (n : Numbered). IfOk c.left.result (λ o. StandsFor c.self.inside.terms o (left_side n.vars n.defs (at n.terms c.args.fact)))) c.self.view_is (subst (λ (vs : List Kind). IfOk c.left.result (λ o. StandsFor c.self.inside.terms o (left_side vs c.self.inside.defs.now (at c.self.inside.terms c.args.fact)))) c.deref.ensures.value c.left.ensures.gives)

@@ -3,7 +3,7 @@ use Rattle.std.specs.List.{AllByRecursion}
 use Rattle.logic_core.specs.Size.{capped}
 use Rattle.term_bank.specs.Numbered.{at, number_of, Begins}
 use Rattle.term_bank.specs.Node.{tree_over, numbers_in}
-use Rattle.term_bank.proofs.Numbers.{number_is}
+use Rattle.term_bank.proofs.Numbers.{number_is, begins_same}
 use Rattle.numbered_terms.specs.At.{IsAt}
 use Rattle.numbered_terms.specs.Measures.{node_size, node_reach}
 use Rattle.numbered_terms.proofs.Measuring.{measured_next}
@@ -34,3 +34,15 @@ returns-clause-number c =
     let ts = c.self.inside.nodes in let us = c.push.new.self in let t = tree_over (at ts) c.args.node in let i = c.len-number.result in
     let none : number_of ts t ≡ None = subst (λ xs. number_of xs (tree_over (at xs) c.args.node) ≡ None) (sym c.self.view_is) c.requires.new in
     subst (λ xs. IsAt us i (tree_over (at xs) c.args.node)) c.self.view_is (number_is us t i (made_next ts us t i none c.in_ok-push.ensures.ok c.len-number.ensures))
+
+pub push-requires-clause-hash : goal.push-requires-clause-hash
+push-requires-clause-hash c = c.requires.hash
+
+pub returns-in_err-reserve-clause-grows : goal.returns-in_err-reserve-clause-grows
+returns-in_err-reserve-clause-grows c = subst (λ ts. Begins ts c.self.inside.nodes) c.self.view_is (begins_same c.self.inside.nodes)
+
+pub returns-in_err-reserve-2-clause-grows : goal.returns-in_err-reserve-2-clause-grows
+returns-in_err-reserve-2-clause-grows c = subst (λ ts. Begins ts c.self.inside.nodes) c.self.view_is (begins_same c.self.inside.nodes)
+
+pub returns-in_err-push-clause-grows : goal.returns-in_err-push-clause-grows
+returns-in_err-push-clause-grows c = subst (λ ts. Begins ts c.push.new.self) c.self.view_is (subst (λ us. Begins c.self.inside.nodes us) (sym c.in_err-push.ensures.memory) (begins_same c.self.inside.nodes))

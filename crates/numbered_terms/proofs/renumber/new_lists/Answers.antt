@@ -1,0 +1,10 @@
+use Rattle.std.proofs.Common.{◌∙◌, ap, map, ℕ, Vec}
+use Rattle.std.specs.declared.alloc.Global.{Global}
+use Rattle.numbered_terms.specs.Renumbered.{new_of}
+use Rattle.numbered_terms.proofs.Mapping.{map_next_over}
+use Rattle.numbered_terms.proofs.renumber.new_lists.Goals as goal
+
+pub loop-list-preserved : goal.loop-list-preserved
+loop-list-preserved c = let f = new_of c.args.found.now.entries in
+    map_next_over (λ (w : Vec ℕ Global). w.items) (λ (w : Vec ℕ Global). map f w.items) c.args.lists.now _ _ c.loop-list.list-index c.list-item.result _ c.loop-list-test.true c.list-item.is c.in_ok-push.ensures.items c.loop-list.invariant
+    (c.in_ok-new_numbers.ensures ∙ ap (map f) c.deref.ensures.value)
