@@ -11,3 +11,4 @@ pub mod OneBranch
 pub mod Replaced
 pub mod Standing
 pub mod Steps
+pub mod Unpicked

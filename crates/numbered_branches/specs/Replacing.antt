@@ -1,5 +1,5 @@
 -- A term replaced in facts by number.
-use Rattle.std.specs.Prelude.{◌≡◌, ℕ, ◌<◌, true, false, Option, Some, None, Result, Ok, Err, List, length}
+use Rattle.std.specs.Prelude.{◌≡◌, ℕ, ◌<◌, Bool, true, false, not, ◌&&◌, Option, Some, None, Result, Ok, Err, List, length}
 use Rattle.std.specs.Bool.{⊤}
 use Rattle.logic_core.specs.Tree.{Tree}
 use Rattle.logic_core.specs.declared.fault.NormalFault.{NormalFault}
@@ -13,6 +13,7 @@ use Rattle.tableau_branch.specs.Replacing.{picks_on, replaced_from}
 use Rattle.tableau_branch.specs.declared.changing.Ground.{Ground}
 use Rattle.tableau_branch.specs.declared.changing.Ground.TheVariants as ground
 use Rattle.numbered_terms.specs.Stored.{Numbered}
+use Rattle.numbered_facts.specs.Atoms.{is_atom}
 use Rattle.numbered_branches.specs.Branches.{NumberedMade, made_at}
 use Rattle.numbered_branches.specs.declared.replacing.Replacing.{Replacing}
 
@@ -20,6 +21,14 @@ use Rattle.numbered_branches.specs.declared.replacing.Replacing.{Replacing}
 abbrev pub IsOnGround : Ground → Tree → Type 0
 IsOnGround ground.Access t = is_application t ≡ true
 IsOnGround g t = ⊤
+
+abbrev pub is_access : Ground → Bool
+is_access ground.Access = true
+is_access g = false
+
+-- an atom that is to be replaced wherever it occurs
+abbrev pub is_plain : List Tree → Replacing → Bool
+is_plain ts r = not (is_access r.ground) && is_atom (at ts r.left)
 
 -- the term and what takes its place have numbers of terms
 pub record IsReplacing (ts : List Tree) (r : Replacing) : Type 0 where

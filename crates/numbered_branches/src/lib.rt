@@ -13,6 +13,7 @@ pub mod append;
 pub mod cases;
 pub mod change;
 pub mod on_one;
+mod passing;
 pub mod replacing;
 
 // Numbers for branches and moves.

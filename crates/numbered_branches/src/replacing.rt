@@ -10,11 +10,12 @@ ghost use Rattle.term_bank.specs.Numbered.{at};
 ghost use Rattle.numbered_terms.specs.Stored.{Grows};
 ghost use Rattle.numbered_branches.specs.Branches.{fact_at, made_at, step_at, IsFactBelow, IsStepBelow, IsMadeOver};
 ghost use Rattle.numbered_branches.specs.StepView.{step_seen};
-ghost use Rattle.numbered_branches.specs.Replacing.{IsReplacing, IsPassed, changed_on, ChangesTo};
+ghost use Rattle.numbered_branches.specs.Replacing.{IsReplacing, IsPassed, is_plain, changed_on, ChangesTo};
 
 use crate::append::append_by;
 use crate::branch::Fact;
 use crate::change::change_at;
+use crate::passing::{is_passed, is_plain};
 use crate::played::Made;
 use crate::step::Step;
 use logic_core::NormalFault;
@@ -105,8 +106,8 @@ impl Replacing {
     }
 }
 
-// The fact at `at`, after which there is a next place.
-fn fact_in(made: &Made, at: usize) -> Fact
+/// The fact at `at`, after which there is a next place.
+pub(crate) fn fact_in(made: &Made, at: usize) -> Fact
     requires { at < length made.now.branch.facts }
     ensures got { slice_get made.now.branch.facts at ≡ Some result }
     ensures next { at + 1 ≤ 2 ^ 64 - 1 }
@@ -144,6 +145,34 @@ fn change_next(
     }
 }
 
+// The same, where one look may show that the term isn't to be replaced in the fact.
+// Wide exactly where the normal form leaves 128 bits.
+fn pass_or_change(
+    store: &mut Store,
+    made: &mut Made,
+    at: usize,
+    replacing: &Replacing,
+    plain: bool,
+) -> Result<usize, NormalFault>
+    requires there { at < length made.old.branch.facts }
+    requires made { IsMadeOver store.old.terms made.old }
+    requires vars { store.old.vars ≡ made.old.branch.vars }
+    requires replacing { IsReplacing store.old.terms replacing.now }
+    requires plain { plain ≡ true → is_plain store.old.terms replacing.now ≡ true }
+    ensures grows { Grows store.old store.new }
+    ensures made { OnOk result (IsMadeOver store.new.terms made.new) }
+    ensures vars { OnOk result (store.new.vars ≡ made.new.branch.vars) }
+    ensures gives { IfOk result (λ k. changed_on store.new replacing.now made.new k ≡ changed_on store.old replacing.now made.old at) }
+    ensures wide { IfErr result (λ e. e ≡ NormalFault.Wide → changed_on store.old replacing.now made.old at ≡ None) }
+    ensures behind { IfOk result (λ k. drop k (map (fact_at store.new.terms) made.new.branch.facts) ≡ drop (at + 1) (map (fact_at store.old.terms) made.old.branch.facts)) }
+{
+    let fact = fact_in(made, at);
+    if is_passed(store, made, replacing, at, &fact, plain) {
+        return Ok(at + 1);
+    }
+    change_next(store, made, at, replacing)
+}
+
 /// The term is replaced in each fact in which it is to be, one fact after another, where all of these
 /// stand between two places. Wide exactly where a normal form leaves 128 bits.
 pub fn change_between(
@@ -165,9 +194,10 @@ pub fn change_between(
     ensures vars { OnOk result (store.new.vars ≡ made.new.branch.vars) }
     ensures gives { GivesAs (λ _. made_at store.new.terms made.new) result (replaced_each store.old.defs replacing.now.ground (at store.old.terms replacing.now.left) (at store.old.terms replacing.now.right) (made_at store.old.terms made.old)) }
 {
+    let plain = is_plain(store.terms(), replacing);
     let mut at = from;
     for _ in from..until {
-        let next = change_next(store, made, at, replacing)?;
+        let next = pass_or_change(store, made, at, replacing, plain)?;
         at = next;
     }
     Ok(())

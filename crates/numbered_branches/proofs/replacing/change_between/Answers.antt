@@ -1,9 +1,11 @@
-use Rattle.std.proofs.Common.{◌≡◌, refl, sym, subst, ◌∙◌, ◌+◌, ℕ, map, drop, length, arith}
+use Rattle.std.proofs.Common.{◌≡◌, refl, sym, ap, subst, ◌∙◌, ◌+◌, ◌&&◌, not, ℕ, map, drop, length, arith}
 use Rattle.std.specs.List.{AllByRecursion}
 use Rattle.numbered_facts.proofs.Growing.{same, then}
+use Rattle.numbered_facts.specs.Atoms.{is_atom}
 use Rattle.numbered_branches.specs.Branches.{fact_at}
-use Rattle.numbered_branches.specs.Replacing.{IsPassed}
+use Rattle.numbered_branches.specs.Replacing.{IsPassed, is_access, is_plain}
 use Rattle.numbered_branches.proofs.Replaced.{replacing_stays}
+use Rattle.numbered_branches.proofs.Growing.{stays}
 use Rattle.numbered_branches.proofs.Between.{from_front, to_rest, passed_on, behind_next, still_there}
 use Rattle.numbered_branches.proofs.replacing.change_between.Goals as goal
 
@@ -17,18 +19,22 @@ loop-init c = record {
   order = c.requires.order;
 }
 
-pub change_next-requires-clause-there : goal.change_next-requires-clause-there
-change_next-requires-clause-there c = still_there c.args.store.now.terms c.loop.store.terms c.args.made.now.branch.facts c.loop.made.branch.facts c.loop.at c.loop.counter c.args.until c.loop.invariant.behind (omega (arith, c.loop-test.true)) c.requires.within
+pub pass_or_change-requires-clause-there : goal.pass_or_change-requires-clause-there
+pass_or_change-requires-clause-there c = still_there c.args.store.now.terms c.loop.store.terms c.args.made.now.branch.facts c.loop.made.branch.facts c.loop.at c.loop.counter c.args.until c.loop.invariant.behind (omega (arith, c.loop-test.true)) c.requires.within
 
-pub change_next-requires-clause-replacing : goal.change_next-requires-clause-replacing
-change_next-requires-clause-replacing c = replacing_stays c.args.store.now c.loop.store c.args.replacing.now c.loop.invariant.grows c.requires.replacing
+pub pass_or_change-requires-clause-replacing : goal.pass_or_change-requires-clause-replacing
+pass_or_change-requires-clause-replacing c = replacing_stays c.args.store.now c.loop.store c.args.replacing.now c.loop.invariant.grows c.requires.replacing
+
+pub pass_or_change-requires-clause-plain : goal.pass_or_change-requires-clause-plain
+pass_or_change-requires-clause-plain c = λ e. let r = c.args.replacing.now in let n = c.args.store.now in
+    ap (λ t. not (is_access r.ground) && is_atom t) (stays n c.loop.store r.left c.loop.invariant.grows c.requires.replacing.left) ∙ ap (λ ts. is_plain ts r) (sym c.terms.ensures) ∙ sym c.is_plain-plain.ensures ∙ e
 
 pub returns-in_err-next-clause-grows : goal.returns-in_err-next-clause-grows
-returns-in_err-next-clause-grows c = then c.args.store.now c.loop.store c.change_next.new.store c.loop.invariant.grows c.change_next.ensures.grows
+returns-in_err-next-clause-grows c = then c.args.store.now c.loop.store c.pass_or_change.new.store c.loop.invariant.grows c.pass_or_change.ensures.grows
 
 pub loop-preserved : goal.loop-preserved
 loop-preserved c = record {
-  grows = then c.args.store.now c.loop.store c.change_next.new.store c.loop.invariant.grows c.in_ok-next.ensures.grows;
+  grows = then c.args.store.now c.loop.store c.pass_or_change.new.store c.loop.invariant.grows c.in_ok-next.ensures.grows;
   made = c.in_ok-next.ensures.made;
   vars = c.in_ok-next.ensures.vars;
   rest = c.in_ok-next.ensures.gives ∙ c.loop.invariant.rest;
