@@ -5,6 +5,7 @@ use Rattle.std.specs.Option.{option_or}
 use Rattle.std.proofs.lemmas.List.{map-append, append-nil}
 use Rattle.logic_core.specs.Tree.{Kind, Tree, for_all, Patterns, no_patterns, pattern}
 use Rattle.logic_core.specs.Def.{Def}
+use Rattle.logic_core.proofs.Booleans.{or_false}
 use Rattle.quantifier_triggers.specs.Match.{tuples}
 use Rattle.tableau_branch.specs.Branch.{Fact, Branch}
 use Rattle.logic_rules.specs.Instantiating.{Quantified, as_for_all, Candidate, is_unmarked, candidates_by, candidates_of}
@@ -60,6 +61,9 @@ no_candidates defs b terms (f ∷ fs) h = by (is_for_all f.term) refl h (no_cand
     by : (x : Bool) → is_for_all f.term ≡ x → (x || list_any (λ (g : Fact). is_for_all g.term) fs) ≡ false → (list_any (λ (g : Fact). is_for_all g.term) fs ≡ false → flat_map (candidates_of defs b terms) fs ≡ []) → candidates_of defs b terms f ++ flat_map (candidates_of defs b terms) fs ≡ []
     by true e k r = absurd (true≢false k)
     by false e k r = (λ i. none f.term e i ++ r k i)
+
+pub no_candidate : (defs : List Def) (b : Branch) (terms : List Tree) (f : Fact) → is_for_all f.term ≡ false → [] ≡ candidates_of defs b terms f
+no_candidate defs b terms f h = sym (no_candidates defs b terms (f ∷ []) (or_false (is_for_all f.term) ∙ h)) ∙ append-nil (candidates_of defs b terms f)
 
 -- one fact on
 module _ (p : Candidate → Bool) (g : Fact → List Candidate) (ts : List Tree) (fs : List NumberedFact) (i : ℕ) (x : NumberedFact) (l : i < length fs) (e : x ≡ get_or fs i x) (o : Option Candidate) (found : o ≡ find p (g (fact_at ts x))) where

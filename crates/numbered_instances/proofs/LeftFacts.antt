@@ -1,5 +1,5 @@
 -- The left side of a fact, and whether it occurs in another.
-use Rattle.std.proofs.Common.{◌≡◌, refl, sym, ap, subst, ◌∙◌, ℕ, zero, suc, ◌+◌, ◌<◌, Bool, Option, Some, None, List, [], ◌∷◌, map, length, slice_get, drop, get_or, arith}
+use Rattle.std.proofs.Common.{◌≡◌, refl, sym, ap, subst, ◌∙◌, ℕ, zero, suc, ◌+◌, ◌<◌, ◌||◌, Bool, Option, Some, None, List, [], ◌∷◌, map, length, slice_get, drop, get_or, arith}
 use Rattle.std.specs.List.{list_any, AllByRecursion}
 use Rattle.logic_core.specs.Tree.{Tree}
 use Rattle.logic_core.specs.Wide.{◌>>=◌, when}
@@ -41,6 +41,15 @@ module _ (ts us : List Tree) (b : Begins ts us) where
   pub terms_same : (fs : List NumberedFact) → AllByRecursion (IsFactBelow (length ts)) fs → map (at us) (map (λ (f : NumberedFact). f.term) fs) ≡ terms_of (map (fact_at ts) fs)
   terms_same [] h = refl
   terms_same (f ∷ fs) h = λ k. begins_at ts us f.term b h.0 k ∷ terms_same fs h.1 k
+
+  -- one more fact, of which a test in the longer store says whether the term occurs in it
+  pub other_on : (number l : ℕ) (fs : List NumberedFact) (i : ℕ) (f : NumberedFact) (r d whole : Bool) → l < length ts → AllByRecursion (IsFactBelow (length ts)) fs → i < length fs → f ≡ get_or fs i f
+      → r ≡ rewrites number (at us l) (fact_at us f) → r ≡ d → list_any (rewrites number (at ts l)) (map (fact_at ts) (drop i fs)) ≡ whole → (d || list_any (rewrites number (at ts l)) (map (fact_at ts) (drop (i + 1) fs))) ≡ whole
+  other_on number l fs i f r d whole low lows j e is t so_far =
+      let here : f.term < length ts = all_at (IsFactBelow (length ts)) fs i f lows j e in
+      let same : fact_at us f ≡ fact_at ts f = λ k. record { term = begins_at ts us f.term b here k; number = f.number } in
+      let said : rewrites number (at ts l) (fact_at ts f) ≡ d = (λ k. rewrites number (sym (begins_at ts us l b low) k) (sym same k)) ∙ sym is ∙ t in
+      sym (ap (λ gs. list_any (rewrites number (at ts l)) (map (fact_at ts) gs)) (drop_item fs i f j e) ∙ ap (λ c. c || list_any (rewrites number (at ts l)) (map (fact_at ts) (drop (i + 1) fs))) said) ∙ so_far
 
 pub got_fact : (ts : List Tree) (fs : List NumberedFact) (i : ℕ) (f : NumberedFact) → slice_get fs i ≡ Some f → slice_get (map (fact_at ts) fs) i ≡ Some (fact_at ts f)
 got_fact ts [] i f e = absurd (cc)

@@ -16,5 +16,6 @@ pub mod RestRewritten
 pub mod ByFact
 pub mod FoundAt
 pub mod MatchedTuples
+pub mod Passing
 pub mod Patterns
 pub mod ReadSorts

@@ -21,7 +21,7 @@ use Rattle.numbered_branches.specs.Branches.{NumberedMark, IsMarkOver, IsTuple, 
 use Rattle.numbered_branches.proofs.Changing.{one_mark}
 use Rattle.numbered_instances.specs.Instances.{is_new, is_marked}
 
-other_way : (i j : ℕ) → nat_eq i j ≡ nat_eq j i
+pub other_way : (i j : ℕ) → nat_eq i j ≡ nat_eq j i
 other_way i j = by (nat_eq i j) refl
   where
     by : (b : Bool) → nat_eq i j ≡ b → b ≡ nat_eq j i

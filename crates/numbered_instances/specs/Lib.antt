@@ -4,3 +4,4 @@ pub mod Shared
 pub mod Near
 pub mod Lefts
 pub mod Finding
+pub mod Passed

@@ -11,6 +11,7 @@ ghost use Rattle.numbered_instances.specs.Candidates.{candidate_at, IsFoundOver}
 
 use crate::ground::list_ground;
 use crate::marks::first_new;
+use crate::passed::list_passed;
 use crate::tuples::tuples_of;
 use numbered_branches::branch::{Branch, Fact};
 use numbered_facts::Store;
@@ -24,6 +25,7 @@ use term_bank::{Node, TermId};
 pub struct Instances {
     ground: NumberSet,
     marked: NumberSet,
+    passed: NumberSet,
 }
 
 impl Instances {
@@ -32,6 +34,7 @@ impl Instances {
         Instances {
             ground: NumberSet::new(alloc),
             marked: NumberSet::new(alloc),
+            passed: NumberSet::new(alloc),
         }
     }
 }
@@ -48,6 +51,7 @@ fn first_at(
     store: &mut Store,
     ground: &[TermId],
     marked: &mut NumberSet,
+    passed: &mut NumberSet,
     branch: &Branch,
     fact: &Fact,
 ) -> Result<Option<Found>, AllocError>
@@ -59,7 +63,12 @@ fn first_at(
     ensures first { IfOk result (λ o. option_map (candidate_at store.new.terms) o ≡ find (is_unmarked (branch_at store.old.terms branch.now)) (candidates_of store.old.defs (branch_at store.old.terms branch.now) (terms_at store.old.terms ground.now) (fact_at store.old.terms fact.now))) }
     ensures within { IfOk result (λ o. IfSome o (IsFoundOver store.new.terms)) }
 {
-    let tuples = tuples_of(store.terms(), store.vars(), store.defs(), ground, fact.term)?;
+    let terms = store.terms();
+    if !is_for_all(terms, fact.term) {
+        return Ok(None);
+    }
+    list_passed(terms, passed, &branch.marks, fact.term)?;
+    let tuples = tuples_of(terms, store.vars(), store.defs(), ground, passed, fact.term)?;
     match first_new(store, marked, &branch.marks, fact.term, tuples)? {
         Some(tuple) => Ok(Some(Found { fact: *fact, tuple })),
         None => Ok(None),
@@ -71,6 +80,7 @@ fn first_in(
     store: &mut Store,
     ground: &[TermId],
     marked: &mut NumberSet,
+    passed: &mut NumberSet,
     branch: &Branch,
     facts: &[Fact],
 ) -> Result<Option<Found>, AllocError>
@@ -83,7 +93,7 @@ fn first_in(
     ensures within { IfOk result (λ o. IfSome o (IsFoundOver store.new.terms)) }
 {
     for fact in facts {
-        if let Some(found) = first_at(store, ground, marked, branch, fact)? {
+        if let Some(found) = first_at(store, ground, marked, passed, branch, fact)? {
             return Ok(Some(found));
         }
     }
@@ -139,5 +149,12 @@ pub fn first_candidate(
     }
     list_ground(store, &mut instances.ground, branch)?;
     let ground = instances.ground.members();
-    first_in(store, ground, &mut instances.marked, branch, facts)
+    first_in(
+        store,
+        ground,
+        &mut instances.marked,
+        &mut instances.passed,
+        branch,
+        facts,
+    )
 }

@@ -20,6 +20,9 @@ fn make_room(counts: &mut Vec<usize>, id: TermId) -> Result<(), AllocError>
     ensures same { (j : ℕ) → get_or counts.new.items j 0 ≡ get_or counts.old.items j 0 }
     ensures room { OnOk result (id < length counts.new.items) }
 {
+    if id.number < counts.len() {
+        return Ok(());
+    }
     counts.reserve(id.number.saturating_sub(counts.len()).saturating_add(1))?;
     while counts.len() <= id.number {
         counts.push(0)?;

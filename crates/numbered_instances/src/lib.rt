@@ -15,6 +15,7 @@ pub mod sorts;
 
 // Matching.
 pub mod found;
+pub mod passed;
 pub mod pattern;
 pub mod trigger;
 

@@ -1,5 +1,5 @@
 // In how many facts of a branch each atom occurs, kept from branch to branch.
-ghost use Rattle.std.specs.Prelude.{◌≡◌, ◌<◌, ◌++◌, ◌∷◌, [], ℕ, List, nat_eq, true, false, length, map, drop, IfOk, IfSome, OnOk, get_or};
+ghost use Rattle.std.specs.Prelude.{◌≡◌, ◌<◌, ◌≤◌, ◌++◌, ◌∷◌, [], ℕ, List, nat_eq, true, false, length, map, drop, IfOk, IfSome, OnOk, get_or};
 ghost use Rattle.std.specs.List.{AllByRecursion};
 ghost use Rattle.logic_core.specs.Tree.{Tree};
 ghost use Rattle.term_bank.specs.Numbered.{at};
@@ -59,22 +59,42 @@ fn behind(listed: &[TermId], at: usize, id: TermId) -> Option<usize>
     None
 }
 
-// The fact at this place goes. The next place.
-fn leave_one(
+// So many listed facts, from a place on, are looked through for a new one.
+const AHEAD: usize = 8;
+
+// Where the number stands, of the places near this one and not before it, and the place behind that.
+fn place_ahead(listed: &[TermId], at: usize, id: TermId) -> Option<(usize, usize)>
+    ensures order { IfSome result (λ p. at ≤ p.0) }
+    ensures within { IfSome result (λ p. p.0 ≤ length listed.now) }
+    ensures found { IfSome result (λ p. drop p.0 listed.now ≡ id ∷ drop p.1 listed.now) }
+{
+    let until = listed.len().min(at.saturating_add(AHEAD));
+    for place in at..until {
+        if let Some(next) = behind(listed, place, id) {
+            return Some((place, next));
+        }
+    }
+    None
+}
+
+// The facts from the first place on and before the second one go.
+fn leave_until(
     store: &mut Store,
     counts: &mut Vec<usize>,
     listed: &[TermId],
-    at: usize,
-) -> Result<usize, AllocError>
-    requires { AllByRecursion (λ i. i < length store.old.terms) listed.now }
+    from: usize,
+    until: usize,
+) -> Result<(), AllocError>
+    requires listed { AllByRecursion (λ i. i < length store.old.terms) listed.now }
+    requires order { from ≤ until }
+    requires within { until ≤ length listed.now }
     ensures grows { Grows store.old store.new }
-    ensures left { IfOk result (λ k. (before : List ℕ) → AreShared store.old.terms (before ++ drop at listed.now) counts.old.items → AreShared store.new.terms (before ++ drop k listed.now) counts.new.items) }
+    ensures left { OnOk result ((before : List ℕ) → AreShared store.old.terms (before ++ drop from listed.now) counts.old.items → AreShared store.new.terms (before ++ drop until listed.now) counts.new.items) }
 {
-    if at < listed.len() {
+    for at in from..until {
         leave_fact(store, counts, listed[at])?;
-        return Ok(at + 1);
     }
-    Ok(at)
+    Ok(())
 }
 
 // The facts behind the last place go.
@@ -94,26 +114,8 @@ fn leave_rest(
     Ok(())
 }
 
-// One of the new facts: where it stands at this place it is passed, and else it is counted. The next place.
-fn count_at(
-    store: &mut Store,
-    counts: &mut Vec<usize>,
-    listed: &[TermId],
-    at: usize,
-    id: TermId,
-) -> Result<usize, AllocError>
-    requires { id < length store.old.terms }
-    ensures grows { Grows store.old store.new }
-    ensures counted { IfOk result (λ k. (before : List ℕ) → AreShared store.old.terms (before ++ drop at listed.now) counts.old.items → AreShared store.new.terms (before ++ id ∷ drop k listed.now) counts.new.items) }
-{
-    if let Some(next) = behind(listed, at, id) {
-        return Ok(next);
-    }
-    count_fact(store, counts, id)?;
-    Ok(at)
-}
-
-// The same, where a fact that stands before it may go.
+// One of the new facts: where it stands near this place it is passed, and those before it go; else it is
+// counted. The next place.
 fn count_next(
     store: &mut Store,
     counts: &mut Vec<usize>,
@@ -126,11 +128,12 @@ fn count_next(
     ensures grows { Grows store.old store.new }
     ensures counted { IfOk result (λ k. (before : List ℕ) → AreShared store.old.terms (before ++ drop at listed.now) counts.old.items → AreShared store.new.terms (before ++ id ∷ drop k listed.now) counts.new.items) }
 {
-    if let Some(next) = behind(listed, at, id) {
-        return Ok(next);
+    if let Some(found) = place_ahead(listed, at, id) {
+        leave_until(store, counts, listed, at, found.0)?;
+        return Ok(found.1);
     }
-    let from = leave_one(store, counts, listed, at)?;
-    count_at(store, counts, listed, from, id)
+    count_fact(store, counts, id)?;
+    Ok(at)
 }
 
 // The formula of a fact.

@@ -7,12 +7,15 @@ ghost use Rattle.term_bank.specs.Node.{in_lists};
 ghost use Rattle.quantifier_triggers.specs.Match.{matched, tuple_of, tuples as tuples_by, tuples_from};
 ghost use Rattle.numbered_terms.specs.Lists.{terms_at, lists_at};
 ghost use Rattle.numbered_instances.specs.Finding.{found_at, IsFoundBelow};
+ghost use Rattle.numbered_instances.specs.Passed.{FindOne};
 
 use crate::found::{nothing_found, restore, tuple_of};
+use crate::passed::{has_new, is_passed};
 use crate::pattern::matched;
 use logic_core::copy::copy_sorts;
 use logic_core::{Def, Sort};
 use numbered_terms::Terms;
+use numbered_terms::number_set::NumberSet;
 use std::alloc::{AllocError, Global};
 use term_bank::TermId;
 
@@ -33,7 +36,8 @@ fn push_tuple(
     Ok(())
 }
 
-// The tuples of the patterns that are left, each matched against the ground terms in order.
+// The tuples of the patterns that are left, each matched against the ground terms in order. A tuple of one
+// passed term alone may be left out.
 #[cycle(push_tuples)]
 fn push_tuples(
     terms: &Terms,
@@ -42,6 +46,7 @@ fn push_tuples(
     kinds: &[Sort],
     patterns: &[TermId],
     ground: &[TermId],
+    passed: &NumberSet,
     found: &[Option<TermId>],
     tuples: &mut Vec<Vec<TermId>>,
 ) -> Result<(), AllocError>
@@ -49,7 +54,7 @@ fn push_tuples(
     requires ground { AllByRecursion (λ j. j < length terms.now) ground.now }
     requires found { IsFoundBelow (length terms.now) found.now }
     requires within { AllByRecursion (λ j. j < length terms.now) (in_lists tuples.old.items) }
-    ensures tuples { OnOk result (lists_at terms.now tuples.new.items ≡ lists_at terms.now tuples.old.items ++ tuples_from vars.now defs.now kinds.now (terms_at terms.now ground.now) (trees_of (terms_at terms.now patterns.now)) (found_at terms.now found.now)) }
+    ensures tuples { OnOk result (FindOne terms.now passed.now (lists_at terms.now tuples.new.items) (lists_at terms.now tuples.old.items ++ tuples_from vars.now defs.now kinds.now (terms_at terms.now ground.now) (trees_of (terms_at terms.now patterns.now)) (found_at terms.now found.now))) }
     ensures within { OnOk result (AllByRecursion (λ j. j < length terms.now) (in_lists tuples.new.items)) }
 {
     let Some((pattern, rest)) = patterns.split_first() else {
@@ -58,7 +63,8 @@ fn push_tuples(
     let mut after = Vec::new(terms.alloc());
     for term in ground {
         push_term(
-            terms, vars, defs, kinds, *pattern, *term, rest, ground, found, &mut after, tuples,
+            terms, vars, defs, kinds, *pattern, *term, rest, ground, passed, found, &mut after,
+            tuples,
         )?;
     }
     Ok(())
@@ -75,6 +81,7 @@ fn push_term(
     term: TermId,
     rest: &[TermId],
     ground: &[TermId],
+    passed: &NumberSet,
     found: &[Option<TermId>],
     after: &mut Vec<Option<TermId>>,
     tuples: &mut Vec<Vec<TermId>>,
@@ -85,13 +92,21 @@ fn push_term(
     requires ground { AllByRecursion (λ j. j < length terms.now) ground.now }
     requires found { IsFoundBelow (length terms.now) found.now }
     requires within { AllByRecursion (λ j. j < length terms.now) (in_lists tuples.old.items) }
-    ensures tuples { OnOk result (lists_at terms.now tuples.new.items ≡ lists_at terms.now tuples.old.items ++ flat_map (λ c. tuples_from vars.now defs.now kinds.now (terms_at terms.now ground.now) (trees_of (terms_at terms.now rest.now)) c) (option_to_list (matched vars.now defs.now kinds.now false (at terms.now pattern) (at terms.now term) (found_at terms.now found.now)))) }
+    ensures tuples { OnOk result (FindOne terms.now passed.now (lists_at terms.now tuples.new.items) (lists_at terms.now tuples.old.items ++ flat_map (λ c. tuples_from vars.now defs.now kinds.now (terms_at terms.now ground.now) (trees_of (terms_at terms.now rest.now)) c) (option_to_list (matched vars.now defs.now kinds.now false (at terms.now pattern) (at terms.now term) (found_at terms.now found.now))))) }
     ensures within { OnOk result (AllByRecursion (λ j. j < length terms.now) (in_lists tuples.new.items)) }
 {
+    if has_new(passed, tuples) {
+        return Ok(());
+    }
+    if is_passed(terms, passed, pattern, term, rest, found) {
+        return Ok(());
+    }
     restore(after, found)?;
     let meets = matched(terms, vars, defs, kinds, pattern, term, after)?;
     if meets {
-        return push_tuples(terms, vars, defs, kinds, rest, ground, after, tuples);
+        return push_tuples(
+            terms, vars, defs, kinds, rest, ground, passed, after, tuples,
+        );
     }
     Ok(())
 }
@@ -108,7 +123,8 @@ fn kinds_of(alloc: Global, sorts: &[Sort]) -> Result<Vec<Sort>, AllocError>
 /// Puts the tuples of terms for a quantifier's variables that a trigger of it finds behind the others,
 /// in the order of the positions at which its patterns, left to right, match the ground terms. `sorts`
 /// are the sorts of the variables, and a tuple has their order. A tuple that is found twice stands
-/// there twice.
+/// there twice. A tuple of one passed term alone may be left out, and each behind one that is new: the
+/// first new one is the same.
 pub fn push_matches(
     terms: &Terms,
     trigger: &[TermId],
@@ -116,15 +132,18 @@ pub fn push_matches(
     vars: &[Sort],
     defs: &[Def],
     ground: &[TermId],
+    passed: &NumberSet,
     tuples: &mut Vec<Vec<TermId>>,
 ) -> Result<(), AllocError>
     requires trigger { AllByRecursion (λ j. j < length terms.now) trigger.now }
     requires ground { AllByRecursion (λ j. j < length terms.now) ground.now }
     requires within { AllByRecursion (λ j. j < length terms.now) (in_lists tuples.old.items) }
-    ensures tuples { OnOk result (lists_at terms.now tuples.new.items ≡ lists_at terms.now tuples.old.items ++ tuples_by vars.now defs.now (trees_of (terms_at terms.now trigger.now)) sorts.now (terms_at terms.now ground.now)) }
+    ensures tuples { OnOk result (FindOne terms.now passed.now (lists_at terms.now tuples.new.items) (lists_at terms.now tuples.old.items ++ tuples_by vars.now defs.now (trees_of (terms_at terms.now trigger.now)) sorts.now (terms_at terms.now ground.now))) }
     ensures within { OnOk result (AllByRecursion (λ j. j < length terms.now) (in_lists tuples.new.items)) }
 {
     let kinds = kinds_of(terms.alloc(), sorts)?;
     let found = nothing_found(terms.alloc(), sorts)?;
-    push_tuples(terms, vars, defs, &kinds, trigger, ground, &found, tuples)
+    push_tuples(
+        terms, vars, defs, &kinds, trigger, ground, passed, &found, tuples,
+    )
 }

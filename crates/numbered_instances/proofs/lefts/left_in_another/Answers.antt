@@ -12,6 +12,7 @@ use Rattle.numbered_instances.specs.Shared.{in_two}
 use Rattle.numbered_instances.proofs.Alone.{alone_rewrites}
 use Rattle.numbered_instances.proofs.LeftSides.{left_occurs}
 use Rattle.numbered_instances.proofs.LeftFacts.{some_left, facts_low, facts_stay, terms_same, got_fact}
+use Rattle.numbered_facts.proofs.Growing.{then}
 use Rattle.numbered_instances.proofs.lefts.left_in_another.Goals as goal
 
 pub returns-then-is_alone-clause-gives : goal.returns-then-is_alone-clause-gives
@@ -54,3 +55,16 @@ returns-clause-gives c =
     let facts = facts_stay ts us b fs c.requires.facts in
     let there = c.in_ok-occurs_around.ensures.gives ∙ (λ k. list_any (rewrites (c.fact.view_is k).number l) (facts k)) in
     some_left n fs f l c.in_ok-occurs_around.field-0 side there ∙ ap (λ q. when q (Some l)) c.if-branch.false
+
+pub occurs_around-requires-clause-left : goal.occurs_around-requires-clause-left
+occurs_around-requires-clause-left c = let n = c.args.store.now in
+    (subst (λ o. StandsFor c.left_side.new.self.terms o (left_side n.vars n.defs (at n.terms c.fact.inside.term))) c.in-Some.is c.in_ok-left.ensures.gives).0
+
+pub returns-in_err-occurs_around-clause-grows : goal.returns-in_err-occurs_around-clause-grows
+returns-in_err-occurs_around-clause-grows c = then c.args.store.now c.left_side.new.self c.occurs_around.new.store c.in_ok-left.ensures.grows c.occurs_around.ensures.grows
+
+pub returns-then-branch-clause-grows : goal.returns-then-branch-clause-grows
+returns-then-branch-clause-grows c = then c.args.store.now c.left_side.new.self c.occurs_around.new.store c.in_ok-left.ensures.grows c.in_ok-occurs_around.ensures.grows
+
+pub returns-clause-grows : goal.returns-clause-grows
+returns-clause-grows c = then c.args.store.now c.left_side.new.self c.occurs_around.new.store c.in_ok-left.ensures.grows c.in_ok-occurs_around.ensures.grows

@@ -29,3 +29,6 @@ loop-fact-preserved c =
 pub returns-clause-counted : goal.returns-clause-counted
 returns-clause-counted c = λ h. subst (λ (zs : List NumberedFact). AreShared c.loop-fact.store.terms (map (λ (f : NumberedFact). f.term) zs ++ drop c.loop-fact.at c.args.listed.now) c.loop-fact.counts.items)
     (take_all c.loop-fact.fact-index c.args.facts.now (omega (arith, c.loop-fact-test.false))) (c.loop-fact.invariant.counted h)
+
+pub returns-in_err-next-clause-grows : goal.returns-in_err-next-clause-grows
+returns-in_err-next-clause-grows c = then c.args.store.now c.loop-fact.store c.count_next.new.store c.loop-fact.invariant.grows c.count_next.ensures.grows

@@ -1,18 +1,11 @@
-use Rattle.std.proofs.Common.{◌++◌, List, ℕ, subst, length, arith}
-use Rattle.std.proofs.lemmas.Result.{IfOk-weaker}
-use Rattle.term_bank.proofs.Numbers.{begins_length}
-use Rattle.numbered_facts.proofs.Growing.{then}
+use Rattle.std.proofs.Common.{◌++◌, List, ℕ, subst, drop}
 use Rattle.numbered_instances.specs.Shared.{AreShared}
+use Rattle.numbered_instances.proofs.SharedAtoms.{shared_in}
 use Rattle.numbered_instances.proofs.shared.count_next.Goals as goal
 
-pub count_at-requires : goal.count_at-requires
-count_at-requires c = omega (arith, c.requires.id, begins_length c.args.store.now.terms c.leave_one.new.store.terms c.in_ok-from.ensures.grows.terms)
-
 pub returns-in-Some-clause-counted : goal.returns-in-Some-clause-counted
-returns-in-Some-clause-counted c = λ before h. subst (λ (ys : List ℕ). AreShared c.args.store.now.terms (before ++ ys) c.args.counts.now.items) c.in-Some.ensures h
-
-pub returns-clause-grows : goal.returns-clause-grows
-returns-clause-grows c = then c.args.store.now c.leave_one.new.store c.count_at.new.store c.in_ok-from.ensures.grows c.count_at.ensures.grows
+returns-in-Some-clause-counted c = λ before h. subst (λ (ys : List ℕ). AreShared c.leave_until.new.store.terms (before ++ ys) c.leave_until.new.counts.items) c.in-Some.ensures.found (c.in_ok-leave_until.ensures.left before h)
 
 pub returns-clause-counted : goal.returns-clause-counted
-returns-clause-counted c = IfOk-weaker c.count_at.result _ _ (λ k f before h. f before (c.in_ok-from.ensures.left before h)) c.count_at.ensures.counted
+returns-clause-counted c = λ before h.
+    shared_in c.args.store.now.terms c.count_fact.new.store.terms c.in_ok-count_fact.ensures.grows.terms before (drop c.args.at c.args.listed.now) c.args.counts.now.items c.count_fact.new.counts.items c.args.id h c.in_ok-count_fact.ensures.more

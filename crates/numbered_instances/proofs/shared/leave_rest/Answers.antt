@@ -2,7 +2,7 @@ use Rattle.std.proofs.Common.{◌++◌, ◌∷◌, ◌+◌, ◌∙◌, List, ℕ
 use Rattle.std.proofs.lemmas.List.{at_drop_all, append-nil}
 use Rattle.tableau_branch.proofs.Lists.{drop_item}
 use Rattle.numbered_terms.proofs.Items.{item_below}
-use Rattle.numbered_facts.proofs.Growing.{then}
+use Rattle.numbered_facts.proofs.Growing.{then, same}
 use Rattle.numbered_instances.specs.Shared.{AreShared}
 use Rattle.numbered_instances.proofs.SharedAtoms.{shared_out, numbers_on}
 use Rattle.numbered_instances.proofs.shared.leave_rest.Goals as goal
@@ -24,3 +24,9 @@ pub returns-clause-left : goal.returns-clause-left
 returns-clause-left c = λ before h. let xs = c.args.listed.now in
     subst (λ (ys : List ℕ). AreShared c.loop-at.store.terms ys c.loop-at.counts.items)
     (at_drop_all (λ (ys : List ℕ). before ++ ys) xs c.loop-at.at (omega (arith, c.loop-at-test.false)) ∙ append-nil before) (c.loop-at.invariant.left before h)
+
+pub loop-at-init : goal.loop-at-init
+loop-at-init c = record { grows = same c.args.store.now; left = λ before h. h }
+
+pub returns-in_err-leave_fact-clause-grows : goal.returns-in_err-leave_fact-clause-grows
+returns-in_err-leave_fact-clause-grows c = then c.args.store.now c.loop-at.store c.leave_fact.new.store c.loop-at.invariant.grows c.leave_fact.ensures.grows

@@ -7,6 +7,7 @@ use Rattle.term_bank.specs.Node.{in_lists}
 use Rattle.quantifier_triggers.specs.Match.{matched, tuples_from}
 use Rattle.numbered_terms.specs.Lists.{terms_at, lists_at}
 use Rattle.numbered_instances.specs.Finding.{found_at}
+use Rattle.numbered_instances.specs.Passed.{FindOne}
 use Rattle.numbered_instances.proofs.trigger.+push_tuples.Given as goal
 
 abbrev pub decreases-push_tuples : goal.decreases-push_tuples
@@ -20,6 +21,6 @@ abbrev pub invariant-push_tuples-loop-term : goal.invariant-push_tuples-loop-ter
 invariant-push_tuples-loop-term l =
     let F : Tree → List (List Tree) = λ t. flat_map (λ c. tuples_from l.vars l.defs l.kinds (terms_at l.terms l.ground) (trees_of (terms_at l.terms l.rest)) c) (option_to_list (matched l.vars l.defs l.kinds false (at l.terms l.pattern) t (found_at l.terms l.found))) in
     record {
-      tuples : lists_at l.terms l.tuples.items ++ flat_map F (terms_at l.terms (drop l.term-index l.ground)) ≡ lists_at l.terms l.fn.tuples.items ++ flat_map F (terms_at l.terms l.ground);
+      tuples : FindOne l.terms l.passed (lists_at l.terms l.tuples.items ++ flat_map F (terms_at l.terms (drop l.term-index l.ground))) (lists_at l.terms l.fn.tuples.items ++ flat_map F (terms_at l.terms l.ground));
       within : AllByRecursion (λ j. j < length l.terms) (in_lists l.tuples.items);
     }
