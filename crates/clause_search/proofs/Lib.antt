@@ -5,3 +5,4 @@ pub mod Kept
 pub mod Packing
 pub mod Running
 pub mod FirstFacts
+pub mod Stepping

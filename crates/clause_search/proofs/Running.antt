@@ -1,5 +1,5 @@
 -- Steps of a run over numbers, whose store grows.
-use Rattle.std.proofs.Common.{◌≡◌, sym, ap, ◌∙◌, ℕ, ◌-◌, ◌<◌, ◌≤◌, List, [], ◌∷◌, ◌++◌, map, length, reverse, subst}
+use Rattle.std.proofs.Common.{◌≡◌, refl, sym, ap, ◌∙◌, ℕ, ◌-◌, ◌<◌, ◌≤◌, List, [], ◌∷◌, ◌++◌, map, length, reverse, subst}
 use Rattle.std.specs.List.{AllByRecursion}
 use Rattle.std.proofs.lemmas.List.{map-append, append-nil, reverse-append}
 use Rattle.logic_core.specs.Tree.{Tree}
@@ -9,9 +9,13 @@ use Rattle.term_bank.specs.Numbered.{Begins}
 use Rattle.tableau_branch.specs.Branch.{Attempt, gives, none, leaves}
 use Rattle.tableau_branch.specs.Move as move
 use Rattle.tableau.specs.Search.{Run, Verdict, proved, «open», wide, turns, run, step, ended, after_attempt}
+use Rattle.tableau.specs.RunView.{verdict_of}
+use Rattle.tableau.specs.declared.ended.Verdict as declared
+use Rattle.tableau.specs.declared.ended.Verdict.TheVariants.{Proved, Open, Turns, Wide}
 use Rattle.tableau.proofs.Turns.{before_run, run_step, goes_on, stops}
 use Rattle.numbered_branches.specs.Branches.{NumberedBranch, branch_at, made_at, IsBranchOver}
 use Rattle.numbered_branches.specs.Moves.{NumberedMove, NumberedPlayed, move_at, played_at, cost, branches_of, played, IsMoveOver, IsPlayedBelow}
+use Rattle.clause_search.specs.Stepped.{IsLast}
 use Rattle.numbered_branches.proofs.Moving.{one_cost, one_branches, one_played}
 use Rattle.numbered_branches.proofs.Standing.{branches_on, played_on}
 
@@ -101,6 +105,16 @@ module _ (ts : List Tree) (b : NumberedBranch) (rest items : List NumberedBranch
         pub next_run : before_run (map (played_at us) moves) (run defs (left - price) (left - price) (map (branch_at us) (reverse stack))) ≡ all
         next_run = ap (λ n. before_run (map (played_at us) moves) (run defs (left - n) (left - n) (map (branch_at us) (reverse stack)))) costs
             ∙ on defs ts us grows left b (reverse rest) ms (top_over over).1 below m made.0 (stepped (gives (move_at us m)) made.1) (subst (λ n. n ≤ left) costs paid) (reverse stack) moves s p ∙ so_far
+
+-- a turn of the loop in which no step is taken
+pub end_last : (ts : List Tree) (b : NumberedBranch) (rest items : List NumberedBranch) (popped : items ≡ rest ++ b ∷ []) (us : List Tree) (grows : Begins ts us) (kept defs : List Def) (same : kept ≡ defs) (left : ℕ) (ms : List NumberedPlayed) (all : Run)
+    (over : AllByRecursion (IsBranchOver ts) (reverse items)) (below : AllByRecursion (IsPlayedBelow (length ts)) ms)
+    (before : before_run (map (played_at ts) ms) (run defs left left (map (branch_at ts) (reverse items))) ≡ all)
+    (v : declared.Verdict) → IsLast left kept ts us b v → record { verdict = verdict_of v; moves = map (played_at us) ms } ≡ all
+end_last ts b rest items popped us grows kept defs same left ms all over below before Proved h = absurd h
+end_last ts b rest items popped us grows kept defs same left ms all over below before Open h = end_open ts b rest items popped us grows kept defs same left ms all over below before h
+end_last ts b rest items popped us grows kept defs same left ms all over below before Turns h = end_turns ts b rest items popped us grows kept defs same left ms all over below before h.0 (cost h.0) refl h.1.0 h.1.1
+end_last ts b rest items popped us grows kept defs same left ms all over below before Wide h = end_wide ts b rest items popped us grows kept defs same left ms all over below before h
 
 -- where the stack is empty
 pub end_proved : (defs : List Def) (ts : List Tree) (left : ℕ) (items : List NumberedBranch) (ms : List NumberedPlayed) (all : Run) → items ≡ []

@@ -24,4 +24,5 @@ pub mod Refuting
 pub mod FoundWhereProved
 pub mod Starting
 pub mod Joined
+pub mod Assembled
 pub mod FirstRule
