@@ -16,7 +16,8 @@ use Rattle.request_text.specs.Request.{Put, Request}
 use Rattle.request_text.specs.RequestView.{put_view}
 use Rattle.request_text.specs.declared.request.Put.{Put as SeenPut}
 use Rattle.bv_base.specs.Text.{is_among}
-use Rattle.std.proofs.lemmas.List.{at_drop_more}
+use Rattle.std.specs.Prelude.{IfErr, IsErrAnd}
+use Rattle.std.proofs.lemmas.List.{at_drop_more, at_drop_all, append-nil}
 use Rattle.program_edits.specs.Edited.{Texts, names, in_place, applied, unless_lacking, changed, Edited, edited, faulty, other_name, is_axiom, declares, the_one, put_as, and_then, numbered, renamed, opened, after_puts, puts_of, IsEdited}
 use Rattle.program_edits.specs.Refusals.{IsTold, Tells, RefusedBy, TextsAreShort, texts_of, reading}
 use Rattle.program_edits.specs.Seen.{decls_seen}
@@ -96,6 +97,25 @@ behind_one found d (Ok ds) = ap Ok (sym (append_assoc found (d ∷ []) ds))
 pub first_refused : (found : List Decl) (put : Result Decl Edited) (rest : Result (List Decl) Edited) (fault : EditFault) → RefusedBy put fault → RefusedBy (behind found (and_then put rest)) fault
 first_refused found (Err e) rest fault refused = refused
 first_refused found (Ok d) rest fault refused = rw refused (memory_refuses (behind found (and_then (Ok d) rest)))
+
+-- the puts from this place on, behind the declarations that are found, give the whole
+module _ (found : List Decl) (puts : List SeenPut) (i : ℕ) (whole : Result (List Decl) Edited) (so_far : behind found (puts_of reading (map put_view (drop i puts))) ≡ whole) where
+  module _ (p : SeenPut) (within : i < length puts) (is : p ≡ get_or puts i p) where
+    put_and_rest : behind found (and_then (put_as (put_view p) (reading (string_bytes p.text))) (puts_of reading (map put_view (drop (i + 1) puts)))) ≡ whole
+    put_and_rest = (λ j. behind found (puts_of reading (map put_view (is j ∷ drop (i + 1) puts)))) ∙ (sym (at_drop_more (λ ps. behind found (puts_of reading (map put_view ps))) puts i p within) ∙ so_far)
+
+    pub put_next : (more : List Decl) (d : Decl) → more ≡ found ++ d ∷ [] → put_as (put_view p) (reading (string_bytes p.text)) ≡ Ok d → behind more (puts_of reading (map put_view (drop (i + 1) puts))) ≡ whole
+    put_next more d pushed ok =
+        (λ j. behind (pushed j) (puts_of reading (map put_view (drop (i + 1) puts))))
+        ∙ (sym (behind_one found d (puts_of reading (map put_view (drop (i + 1) puts)))) ∙ ((λ j. behind found (and_then (sym ok j) (puts_of reading (map put_view (drop (i + 1) puts))))) ∙ put_and_rest))
+
+    pub put_stops : {A : Type 0} (r : Result A EditFault) (fault : EditFault) → IsErrAnd r (λ e. e ≡ fault) → RefusedBy (put_as (put_view p) (reading (string_bytes p.text))) fault → IfErr r (RefusedBy whole)
+    put_stops (Ok a) fault is_err refused = absurd is_err
+    put_stops (Err e) fault is_err refused =
+        subst (RefusedBy whole) (sym is_err) (subst (λ (given : Result (List Decl) Edited). RefusedBy given fault) put_and_rest (first_refused found (put_as (put_view p) (reading (string_bytes p.text))) (puts_of reading (map put_view (drop (i + 1) puts))) fault refused))
+
+  pub put_all : length puts ≤ i → whole ≡ Ok found
+  put_all past = sym so_far ∙ (at_drop_all (λ ps. behind found (puts_of reading (map put_view ps))) puts i past ∙ ap Ok (append-nil found))
 
 pub after_refused : (old : List Decl) (r : Result (List Decl) Edited) (drops : List (List ℕ)) (fault : EditFault) → RefusedBy r fault → Tells fault (after_puts old r drops)
 after_refused old (Err e) drops fault refused = refused

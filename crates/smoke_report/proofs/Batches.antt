@@ -2,7 +2,7 @@
 use Rattle.std.proofs.Common.{◌≡◌, ◌∙◌, refl, sym, ap, subst, arith, ℕ, zero, suc, ◌+◌, ◌<◌, ◌≤◌, ◌-◌, Bool, true, false, cond, List, [], ◌∷◌, ◌++◌, map, length, take, drop, slice_get, get_or, unwrap_or, Option, Some, None, Result, Ok, Err}
 use Rattle.std.specs.Prelude.{filter, IfErr, IsErrAnd}
 use Rattle.std.specs.Option.{option_or}
-use Rattle.std.proofs.lemmas.List.{append_assoc, length-drop}
+use Rattle.std.proofs.lemmas.List.{append_assoc, at_drop_more, length-drop}
 use Rattle.std.proofs.lemmas.Option.{slice_get_within, slice_get-get_or, unwrap_or-slice_get}
 use Rattle.std.specs.List.{AllByRecursion}
 use Rattle.bpl_model.specs.Module.{Proc, Module}
@@ -109,3 +109,27 @@ module _ (c : ℕ) (xs first later : List ProgramPoint) (front : first ≡ take 
 
   pub fewer_next : 0 < c → c ≤ length xs → length later < length xs
   fewer_next one within = let e : length later ≡ length xs - c = ap length back ∙ length-drop c xs in omega (arith, e)
+
+-- ---- one point more
+
+module _ (xs : List ProgramPoint) (i : ℕ) (x : ProgramPoint) (within : i < length xs) (is : x ≡ get_or xs i x) where
+  point_ahead : {B : Type 0} (F : List ProgramPoint → B) → F (drop i xs) ≡ F (x ∷ drop (i + 1) xs)
+  point_ahead F = at_drop_more F xs i x within ∙ (λ j. F (sym is j ∷ drop (i + 1) xs))
+
+  pub lines_after : {B : Type 0} (f : ProgramPoint → B) (test : ProgramPoint → Bool) (new old all : List B) → new ≡ old ++ map f (filter test (x ∷ [])) → old ++ map f (filter test (drop i xs)) ≡ all → new ++ map f (filter test (drop (i + 1) xs)) ≡ all
+  lines_after f test new old all e so_far =
+      (λ j. e j ++ map f (filter test (drop (i + 1) xs)))
+      ∙ (append_assoc old (map f (filter test (x ∷ []))) (map f (filter test (drop (i + 1) xs)))
+      ∙ (ap (λ ys. old ++ ys) (lines_of f test (suc zero) (x ∷ drop (i + 1) xs)) ∙ (sym (point_ahead (λ ys. old ++ map f (filter test ys))) ∙ so_far)))
+
+  module _ (m : Module) (all : Option (Measure × ℕ)) (so_far : large_among m (drop i xs) ≡ all) where
+    pub large_after : large (point_goals m x) ≡ None → large_among m (drop (i + 1) xs) ≡ all
+    large_after none = (λ j. option_or (sym none j) (large_among m (drop (i + 1) xs))) ∙ (sym (point_ahead (large_among m)) ∙ so_far)
+
+    pub fault_at : {A : Type 0} (r : Result A BuildFault) (e : BuildFault) → IsErrAnd r (λ w. w ≡ e) → IsFaultBy (large (point_goals m x)) e → IfErr r (IsFaultBy all)
+    fault_at (Ok a) e is_err fault = absurd is_err
+    fault_at (Err w) e is_err fault = subst (IsFaultBy all) (sym is_err) (by e fault)
+      where
+        by : (v : BuildFault) → IsFaultBy (large (point_goals m x)) v → IsFaultBy all v
+        by (Large what number) found = sym so_far ∙ (point_ahead (large_among m) ∙ ap (λ o. option_or o (large_among m (drop (i + 1) xs))) found)
+        by Memory found = tt

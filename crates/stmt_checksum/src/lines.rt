@@ -15,12 +15,25 @@ use bpl_texts::leads_of;
 use std::alloc::{AllocError, Global};
 
 /// What the names of a program's lines lead to: made once for a program.
-#[derive(Drop)]
 pub struct Leads<'m, 'a> {
     links: Links<'m>,
     table: Table<'a>,
     digests: Vec<[u8; 32]>,
     ghost made: { digests.items ≡ digests_of links.texts },
+}
+
+// Written out: a derived drop is proved again wherever a value is dropped.
+impl<'m, 'a> Drop for Leads<'m, 'a> {
+    fn drop(self) {
+        let Leads {
+            links,
+            table,
+            digests,
+        } = self;
+        drop(links);
+        drop(table);
+        drop(digests);
+    }
 }
 
 impl<'m, 'a> Leads<'m, 'a> {
@@ -33,11 +46,13 @@ impl<'m, 'a> Leads<'m, 'a> {
         ensures links { IfOk result (λ s. s.links ≡ «module».now) }
         ensures table { IfOk result (λ s. s.table ≡ table_of decls.now) }
     {
+        let digests = contract_digests(alloc, &module.parts().texts)?;
         let (table, _counts) = declare_all(alloc, decls)?;
+        let links = Links::of(alloc, module)?;
         Ok(Leads {
-            links: Links::of(alloc, module)?,
+            links,
             table,
-            digests: contract_digests(alloc, &module.parts().texts)?,
+            digests,
         })
     }
 

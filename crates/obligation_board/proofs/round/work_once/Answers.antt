@@ -1,7 +1,7 @@
 use Rattle.obligation_board.proofs.Knowing.{closed_after}
 use Rattle.std.proofs.Common.{◌≡◌, ◌+◌, [], ◌∷◌, ◌++◌, length, inl, refl, ap, ◌∙◌, length-append, arith}
 use Rattle.turn_lock.specs.Lock.{number, mine}
-use Rattle.board_core.specs.Board.{Call, claim, claimed, was_empty, no_memory, memory}
+use Rattle.board_core.specs.Board.{Call, claim, claimed, was_closed, was_empty, no_memory, memory}
 use Rattle.board_core.specs.Handed.{ticket, claim_answer}
 use Rattle.board_core.specs.declared.claim.Claimed.{Claimed}
 use Rattle.obligation_board.specs.Rounds.{made_by, no_question}
@@ -61,3 +61,20 @@ returns-in-Closed-clause-closed g c = λ _. closed_after _ _ c.args.pass.now c.c
 
 pub returns-in-Claim-clause-closed : goal.returns-in-Claim-clause-closed
 returns-in-Claim-clause-closed g c = ends_open g.P.A.Q.Question.key (g.P.Prover.gives c.args.prover.now) _ (ticket g.P.A.Q.Question.key c.in-Claim.claim) c.settle.result c.settle.ensures.calls.0 c.settle.ensures.calls.2
+
+pub returns-in-Closed-clause-calls : goal.returns-in-Closed-clause-calls
+returns-in-Closed-clause-calls g c =
+    let p = c.args.pass.now in (
+      record { event = claim; reply = was_closed } ∷ [],
+      c.in-Ok.ensures.call.mine ∙ ap (λ (x : Claimed g.row.P-A.Denot g.row.P-A-Q.Denot). let k : Call g.row.P-A.Denot = record { event = claim; reply = claim_answer g.P.A.Q.Question.key x } in mine p ++ (number p, k) ∷ []) c.in-Closed.is,
+      refl,
+    )
+
+pub returns-in-Claim-clause-pass : goal.returns-in-Claim-clause-pass
+returns-in-Claim-clause-pass g c = (c.settle.ensures.pass.0, c.settle.ensures.pass.1 ∙ c.claim.ensures.pass.1)
+
+pub returns-in-Claim-clause-above : goal.returns-in-Claim-clause-above
+returns-in-Claim-clause-above g c = c.settle.ensures.above ∙ c.claim.ensures.above
+
+pub returns-in-Claim-clause-splits : goal.returns-in-Claim-clause-splits
+returns-in-Claim-clause-splits g c = c.settle.ensures.splits ∙ c.claim.ensures.splits
