@@ -54,7 +54,7 @@ pub same_as_candidate : (old : List BuiltProc) (m : Module) → TextsDecide old 
     → (b : BuiltProc) → Some b ≡ with_text old text → SameObligations b.goals (goals_by_passes m p)
 same_as_candidate old m decided p there body text is b found = let f = found_is text b old (sym found) in decided p there body b f.there (sym is ∙ f.text_is)
 
-pub contained : (bs : List BuiltProc) (at : ℕ) (b : BuiltProc) → slice_get bs at ≡ Some b → Contains bs b
+pub contained : {A : Type 0} (bs : List A) (at : ℕ) (b : A) → slice_get bs at ≡ Some b → Contains bs b
 contained [] at b e = absurd (cc)
 contained (x ∷ bs) zero b e = contains_first x bs b (let same : x ≡ b = cc in same)
 contained (x ∷ bs) (suc at) b e = contains_later x bs b (contained bs at b e)

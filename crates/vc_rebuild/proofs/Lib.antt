@@ -7,3 +7,6 @@ pub mod KeptGoals
 pub mod OneBody
 pub mod Heads
 pub mod NoGotos
+pub mod CallsAlike
+pub mod OthersStay
+pub mod OwnAlone

@@ -5,19 +5,12 @@ use Rattle.std.proofs.Common.{ap, sym, subst, ◌∙◌, true≢false, inl, inr,
 use Rattle.std.proofs.lemmas.Bool.{or_parts, or_left, or_right, eqb-true}
 use Rattle.std.proofs.lemmas.Slice.Eq.{bytes_eq-Decides}
 use Rattle.std.proofs.lemmas.List.Concat.{flat_map-append}
-use Rattle.passive_form.proofs.Lists.{contains_cases, contains_none, from_map}
+use Rattle.passive_form.proofs.Lists.{contains_cases, contains_none}
 use Rattle.bpl_model.specs.Module.{Name, Proc, Module}
 use Rattle.bpl_model.specs.Reach.{among, decl_at, positions, leads_to, reach_on, reached_by, is_named, axiom_names, axiom_name}
-use Rattle.bpl_goto.specs.Removed.{remove_gotos}
 use Rattle.vc_build.specs.Depends.{depends}
-use Rattle.vc_build.specs.Goals.{goals_by_passes, goals}
-use Rattle.vc_build.specs.Rebuild.{BuiltProc, with_body, built, stands_in}
-use Rattle.vc_rebuild.specs.Kept.{kept_of, is_new}
-use Rattle.vc_rebuild.specs.Inside.{SameObligations, TextsDecide}
-use Rattle.vc_rebuild.specs.Change.{HasHeadOf, DiffersAt, IsChangedBody, IsChangedAt, is_own, KeepTexts, KeptBut, having_name, unread}
-use Rattle.vc_rebuild.proofs.Programs.{reach_same}
-use Rattle.vc_rebuild.proofs.KeptGoals.{IsFound, contained}
-use Rattle.vc_rebuild.proofs.Digested.{no_step}
+use Rattle.vc_build.specs.Rebuild.{BuiltProc, stands_in}
+use Rattle.vc_rebuild.specs.Change.{DiffersAt, is_own}
 
 -- what names reach, and a dependency text, by what the declarations are
 module _ (names : ℕ → Name) (contracts leads contract_leads : ℕ → List ℕ) (symbols axioms : List Name) (ps : List ℕ) where
@@ -89,67 +82,10 @@ module _ (d : ℕ) (m n : Module) (differs : DiffersAt d m n) where
       ∙ ap (λ ts. ts ++ flat_map (λ e. (decl_at m e).contract) (filter (λ e. not (among (one ++ two) e)) (reach_with (λ e. (decl_at m e).name) (λ e. (decl_at m e).contract) (λ e. (decl_at m e).leads) (λ e. (decl_at m e).contract_leads) (symbols_of m) (axiom_names m) (positions m) (length m.texts + 1) (flat_map (λ e. (decl_at m e).leads) (one ++ two))))) texts
       ∙ sym (depends_is m p)
 
--- a dependency text is a matter of the procedure's name
-abbrev depends_named : Module → Name → List ℕ
-depends_named m n =
-    let own = filter (is_named m n) (positions m) ++ filter (is_named m (codes "implementation " ++ n)) (positions m) in
-    flat_map (λ d. (decl_at m d).text) own ++ flat_map (λ d. (decl_at m d).contract) (filter (λ d. not (among own d)) (reach_on m (length m.texts + 1) (flat_map (λ d. (decl_at m d).leads) own)))
-
-by_name : (m : Module) (p q : Proc) → p.name ≡ q.name → depends m p ≡ depends m q
-by_name m p q e = ap (depends_named m) e
-
-depends_plain : (m : Module) (p : Proc) → depends (remove_gotos m) p ≡ depends m p
-depends_plain m p =
-    let own = filter (is_named m p.name) (positions m) ++ filter (is_named m (codes "implementation " ++ p.name)) (positions m) in
-    ap (λ reached. flat_map (λ d. (decl_at m d).text) own ++ flat_map (λ d. (decl_at m d).contract) (filter (λ d. not (among own d)) reached)) (reach_same m (length m.texts + 1) (flat_map (λ d. (decl_at m d).leads) own))
-
-keep_texts : (d : ℕ) (old : List BuiltProc) (n : Module) → IsChangedBody d old n → KeepTexts old (remove_gotos n) d
-keep_texts d old n changed b inside p name apart =
-    let r = from_map (λ (x : Proc). record { name = x.name; depends = depends changed.before x; goals = goals changed.before x }) (with_body changed.before) b (subst (λ xs. Contains xs b) changed.are inside) in
-    depends_plain n p ∙ depends_kept d changed.before n changed.differs p apart ∙ by_name changed.before p r.0 (sym name ∙ ap (λ (x : BuiltProc). x.name) (sym r.2)) ∙ ap (λ (x : BuiltProc). x.depends) r.2
-
-pub kept_but : (but : Option ℕ) (old : List BuiltProc) (n : Module) → IsChangedAt but old n → KeptBut old (remove_gotos n) but
-kept_but None old n changed = tt
-kept_but (Some d) old n changed = keep_texts d old n changed
-
--- ---- a procedure whose text needn't be read
-
--- what is found stands for what it is told to
-pub some_now : {A B : Type 0} (f : A → B) (o : Option A) (x : A) (r : Option B) → o ≡ Some x → option_map f o ≡ r → Some (f x) ≡ r
-some_now f o x r is e = sym (ap (option_map f) is) ∙ e
-
-pub unread_is : (old : List BuiltProc) (m : Module) (but : Option ℕ) → KeptBut old m but → (p : Proc) (place : ℕ) (b : BuiltProc) → Some b ≡ unread old place m but p → IsFound old (depends m p) b
-unread_is old m None kept p place b found = absurd (cc)
-unread_is old m (Some d) kept p place b found = by (is_own m d p) refl (slice_get old place) refl found
-  where
-    at_test : (c : BuiltProc) (s : Bool) → bytes_eq c.name p.name ≡ s → is_own m d p ≡ false → slice_get old place ≡ Some c → Some b ≡ cond s (Some c) None → IsFound old (depends m p) b
-    at_test c true q apart at f =
-        let same : c ≡ b = cc in
-        let there = contained old place b (at ∙ ap Some same) in
-        record { there = there; text_is = kept b there p (ap (λ (x : BuiltProc). x.name) (sym same) ∙ (bytes_eq-Decides c.name p.name).0 q) apart }
-    at_test c false q apart at f = absurd (cc)
-
-    by : (s : Bool) → is_own m d p ≡ s → (o : Option BuiltProc) → slice_get old place ≡ o → Some b ≡ cond s None (having_name o p.name) → IsFound old (depends m p) b
-    by true own o at f = absurd (cc)
-    by false own None at f = absurd (cc)
-    by false own (Some c) at f = at_test c (bytes_eq c.name p.name) refl own at f
-
-stands_found : (bs : List BuiltProc) (text : List ℕ) (b : BuiltProc) → Contains bs b → text ≡ b.depends → stands_in bs text ≡ true
+-- a text that a procedure has stands in one
+pub stands_found : (bs : List BuiltProc) (text : List ℕ) (b : BuiltProc) → Contains bs b → text ≡ b.depends → stands_in bs text ≡ true
 stands_found [] text b c e = absurd (contains_none b c)
 stands_found (x ∷ bs) text b c e = elim (contains_cases x bs b c) [
   | inl same ↦ or_left (bytes_eq text x.depends) (stands_in bs text) ((bytes_eq-Decides text x.depends).1 (e ∙ ap (λ (y : BuiltProc). y.depends) (sym same)))
   | inr later ↦ or_right (bytes_eq text x.depends) (stands_in bs text) (stands_found bs text b later e)
 ]
-
-module _ (old : List BuiltProc) (m : Module) (but : Option ℕ) (kept : KeptBut old m but) (p : Proc) (place : ℕ) (b : BuiltProc) (found : Some b ≡ unread old place m but p) where
-  pub unread_text : b.depends ≡ depends m p
-  unread_text = sym (unread_is old m but kept p place b found).text_is
-
-  pub unread_same : TextsDecide old m → Contains m.procs p → is_some p.body ≡ true → SameObligations b.goals (goals_by_passes m p)
-  unread_same decided there body = let f = unread_is old m but kept p place b found in decided p there body b f.there f.text_is
-
-  pub unread_is_kept : false ≡ is_new old (kept_of m p)
-  unread_is_kept = let f = unread_is old m but kept p place b found in sym (ap not (stands_found old (depends m p) b f.there f.text_is))
-
-  pub unread_no_step : (n : ℕ) → n ≡ n + cond (is_new old (kept_of m p)) 1 0
-  unread_no_step n = no_step (is_new old (kept_of m p)) (sym unread_is_kept) n

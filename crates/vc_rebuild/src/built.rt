@@ -17,6 +17,14 @@ pub struct Built {
     turns: u64,
 }
 
+/// What is built of a program after an edit, and the place of the one procedure that is another one than
+/// before, where no other one is and this is known.
+#[derive(Drop)]
+pub struct Rebuilt {
+    pub built: Built,
+    pub place: Option<usize>,
+}
+
 impl Model for Built {
     ghost use Rattle.vc_rebuild.specs.Kept.{Program};
     ghost use Rattle.vc_rebuild.specs.Inside.{AreBuilt};

@@ -49,7 +49,7 @@ fn first_with<'a>(procs: &'a [BuiltProc], text: &[u8]) -> Option<&'a BuiltProc>
     None
 }
 
-pub(crate) fn proc_at(procs: &[BuiltProc], at: usize) -> Option<&BuiltProc>
+fn proc_at(procs: &[BuiltProc], at: usize) -> Option<&BuiltProc>
     ensures { option_map (λ b. b.now) result ≡ slice_get procs.now at }
 {
     procs.get(at)
@@ -122,26 +122,14 @@ pub fn candidate<'a>(before: &Before<'a>, text: &DigestedText) -> Option<&'a Bui
     found_by(&before.digests, before.built.procs(), text)
 }
 
-/// What was built before, to be looked at; few texts are looked for where one body alone is another one.
-pub fn looked_at<'a>(
-    alloc: Global,
-    built: &'a Built,
-    but: Option<u64>,
-) -> Result<Before<'a>, AllocError>
+/// What was built before, to be looked at.
+pub fn looked_at<'a>(alloc: Global, built: &'a Built) -> Result<Before<'a>, AllocError>
     ensures before { IfOk result IsBefore }
     ensures same { IfOk result (λ b. b.built.now ≡ built.now) }
 {
-    match but {
-        Some(_) => Ok(Before {
-            built,
-            digests: None,
-        }),
-        None => {
-            let found = digests(alloc, built.procs())?;
-            Ok(Before {
-                built,
-                digests: Some(found),
-            })
-        }
-    }
+    let found = digests(alloc, built.procs())?;
+    Ok(Before {
+        built,
+        digests: Some(found),
+    })
 }

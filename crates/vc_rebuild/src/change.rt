@@ -1,20 +1,17 @@
-// The body of one declaration, and procedures whose dependency text needn't be read where it alone is
-// another one.
-ghost use Rattle.std.specs.Prelude.{◌≡◌, ℕ, ◌++◌, ◌||◌, true, codes, bytes_eq, option_map, slice_get, IfOk};
+// A declaration whose body alone is another one.
+ghost use Rattle.std.specs.Prelude.{◌≡◌, ◌≤◌, ℕ, ◌&&◌, true, cond, is_some, option_map, slice_get, slice_set, bytes_eq};
 ghost use Rattle.bpl_model.specs.Module.{Proc as proc_of, with_procedure};
-ghost use Rattle.vc_rebuild.specs.Change.{HasHeadOf, DiffersAt, having_name, is_own, unread};
+ghost use Rattle.vc_build.specs.Rebuild.{built};
+ghost use Rattle.vc_rebuild.specs.Change.{HasHeadOf, DiffersAt, AreAlike, IsPutAt, IsChangedBody, IsChangedAt, is_checked, checked_requires};
 
-use crate::candidate::{Before, proc_at};
-use crate::kept::BuiltProc;
-use crate::text::texts_of;
-use bpl_model::declarations::{name_at, own_name};
-use bpl_model::{DeclText, Links, Module, Proc};
-use std::alloc::{AllocError, Global};
+use bpl_model::{DeclText, Module, Proc, Spec, SpecForm};
+use vc_build::procedure::procedure_at;
 
-fn same_bytes(first: &[u8], second: &[u8]) -> bool
-    ensures { result ≡ bytes_eq first.now second.now }
-{
-    first == second
+/// The body of a declaration: where this stands, and the number of the procedure that has the body.
+#[derive(Clone, Copy)]
+pub struct ChangedBody {
+    pub decl_at: usize,
+    pub proc_at: usize,
 }
 
 fn same_positions(first: &[u64], second: &[u64]) -> bool
@@ -98,9 +95,9 @@ fn text_before(texts: &[DeclText], at: usize) -> Option<&DeclText>
     texts.get(at)
 }
 
-/// Whether with these texts in the place of those of a declaration, and whichever procedure in whichever
-/// place, the module is the same but for procedures and the declaration's whole text.
-pub fn changes_body(typed: &Module, at: usize, text: &DeclText) -> bool
+// Whether with these texts in the place of those of a declaration, and whichever procedure in whichever
+// place, the module is the same but for procedures and the declaration's whole text.
+fn has_head_at(typed: &Module, at: usize, text: &DeclText) -> bool
     ensures { result ≡ true → (k : ℕ) (p : proc_of) → DiffersAt at typed.now (with_procedure k p at text.now typed.now) }
 {
     match text_before(texts_in(typed), at) {
@@ -109,75 +106,123 @@ pub fn changes_body(typed: &Module, at: usize, text: &DeclText) -> bool
     }
 }
 
-// The procedure before at this place, if it has the name.
-fn named_at<'a>(before: &Before<'a>, place: usize, proc: &Proc) -> Option<&'a BuiltProc>
-    ensures { option_map (λ b. b.now) result ≡ having_name (slice_get before.now.built.now.procs place) proc.now.name }
+// Whether calls check the clause.
+fn is_checked(spec: &Spec) -> bool
+    ensures { result ≡ is_checked spec.now }
 {
-    match proc_at(before.built.procs(), place) {
-        None => None,
-        Some(found) => if has_name(found, proc) {
-            Some(found)
-        } else {
-            None
-        },
+    match &spec.form {
+        SpecForm::Requires(free, _, _) => !*free,
+        SpecForm::Ensures(_, _, _) => false,
+        SpecForm::Modifies(_) => false,
     }
 }
 
-/// Whether the procedure has this one's name.
-pub fn has_name(kept: &BuiltProc, proc: &Proc) -> bool
-    ensures { result ≡ bytes_eq kept.now.name proc.now.name }
+// One, if they do.
+fn counted(spec: &Spec) -> usize
+    ensures told { result ≡ cond (is_checked spec.now) 1 0 }
+    ensures most { result ≤ 1 }
 {
-    kept.name().as_bytes() == proc.name.as_bytes()
+    if is_checked(spec) { 1 } else { 0 }
 }
 
-fn name_of(proc: &Proc) -> &[u8]
-    ensures { result.now ≡ proc.now.name }
+// How many of the clauses calls check.
+fn checked_requires(specs: &[Spec]) -> usize
+    ensures { result ≡ checked_requires specs.now }
 {
-    proc.name.as_bytes()
+    let mut count = 0;
+    for i in 0..specs.len() {
+        let spec = &specs[i];
+        count += counted(spec);
+    }
+    count
 }
 
-// Whether the name is one of the two.
-fn is_either(first: &[u8], second: &[u8], name: &[u8]) -> bool
-    ensures { result ≡ (bytes_eq first.now name.now || bytes_eq second.now name.now) }
+fn specs_of(proc: &Proc) -> &[Spec]
+    ensures { result.now ≡ proc.now.specs }
 {
-    same_bytes(first, name) || same_bytes(second, name)
+    proc.specs.as_slice()
 }
 
-// Whether the name is that of the procedure or of its implementation.
-fn names_it(alloc: Global, proc: &Proc, name: &[u8]) -> Result<bool, AllocError>
-    ensures { IfOk result (λ b. b ≡ (bytes_eq proc.now.name name.now || bytes_eq (codes "implementation " ++ proc.now.name) name.now)) }
+fn same_number(first: usize, second: usize) -> bool
+    ensures { result ≡ true → first ≡ second }
 {
-    let called = name_of(proc);
-    let own = own_name(alloc, called)?;
-    Ok(is_either(called, own.as_slice(), name))
+    first == second
 }
 
-// Whether the declaration is the procedure's, or its implementation.
-fn is_own(alloc: Global, links: &Links<'_>, d: u64, proc: &Proc) -> Result<bool, AllocError>
-    ensures { IfOk result (λ b. b ≡ is_own links.now d proc.now) }
+// Whether calls check as many clauses of the one as of the other.
+fn check_as_many(old: &Proc, new: &Proc) -> bool
+    ensures { result ≡ true → checked_requires old.now.specs ≡ checked_requires new.now.specs }
 {
-    let own = names_it(alloc, proc, name_at(texts_of(links), d))?;
-    Ok(own)
+    let before = checked_requires(specs_of(old));
+    let after = checked_requires(specs_of(new));
+    same_number(before, after)
 }
 
-/// The procedure before at this place, if it has the name, and the declaration whose body alone has
-/// changed is not the procedure's: it has the procedure's dependency text.
-pub fn unread<'a>(
-    alloc: Global,
-    before: &Before<'a>,
-    place: usize,
-    but: Option<u64>,
-    links: &Links<'_>,
+/// Whether the procedure has a body.
+pub fn has_body(proc: &Proc) -> bool
+    ensures { result ≡ is_some proc.now.body }
+{
+    match &proc.body {
+        None => false,
+        Some(_) => true,
+    }
+}
+
+fn have_bodies(old: &Proc, new: &Proc) -> bool
+    ensures { result ≡ (is_some old.now.body && is_some new.now.body) }
+{
+    has_body(old) && has_body(new)
+}
+
+// Whether both have a body, and calls of both have the same marks.
+fn are_alike(old: &Proc, new: &Proc) -> bool
+    ensures { result ≡ true → AreAlike old.now new.now }
+{
+    if !have_bodies(old, new) {
+        return false;
+    }
+    check_as_many(old, new)
+}
+
+// The procedure of this number, if there is one.
+fn procedure_in(typed: &Module, at: usize) -> Option<&Proc>
+    ensures { option_map (λ p. p.now) result ≡ slice_get typed.now.procs at }
+{
+    procedure_at(typed.parts(), at)
+}
+
+// Whether the procedure is like the one in whose place it comes.
+fn is_put_for(typed: &Module, at: usize, proc: &Proc) -> bool
+    ensures { result ≡ true → IsPutAt at typed.now.procs (slice_set typed.now.procs at proc.now) }
+{
+    match procedure_in(typed, at) {
+        None => false,
+        Some(old) => are_alike(old, proc),
+    }
+}
+
+// Whether with this procedure and these texts in their places the module is the same, but for the body.
+fn changes_body(typed: &Module, body: ChangedBody, proc: &Proc, text: &DeclText) -> bool
+    ensures { result ≡ true → IsChangedBody body (built typed.now) (with_procedure body.proc_at proc.now body.decl_at text.now typed.now) }
+{
+    if !has_head_at(typed, body.decl_at, text) {
+        return false;
+    }
+    is_put_for(typed, body.proc_at, proc)
+}
+
+/// The body, if with this procedure and these texts in their places it alone is another one in the
+/// module.
+pub fn changed_body(
+    typed: &Module,
+    body: ChangedBody,
     proc: &Proc,
-) -> Result<Option<&'a BuiltProc>, AllocError>
-    ensures { IfOk result (λ o. option_map (λ b. b.now) o ≡ unread before.now.built.now.procs place links.now but proc.now) }
+    text: &DeclText,
+) -> Option<ChangedBody>
+    ensures { IsChangedAt result (built typed.now) (with_procedure body.proc_at proc.now body.decl_at text.now typed.now) }
 {
-    match but {
-        None => Ok(None),
-        Some(d) => if is_own(alloc, links, d, proc)? {
-            Ok(None)
-        } else {
-            Ok(named_at(before, place, proc))
-        },
+    if !changes_body(typed, body, proc, text) {
+        return None;
     }
+    Some(body)
 }

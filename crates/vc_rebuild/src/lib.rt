@@ -16,16 +16,20 @@ pub mod built;
 pub mod kept;
 pub mod shared;
 
+// A body that alone is another one.
+mod apart;
+pub mod change;
+
 // A procedure kept or built, and then a program.
 mod candidate;
-mod change;
 mod collected;
 mod large;
 mod procedure;
 pub mod program;
+mod put_body;
 
-pub use built::Built;
-pub use change::changes_body;
+pub use built::{Built, Rebuilt};
+pub use change::{ChangedBody, changed_body};
 pub use kept::BuiltProc;
 pub use program::{rebuild, rebuild_changed, texts_fix_obligations};
 pub use shared::KeptGoal;

@@ -7,10 +7,8 @@ ghost use Rattle.vc_build.specs.Goals.{goals_by_passes};
 ghost use Rattle.vc_rebuild.specs.Kept.{kept_of, is_new};
 ghost use Rattle.vc_rebuild.specs.Inside.{SameObligations, TextsDecide};
 ghost use Rattle.vc_rebuild.specs.Looked.{IsBefore};
-ghost use Rattle.vc_rebuild.specs.Change.{KeptBut};
 
 use crate::candidate::{Before, candidate, there};
-use crate::change::{has_name, unread};
 use crate::digest::DigestedText;
 use crate::kept::BuiltProc;
 use crate::shared::{KeptGoal, share_all};
@@ -86,6 +84,13 @@ fn kept_proc(
 {
     let shared = Arc::try_clone(kept.sharing())?;
     Ok(with_marks(alloc, links, proc, text, shared)?)
+}
+
+// Whether it has this one's name.
+fn has_name(kept: &BuiltProc, proc: &Proc) -> bool
+    ensures { result ≡ bytes_eq kept.now.name proc.now.name }
+{
+    kept.name().as_bytes() == proc.name.as_bytes()
 }
 
 // Whether its goals have these marks.
@@ -185,10 +190,10 @@ fn with_text<L: Ledger>(
     }
 }
 
-// The procedure, by its dependency text. Whichever procedure before has it has its obligations. As a rule
-// it is the procedure at this place, whose text is looked at first.
+/// The procedure, which has a body, with its goals. Whichever procedure before has its dependency text has
+/// its obligations; as a rule it is the procedure at this place, whose text is looked at first.
 #[tactic(auto, using(crate::proofs::KeptGoals::same_as_there, crate::proofs::KeptGoals::text_there))]
-fn made_by_text<L: Ledger>(
+pub fn made_proc<L: Ledger>(
     alloc: Global,
     before: &Before<'_>,
     place: usize,
@@ -216,37 +221,5 @@ fn made_by_text<L: Ledger>(
             let text = DigestedText::of(alloc, text)?;
             with_text(alloc, before, links, proc, text, steps)
         }
-    }
-}
-
-/// The procedure, which has a body, with its goals. Where one declaration's body alone has changed, and
-/// it is another's, it is kept of the procedure at this place, if that has its name; its text isn't read.
-pub fn made_proc<L: Ledger>(
-    alloc: Global,
-    before: &Before<'_>,
-    place: usize,
-    but: Option<u64>,
-    links: &Links<'_>,
-    proc: &Proc,
-    steps: &mut Steps<L>,
-) -> Result<MadeProc, BuildFault>
-    requires there { Contains links.now.procs proc.now }
-    requires no_goto { BodyHasNoGoto proc.now.body }
-    requires body { IsSome proc.now.body }
-    requires before { IsBefore before.now }
-    requires decided { TextsDecide before.now.built.now.procs links.now }
-    requires kept { KeptBut before.now.built.now.procs links.now but }
-    ensures built { IfOk result (λ r. r.built ≡ kept_of links.now proc.now) }
-    ensures told { IfOk result (λ r. r.is_new ≡ is_new before.now.built.now.procs (kept_of links.now proc.now)) }
-    ensures steps { OnOk result (steps.new ≡ steps.old + cond (is_new before.now.built.now.procs (kept_of links.now proc.now)) 1 0) }
-{
-    let found = unread(alloc, before, place, but, links, proc)?;
-    match found {
-        Some(kept) => {
-            let is_new = false;
-            let built = kept_there(alloc, links, proc, kept)?;
-            Ok(MadeProc { built, is_new })
-        }
-        None => made_by_text(alloc, before, place, links, proc, steps),
     }
 }

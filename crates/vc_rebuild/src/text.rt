@@ -17,6 +17,13 @@ pub(crate) fn texts_of<'a>(links: &'a Links<'_>) -> &'a [DeclText]
     links.parts().texts.as_slice()
 }
 
+/// Its procedures.
+pub(crate) fn procs_of<'a>(links: &'a Links<'_>) -> &'a [Proc]
+    ensures { result.now ≡ links.now.procs }
+{
+    links.parts().procs.as_slice()
+}
+
 // The canonical text of the declaration at a position; empty where there is none.
 fn text_of(texts: &[DeclText], d: u64) -> &[u8]
     ensures { result.now ≡ (text_at texts.now d).text }

@@ -1,5 +1,13 @@
-use Rattle.vc_rebuild.proofs.Heads.{differs_got}
+use Rattle.std.proofs.Common.{refl, sym, true≢false}
 use Rattle.vc_rebuild.proofs.change.changes_body.Goals as goal
 
-pub returns-in-Some : goal.returns-in-Some
-returns-in-Some c told = differs_got c.args.typed.now c.args.at c.texts_in.result.now c.in-Some.old.now c.args.text.now c.texts_in.ensures c.in-Some.ensures (c.has_head_of.ensures told)
+pub returns-then-not-has_head_at : goal.returns-then-not-has_head_at
+returns-then-not-has_head_at c told = absurd (true≢false (sym told))
+
+pub returns : goal.returns
+returns c told = record {
+  before = c.args.typed.now;
+  are = refl;
+  differs = c.has_head_at.ensures c.if-not-has_head_at.false c.args.body.proc_at c.args.proc.now;
+  put = c.is_put_for.ensures told;
+}

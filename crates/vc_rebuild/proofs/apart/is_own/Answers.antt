@@ -1,7 +1,7 @@
 use Rattle.std.proofs.Common.{◌∙◌, ◌++◌, ap, bytes_eq}
 use Rattle.std.specs.Prelude.{codes, ◌||◌}
 use Rattle.bpl_model.specs.Walk.{text_at}
-use Rattle.vc_rebuild.proofs.change.is_own.Goals as goal
+use Rattle.vc_rebuild.proofs.apart.is_own.Goals as goal
 
 pub returns : goal.returns
 returns c =

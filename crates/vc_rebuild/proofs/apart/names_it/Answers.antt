@@ -1,6 +1,6 @@
 use Rattle.std.proofs.Common.{◌∙◌, ◌++◌, ap, bytes_eq}
 use Rattle.std.specs.Prelude.{codes, ◌||◌}
-use Rattle.vc_rebuild.proofs.change.names_it.Goals as goal
+use Rattle.vc_rebuild.proofs.apart.names_it.Goals as goal
 
 pub returns : goal.returns
 returns c =
