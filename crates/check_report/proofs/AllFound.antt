@@ -6,7 +6,7 @@ use Rattle.tableau.specs.declared.ended.Verdict.{Verdict}
 use Rattle.tableau.specs.RunView.{verdict_of}
 use Rattle.tableau.specs.Search.{is_proved}
 use Rattle.program_opening.specs.ProcGoals.{ProcGoals}
-use Rattle.check_report.specs.Scratch.{verdicts, all_proved}
+use Rattle.report_laws.specs.Scratch.{verdicts, all_proved}
 
 pub all_by_parts : (turns : ℕ) (found : List (Vec Verdict Global)) (ps : List ProcGoals) → map (λ vs. map verdict_of vs.items) found ≡ map (λ p. verdicts turns p.goals) ps
     → list_all (λ vs. list_all is_proved (map verdict_of vs.items)) found ≡ all_proved turns ps

@@ -6,14 +6,15 @@ use Rattle.board_core.specs.Kept.{Key}
 use Rattle.tableau.specs.Settled.{Settled, settled_by}
 use Rattle.vc_build.specs.declared.goal.Goal.{Goal}
 use Rattle.program_opening.specs.ProcGoals.{ProcGoals}
-use Rattle.check_report.specs.Scratch.{verdict_on, verdicts}
+use Rattle.report_laws.specs.Scratch.{verdict_on, verdicts}
 use Rattle.board_core.specs.Board.{Reply, open_keys, no_memory, memory}
 use Rattle.goal_board.specs.Calls.{Board, BoardCall, made}
 use Rattle.goal_board.specs.Laws.{OthersDecideNothing}
 use Rattle.goal_board.specs.Made.{AreMade, AreSettled, AreWork}
 use Rattle.goal_board.specs.Working.{Settling, Working, IsGathered, IsWork}
 use Rattle.goal_board.specs.Working as working
-use Rattle.check_report.specs.Summary.{verdicts_on}
+use Rattle.report_laws.specs.Summary.{verdicts_on}
+use Rattle.report_laws.proofs.Mapped.{map_map}
 use Rattle.check_report.specs.Questions.{question_on, questions_on, open_questions, AreAnswered, AreStarved}
 
 -- ---- the verdicts
@@ -28,10 +29,6 @@ verdicts_are turns (p ∷ ps) =
     ap (map (λ (a : Settled). a.verdict)) (map-append settled_by (map (question_on turns) p.goals) (questions_on turns ps))
     ∙ map-append (λ (a : Settled). a.verdict) (map settled_by (map (question_on turns) p.goals)) (map settled_by (questions_on turns ps))
     ∙ (λ i. its_verdicts turns p.goals i ++ verdicts_are turns ps i)
-
-pub map_map : {A B C : Type 0} (f : A → B) (g : B → C) (xs : List A) → map g (map f xs) ≡ map (λ x. g (f x)) xs
-map_map f g [] = refl
-map_map f g (x ∷ xs) = ap (λ ys. g (f x) ∷ ys) (map_map f g xs)
 
 -- of answers to the questions
 pub verdicts_by_answers : {X : Type 0} (value : X → Settled) (turns : ℕ) (ps : List ProcGoals) (xs : List X) → map value xs ≡ map settled_by (questions_on turns ps) → map (λ x. (value x).verdict) xs ≡ verdicts_on turns ps

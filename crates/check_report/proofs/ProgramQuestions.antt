@@ -1,21 +1,13 @@
 -- The questions of the procedures that have a body are those of all goals of the program.
-use Rattle.std.proofs.Common.{◌≡◌, ◌∙◌, refl, sym, ap, ℕ, cond, is_some, List, [], ◌∷◌, ◌++◌, map, filter, Option, Some, None, option_map}
+use Rattle.std.proofs.Common.{◌≡◌, ◌∙◌, refl, sym, ap, ℕ, cond, is_some, List, [], ◌∷◌, ◌++◌, map, filter, Option, Some, None}
 use Rattle.std.specs.Prelude.{flat_map}
-use Rattle.std.proofs.lemmas.List.{map-append}
 use Rattle.bpl_model.specs.Module.{Stmts, Proc, Module}
-use Rattle.bpl_goto.specs.Removed.{body_without, removed, remove_gotos}
-use Rattle.vc_build.specs.Goals.{goals, goals_with_body}
+use Rattle.vc_build.specs.Goals.{goals}
 use Rattle.vc_build.specs.Large.{program_goals}
 use Rattle.program_opening.specs.ProcGoals.{goals_of_proc, goals_by_proc}
+use Rattle.report_laws.proofs.Mapped.{map_flat}
+use Rattle.report_laws.proofs.WithoutBody.{no_goals}
 use Rattle.check_report.specs.Questions.{question_on, questions_on}
-
-pub map_flat : {A B C : Type 0} (f : A → List B) (g : B → C) (xs : List A) → map g (flat_map f xs) ≡ flat_map (λ x. map g (f x)) xs
-map_flat f g [] = refl
-map_flat f g (x ∷ xs) = map-append g (f x) (flat_map f xs) ∙ ap (λ ys. map g (f x) ++ ys) (map_flat f g xs)
-
--- a procedure without a body has no goals
-pub no_goals : (m : Module) (p : Proc) → p.body ≡ None → goals m p ≡ []
-no_goals m p e = λ i. goals_with_body (remove_gotos m) (removed p) (option_map body_without (e i))
 
 of_bodies : (turns : ℕ) (m : Module) (ps : List Proc) → questions_on turns (map (goals_of_proc m) (filter (λ (p : Proc). is_some p.body) ps)) ≡ flat_map (λ (p : Proc). map (question_on turns) (goals m p)) ps
 of_bodies turns m [] = refl

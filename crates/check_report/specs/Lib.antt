@@ -1,6 +1,1 @@
-pub mod Scratch
-pub mod Called
-pub mod Sound
-pub mod Summary
 pub mod Questions
-pub mod Worth

@@ -8,7 +8,7 @@ use Rattle.board_core.specs.Board.{Reply, open_keys}
 use Rattle.goal_board.specs.Calls.{BoardCall, made}
 use Rattle.goal_board.specs.Found.{found}
 use Rattle.goal_board.specs.Working.{IsGathered, IsWork}
-use Rattle.check_report.specs.Summary.{verdicts_on}
+use Rattle.report_laws.specs.Summary.{verdicts_on}
 
 -- whether the goal is proved in so many turns
 abbrev pub question_on : ℕ → Goal → Asked

@@ -6,7 +6,7 @@ ghost use Rattle.tableau.specs.Settled.{settled_by};
 ghost use Rattle.obligation_text.specs.Asked.{key_of};
 ghost use Rattle.goal_board.specs.Calls.{made};
 ghost use Rattle.goal_board.specs.Made.{AreMade};
-ghost use Rattle.check_report.specs.Summary.{verdicts_on};
+ghost use Rattle.report_laws.specs.Summary.{verdicts_on};
 ghost use Rattle.check_report.specs.Questions.{questions_on, AreAnswered, AreStarved};
 
 use crate::questions::{questions, verdicts_of};

@@ -1,7 +1,7 @@
 // How many goals have each verdict.
 ghost use Rattle.std.specs.Prelude.{◌≡◌, map, true, count_by, IfOk};
 ghost use Rattle.tableau.specs.RunView.{verdict_of};
-ghost use Rattle.check_report.specs.Summary.{is_verdict, number_of, verdicts_on};
+ghost use Rattle.report_laws.specs.Summary.{is_verdict, number_of, verdicts_on};
 
 use crate::verdicts::verdicts;
 use clause_search::search::Searcher;

@@ -1,8 +1,7 @@
 //! The report on a program: each goal is searched with the same turns, and the lines
-//! say what was found. `report` gives exactly the report from scratch, and a procedure that its bytes
-//! call correct is safe. Of a generated program one line says how many goals have each verdict:
-//! `sum_up` gives exactly that line, and whether every goal is proved; `sum_up_on` does so by a board
-//! on which workers search too.
+//! say what was found. `report` gives exactly the report from scratch. Of a generated program one line
+//! says how many goals have each verdict: `sum_up` gives exactly that line, and whether every goal is
+//! proved; `sum_up_on` does so by a board on which workers search too.
 #![tactic(auto)]
 
 // What the search says of goals.
@@ -10,9 +9,6 @@ pub mod verdicts;
 
 // The report on a program.
 pub mod reports;
-
-// What a report is worth.
-pub mod laws;
 
 // How many goals have each verdict.
 mod counts;
@@ -23,9 +19,6 @@ mod questions;
 
 // The summary of a generated program.
 pub mod summing;
-
-// What it is worth.
-pub mod generated_laws;
 
 pub use reports::{Reported, report};
 pub use summing::{Drawn, Summary, sum_up, sum_up_on};

@@ -4,7 +4,7 @@ ghost use Rattle.std.specs.List.{list_all};
 ghost use Rattle.tableau.specs.RunView.{verdict_of};
 ghost use Rattle.tableau.specs.Search.{is_proved};
 ghost use Rattle.bv_base.specs.Text.{text_of};
-ghost use Rattle.check_report.specs.Scratch.{lines_on, all_proved};
+ghost use Rattle.report_laws.specs.Scratch.{lines_on, all_proved};
 
 use crate::verdicts::{marks, verdicts};
 use clause_search::search::Searcher;

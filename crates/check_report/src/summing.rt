@@ -3,7 +3,7 @@ ghost use Rattle.std.specs.Prelude.{◌≡◌, ◌≢◌, ◌++◌, map, length,
 ghost use Rattle.std.specs.List.{list_all};
 ghost use Rattle.tableau.specs.RunView.{verdict_of};
 ghost use Rattle.tableau.specs.Search.{is_proved};
-ghost use Rattle.check_report.specs.Summary.{drawn_part, verdicts_part, summary, verdicts_on};
+ghost use Rattle.report_laws.specs.Summary.{drawn_part, verdicts_part, summary, verdicts_on};
 ghost use Rattle.check_report.specs.Questions.{AreAnswered, AreStarved};
 
 use crate::answering::verdicts_by;

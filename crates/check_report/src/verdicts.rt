@@ -1,7 +1,7 @@
 // What the search says of goals.
 ghost use Rattle.std.specs.Prelude.{◌≡◌, map, IfOk};
 ghost use Rattle.tableau.specs.RunView.{verdict_of};
-ghost use Rattle.check_report.specs.Scratch.{verdict_on, verdicts};
+ghost use Rattle.report_laws.specs.Scratch.{verdict_on, verdicts};
 
 use bpl_model::Mark;
 use clause_search::search::Searcher;

@@ -1,7 +1,6 @@
 -- A session alone: its calls on a board of its own, as any session's.
 use Rattle.std.proofs.Common.{◌≡◌, ◌⊎◌, ◌∙◌, refl, sym, subst, IsTrue, List, [], ◌∷◌, ◌++◌, map, Option, inl, Result, Ok, Err}
 use Rattle.std.specs.Prelude.{OnErr}
-use Rattle.goal_board.proofs.Rounds.{settled_works}
 use Rattle.tableau.specs.Settled.{Settled, IsRight, settled_by}
 use Rattle.board_core.specs.Kept.{kept_at}
 use Rattle.board_core.specs.Board.{gather, gathered, no_memory, memory}
@@ -12,7 +11,7 @@ use Rattle.goal_board.specs.Rests.{IsSettled}
 use Rattle.goal_board.specs.Between.{Merged, nothing, from_own}
 use Rattle.goal_board.specs.Working.{Working, Settling, IsGathered, IsWork, shows_all}
 use Rattle.goal_board.specs.Working as working
-use Rattle.goal_board.specs.Made.{AreMade, AreSettled, AreWork}
+use Rattle.goal_board.specs.Made.{AreMade, AreSettled}
 use Rattle.goal_board.specs.Found.{found}
 use Rattle.goal_board.specs.Laws.{PlaysAreBetween, SettledAlone, WorkedAlone, SteppedAlone}
 use Rattle.goal_board.proofs.Played.{plays_more}
@@ -76,6 +75,3 @@ on_any_err (Err e) y = y
 
 pub unopened : (s t : Board) → t ≡ s → AreMade 0 s [] t [] [] ⊎ AreMade 0 s [] t [] (made no_memory memory ∷ [])
 unopened s t same = inl (made_alone s t [] [] [] (sym same))
-
-pub settled_work : (s t : Board) → IsSettled s t → AreWork 0 s [] t []
-settled_work s t h = worked_alone s t [] [] (settled_works s t h)

@@ -1,11 +1,6 @@
 pub mod Played
-pub mod Claims
-pub mod Rounds
-pub mod Nexts
 pub mod Shown
 pub mod Betweens
 pub mod Gathering
 pub mod ByItself
 pub mod Making
-pub mod Recalled
-pub mod Standing

@@ -1,8 +1,9 @@
 -- The kept answers of all goals are the search's to their questions.
-use Rattle.std.proofs.Common.{◌≡◌, ◌∙◌, refl, ap, subst, Bool, true, false, ◌||◌, cond, IsTrue, List, [], ◌∷◌, ◌++◌, map, find, Option, Some, None, bytes_eq}
+use Rattle.std.proofs.Common.{◌≡◌, ◌∙◌, refl, sym, ap, subst, append_assoc, ℕ, ◌+◌, ◌<◌, Bool, true, false, ◌||◌, cond, IsTrue, List, [], ◌∷◌, ◌++◌, map, find, drop, length, get_or, Option, Some, None, bytes_eq}
 use Rattle.std.specs.List.{list_all}
 use Rattle.std.specs.Option.{option_map}
 use Rattle.logic_core.proofs.Booleans.{both_true}
+use Rattle.tableau_branch.proofs.Lists.{drop_item}
 use Rattle.obligation_text.specs.Asked.{Asked, key_of, KeysTellApart}
 use Rattle.tableau.specs.Settled.{Settled, IsRight, settled_by}
 use Rattle.bv_base.specs.Text.{is_among}
@@ -46,6 +47,15 @@ all_shown apart es (k ∷ ks) (q ∷ qs) same all right =
 pub found_next : {A : Type 0} (x : Option A) (xs : List (Option A)) → found (x ∷ xs) ≡ found (x ∷ []) ++ found xs
 found_next None xs = refl
 found_next (Some a) xs = refl
+
+-- what is found so far, behind which the next comes where it is there
+pub found_pushed : {X A : Type 0} (value : X → A) (xs : List (Option X)) (i : ℕ) (x : Option X) (before after : List X) (total : List A) → i < length xs → x ≡ get_or xs i x → map value after ≡ map value before ++ found (option_map value x ∷ [])
+    → map value before ++ found (map (option_map value) (drop i xs)) ≡ total → map value after ++ found (map (option_map value) (drop (i + 1) xs)) ≡ total
+found_pushed value xs i x before after total within is step made =
+    let rest = map (option_map value) (drop (i + 1) xs) in
+    ap (λ w. w ++ found rest) step ∙ append_assoc (map value before) (found (option_map value x ∷ [])) (found rest)
+    ∙ ap (λ w. map value before ++ w) (sym (found_next (option_map value x) rest))
+    ∙ ap (λ l. map value before ++ found (map (option_map value) l)) (sym (drop_item xs i x within is)) ∙ made
 
 -- what a gather shows where every goal has an answer
 pub answers_are : KeysTellApart → (s : Board) (qs : List Asked) (xs : List (Option Settled)) → gathered xs ≡ reply s gather → ShowsRight Settled answer_key IsRight s.present xs

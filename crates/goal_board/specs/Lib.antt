@@ -1,11 +1,8 @@
 pub mod Calls
 pub mod Found
 pub mod Rests
-pub mod Rounds
-pub mod SoFar
 pub mod Between
 pub mod Working
 pub mod Laws
 pub mod Made
 pub mod Codes
-pub mod Standing

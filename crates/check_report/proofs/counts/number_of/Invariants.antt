@@ -1,6 +1,6 @@
 use Rattle.std.proofs.Common.{◌≡◌, ◌≤◌, ◌+◌, map, drop}
 use Rattle.tableau.specs.RunView.{verdict_of}
-use Rattle.check_report.specs.Summary.{number_of}
+use Rattle.report_laws.specs.Summary.{number_of}
 use Rattle.check_report.proofs.counts.number_of.Given as goal
 
 -- with those that are left come all

@@ -1,6 +1,6 @@
 use Rattle.std.proofs.Common.{◌≡◌, map, take}
 use Rattle.tableau.specs.RunView.{verdict_of}
-use Rattle.check_report.specs.Summary.{verdicts_on}
+use Rattle.report_laws.specs.Summary.{verdicts_on}
 use Rattle.check_report.proofs.counts.verdicts_on.Given as goal
 
 abbrev pub invariant-loop-proc : goal.invariant-loop-proc

@@ -5,7 +5,7 @@ use Rattle.tableau.specs.declared.ended.Verdict.{Verdict}
 use Rattle.tableau.specs.RunView.{verdict_of}
 use Rattle.tableau.specs.Search.{is_proved}
 use Rattle.program_opening.specs.ProcGoals.{ProcGoals}
-use Rattle.check_report.specs.Scratch.{verdicts}
+use Rattle.report_laws.specs.Scratch.{verdicts}
 use Rattle.check_report.proofs.AllFound.{all_by_parts}
 use Rattle.check_report.proofs.reports.report.Goals as goal
 

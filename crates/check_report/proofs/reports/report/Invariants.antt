@@ -1,6 +1,6 @@
 use Rattle.std.proofs.Common.{◌≡◌, map, take, string_bytes}
 use Rattle.tableau.specs.RunView.{verdict_of}
-use Rattle.check_report.specs.Scratch.{verdicts}
+use Rattle.report_laws.specs.Scratch.{verdicts}
 use Rattle.check_report.proofs.reports.report.Given as goal
 
 abbrev pub invariant-loop-proc : goal.invariant-loop-proc

@@ -1,6 +1,6 @@
 use Rattle.std.proofs.Common.{◌≡◌, map, take}
 use Rattle.tableau.specs.RunView.{verdict_of}
-use Rattle.check_report.specs.Scratch.{verdict_on}
+use Rattle.report_laws.specs.Scratch.{verdict_on}
 use Rattle.check_report.proofs.verdicts.verdicts.Given as goal
 
 abbrev pub invariant-loop-goal : goal.invariant-loop-goal

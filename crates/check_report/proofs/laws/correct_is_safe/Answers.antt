@@ -1,5 +1,0 @@
-use Rattle.check_report.proofs.CorrectProcs.{correct_is_safe as law}
-use Rattle.check_report.proofs.laws.correct_is_safe.Goals as goal
-
-pub returns : goal.returns
-returns c = law c.declared_correct_is_safe.ensures

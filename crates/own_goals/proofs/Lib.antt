@@ -1,0 +1,5 @@
+mod Claims
+mod Rounds
+mod Nexts
+mod Recalled
+mod Standing
