@@ -13,10 +13,7 @@ use std::rt::Env;
 
 /// The words after the program's name.
 fn words_of(rt: &(impl Env + AllocGlobal)) -> io::Result<Vec<String>> {
-    let mut words = Vec::new(rt.alloc());
-    for word in env::args(rt)?.skip(1) {
-        words.push(word)?;
-    }
+    let words = env::args(rt)?.skip(1).collect(rt.alloc())?;
     Ok(words)
 }
 

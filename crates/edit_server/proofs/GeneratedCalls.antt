@@ -13,16 +13,16 @@ use Rattle.request_text.specs.Generated.{generate}
 use Rattle.board_core.specs.Board.{open_keys, close, closed_now}
 use Rattle.goal_board.specs.Calls.{BoardCall, made}
 use Rattle.goal_board.specs.Found.{found}
-use Rattle.check_report.specs.Summary.{verdicts_on, summary}
+use Rattle.report_laws.specs.Summary.{verdicts_on, summary}
 use Rattle.check_report.specs.Questions.{questions_on, AreAnswered, AreStarved}
 use Rattle.check_report.proofs.ProgramQuestions.{questions_by_proc}
 use Rattle.edit_session.specs.Program.{keys}
 use Rattle.edit_session.specs.GenCalls.{GenCalls}
 use Rattle.edit_session.specs.GenCalls as outcome
-use Rattle.edit_server.specs.Answer.{done_if}
+use Rattle.text_answers.specs.Answer.{done_if}
 use Rattle.edit_server.specs.Generated.{IsGenerated, AnswerCalls, IsGeneratedBy, IsStarvedBy}
-use Rattle.edit_server.specs.declared.status.Status.{Status}
-use Rattle.edit_server.specs.declared.status.Status.TheVariants.{Refused}
+use Rattle.text_answers.specs.declared.status.Status.{Status}
+use Rattle.text_answers.specs.declared.status.Status.TheVariants.{Refused}
 
 -- and then a close
 abbrev closed : List BoardCall → List BoardCall

@@ -9,10 +9,10 @@ use Rattle.program_opening.specs.ProcGoals.{ProcGoals, goals_by_proc}
 use Rattle.program_opening.specs.Opening.{Opening, program, refused, Opens}
 use Rattle.program_opening.specs.Laws.{OpensOnce}
 use Rattle.request_text.specs.Generated.{generate}
-use Rattle.check_report.specs.Summary.{verdicts_on, summary}
-use Rattle.edit_server.specs.declared.status.Status.{Status}
-use Rattle.edit_server.specs.declared.status.Status.TheVariants.{Refused}
-use Rattle.edit_server.specs.Answer.{done_if}
+use Rattle.report_laws.specs.Summary.{verdicts_on, summary}
+use Rattle.text_answers.specs.declared.status.Status.{Status}
+use Rattle.text_answers.specs.declared.status.Status.TheVariants.{Refused}
+use Rattle.text_answers.specs.Answer.{done_if}
 use Rattle.edit_server.specs.Generated.{IsSummaryOn, IsGenerated}
 use Rattle.edit_server.specs.Laws.{HasOneSummary}
 

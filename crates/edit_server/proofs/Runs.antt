@@ -10,16 +10,16 @@ use Rattle.goal_board.specs.Calls.{BoardCall, made}
 use Rattle.command_words.specs.declared.command.Command.{Command}
 use Rattle.command_words.specs.declared.command.Mode.{Mode}
 use Rattle.command_words.specs.declared.command.Mode.TheVariants.{Check, Serve, Recheck, Gen, Smoke}
-use Rattle.edit_server.specs.Served.{NothingIsServed}
-use Rattle.edit_server.proofs.Served.{none_within as none_within_session}
-use Rattle.edit_server.specs.Modes.{answers_text}
+use Rattle.edit_session.specs.Served.{NothingIsServed}
+use Rattle.edit_session.proofs.Served.{none_within as none_within_session}
+use Rattle.text_answers.specs.Modes.{answers_text}
 use Rattle.edit_server.specs.Ran.{Outside, TellsFaults, AnswersText, Generates, ServesLines, Does, Ran}
 use Rattle.edit_server.specs.SessionWorth.{SessionWorth}
 use Rattle.edit_server.specs.Shared.{Runs}
-use Rattle.edit_server.specs.declared.status.Status.{Status}
-use Rattle.edit_server.specs.declared.status.Status.TheVariants.{Usage, Memory}
+use Rattle.text_answers.specs.declared.status.Status.{Status}
+use Rattle.text_answers.specs.declared.status.Status.TheVariants.{Usage, Memory}
 use Rattle.edit_server.proofs.Starving.{none_starved}
-use Rattle.edit_server.proofs.Unread.{none_within}
+use Rattle.text_answers.proofs.Unread.{none_within}
 
 module _ (c : Command) (calls : List BoardCall) (s t : Outside) (status : Status) where
   text_does : (mode : Mode) → answers_text mode ≡ true → AnswersText c calls s t status → Does c calls s t status mode

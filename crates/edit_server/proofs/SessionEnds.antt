@@ -5,11 +5,11 @@ use Rattle.bv_base.specs.Known.{Takes, HasRisen}
 use Rattle.goal_board.specs.Calls.{BoardCall}
 use Rattle.line_server.specs.declared.serving.Ending.{Ending}
 use Rattle.line_server.specs.declared.serving.Ending.TheVariants as ending
-use Rattle.edit_server.specs.Served.{IsWithin, Serves, ServesAnyWorkers}
-use Rattle.edit_server.specs.SessionLimits.{session_total}
+use Rattle.edit_session.specs.Served.{IsWithin, Serves, ServesAnyWorkers}
+use Rattle.edit_session.specs.SessionLimits.{session_total}
 use Rattle.edit_server.specs.Session.{Served, IsSessionShort, status_of}
-use Rattle.edit_server.specs.declared.status.Status.{Status}
-use Rattle.edit_server.specs.declared.status.Status.TheVariants.{Done, NotAll, Usage, ReadFault, WriteFault, Memory, Refused, SessionFull}
+use Rattle.text_answers.specs.declared.status.Status.{Status}
+use Rattle.text_answers.specs.declared.status.Status.TheVariants.{Done, NotAll, Usage, ReadFault, WriteFault, Memory, Refused, SessionFull}
 
 served_by : (turns workers : ℕ) (calls : List BoardCall) (left left' held held' : Option (List ℕ)) (e : Ending) → Serves turns workers calls left left' held held' e → Served turns workers calls left left' held held' (status_of e)
 served_by turns workers calls left left' held held' ending.Done s = s

@@ -9,12 +9,12 @@ use Rattle.goal_board.specs.Calls.{BoardCall}
 use Rattle.edit_session.specs.Session.{Exchange}
 use Rattle.edit_session.specs.SessionWorth.{IsWorthSession}
 use Rattle.edit_session.specs.Worth.{SessionsAreWorth}
-use Rattle.edit_server.specs.SessionLimits.{session_total}
-use Rattle.edit_server.specs.Served.{IsSession}
+use Rattle.edit_session.specs.SessionLimits.{session_total}
+use Rattle.edit_session.specs.Served.{IsSession}
 use Rattle.edit_server.specs.Session.{Served}
 use Rattle.edit_server.specs.SessionWorth.{SessionWorth}
-use Rattle.edit_server.specs.declared.status.Status.{Status}
-use Rattle.edit_server.specs.declared.status.Status.TheVariants.{Done, NotAll, Usage, ReadFault, WriteFault, Memory, Refused, SessionFull}
+use Rattle.text_answers.specs.declared.status.Status.{Status}
+use Rattle.text_answers.specs.declared.status.Status.TheVariants.{Done, NotAll, Usage, ReadFault, WriteFault, Memory, Refused, SessionFull}
 use Rattle.edit_server.proofs.FirstLines.{whole_first, front_first, served_first}
 
 -- a front of the last reply, behind the others, is a front of all

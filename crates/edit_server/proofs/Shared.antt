@@ -11,12 +11,12 @@ use Rattle.shared_goals.specs.Opener.{GoalPass, GoalsShared, IsOpenerOf}
 use Rattle.shared_goals.specs.Beside.{own_calls}
 use Rattle.shared_goals.proofs.Openers.{unused_opener}
 use Rattle.shared_goals.proofs.Besides.{all_own}
-use Rattle.edit_server.specs.Served.{NothingIsServed}
+use Rattle.edit_session.specs.Served.{NothingIsServed}
 use Rattle.command_words.specs.declared.command.Command.{Command}
 use Rattle.edit_server.specs.Ran.{Outside, Ran}
-use Rattle.edit_server.specs.Shared.{IsUnused}
-use Rattle.edit_server.specs.declared.status.Status.{Status}
-use Rattle.edit_server.specs.declared.status.Status.TheVariants.{Memory}
+use Rattle.shared_goals.specs.Unused.{IsUnused}
+use Rattle.text_answers.specs.declared.status.Status.{Status}
+use Rattle.text_answers.specs.declared.status.Status.TheVariants.{Memory}
 use Rattle.edit_server.proofs.Runs.{nothing_ran}
 
 -- ---- before the first call

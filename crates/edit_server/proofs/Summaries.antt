@@ -4,8 +4,9 @@ use Rattle.bv_base.specs.Known.{Adds}
 use Rattle.goal_board.specs.Calls.{BoardCall}
 use Rattle.command_words.specs.declared.command.Command.{Command}
 use Rattle.edit_server.specs.Generated.{IsGeneratedBy}
-use Rattle.edit_server.specs.Run.{WroteFront, Generated, BrokenSummary}
-use Rattle.edit_server.specs.declared.status.Status.{Status}
+use Rattle.text_answers.specs.Answered.{WroteFront}
+use Rattle.edit_server.specs.Run.{Generated, BrokenSummary}
+use Rattle.text_answers.specs.declared.status.Status.{Status}
 
 module _ (c : Command) (calls : List BoardCall) (held held' : Option (List ℕ)) (bytes written : List ℕ) (status : Status) (same : bytes ≡ written) (g : IsGeneratedBy c.turns c.seed c.size calls written status) where
   pub wrote_summary : Adds held held' bytes → Generated c calls held held' status

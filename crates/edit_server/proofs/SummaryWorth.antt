@@ -5,15 +5,15 @@ use Rattle.tableau.specs.Search.{is_proved}
 use Rattle.request_text.specs.Generated.{generate}
 use Rattle.program_opening.specs.ProcGoals.{goals_by_proc}
 use Rattle.program_opening.specs.Opening.{Opening, program, refused, Opens}
-use Rattle.check_report.specs.Summary.{verdicts_on}
-use Rattle.check_report.specs.Worth.{ProvedAreSafe}
-use Rattle.edit_server.specs.Answer.{done_if}
-use Rattle.edit_server.specs.Exit.{IsAnswering}
+use Rattle.report_laws.specs.Summary.{verdicts_on}
+use Rattle.report_laws.specs.Worth.{ProvedAreSafe}
+use Rattle.text_answers.specs.Answer.{done_if}
+use Rattle.text_answers.specs.Exit.{IsAnswering}
 use Rattle.edit_server.specs.Generated.{IsSummaryOn, IsGenerated}
 use Rattle.edit_server.specs.SummaryWorth.{SummaryWorth}
-use Rattle.edit_server.specs.declared.status.Status.{Status}
-use Rattle.edit_server.specs.declared.status.Status.TheVariants.{Done, NotAll, Refused}
-use Rattle.edit_server.proofs.Worth.{is_program}
+use Rattle.text_answers.specs.declared.status.Status.{Status}
+use Rattle.text_answers.specs.declared.status.Status.TheVariants.{Done, NotAll, Refused}
+use Rattle.text_answers.proofs.Worth.{is_program}
 
 all_done : (all : Bool) → done_if all ≡ Done → all ≡ true
 all_done true e = refl

@@ -5,7 +5,8 @@ use Rattle.std.proofs.lemmas.Bool.{eqb-true}
 use Rattle.command_words.specs.declared.command.Command.{Command}
 use Rattle.command_words.specs.declared.command.Mode.{Mode}
 use Rattle.command_words.specs.declared.command.Mode.TheVariants.{Check, Serve, Recheck, Gen, Smoke}
-use Rattle.edit_server.specs.Modes.{answers_text, is_shared}
+use Rattle.text_answers.specs.Modes.{answers_text}
+use Rattle.edit_server.specs.Modes.{is_shared}
 
 -- but for gen and serve, a mode answers a text
 pub answers_unless : (mode : Mode) → mode ≢ Gen → mode ≢ Serve → answers_text mode ≡ true

@@ -8,12 +8,12 @@ use Rattle.bv_base.specs.Text.{ended}
 use Rattle.request_text.specs.Generated.{generate}
 use Rattle.program_opening.specs.ProcGoals.{goals_by_proc}
 use Rattle.program_opening.specs.Opening.{Opening, program, refused, Opens}
-use Rattle.check_report.specs.Summary.{verdicts_on, summary}
+use Rattle.report_laws.specs.Summary.{verdicts_on, summary}
 use Rattle.goal_board.specs.Calls.{BoardCall}
 use Rattle.edit_session.specs.GenCalls.{GenCalls}
 use Rattle.edit_session.specs.GenCalls as outcome
-use Rattle.edit_server.specs.declared.status.Status.{Status}
-use Rattle.edit_server.specs.Answer.{done_if, IsRefusal}
+use Rattle.text_answers.specs.declared.status.Status.{Status}
+use Rattle.text_answers.specs.Answer.{done_if, IsRefusal}
 
 pub record IsSummary (turns seed size : ℕ) (m : Module) (written : List ℕ) (status : Status) : Type 0 where
   pub line : written ≡ ended (summary seed size (length (generate seed size)) (verdicts_on turns (goals_by_proc m)))

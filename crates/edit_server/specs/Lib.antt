@@ -1,9 +1,5 @@
-pub mod Limits
-pub mod Exit
 pub mod Modes
-pub mod Answer
 pub mod Generated
-pub mod Worth
 pub mod Run
 pub mod SessionWorth
 pub mod SummaryWorth
@@ -11,7 +7,3 @@ pub mod Session
 pub mod Ran
 pub mod Shared
 pub mod Laws
-pub mod SessionLimits
-pub mod Replying
-pub mod LineLaws
-pub mod Served

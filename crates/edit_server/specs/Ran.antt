@@ -5,15 +5,16 @@ use Rattle.command_words.specs.declared.command.Command.{Command}
 use Rattle.command_words.specs.declared.command.Mode.{Mode}
 use Rattle.command_words.specs.declared.command.Mode.TheVariants.{Check, Serve, Recheck, Gen, Smoke}
 use Rattle.goal_board.specs.Calls.{BoardCall}
-use Rattle.edit_server.specs.Served.{IsWithin as IsWithinSession}
+use Rattle.edit_session.specs.Served.{IsWithin as IsWithinSession}
 use Rattle.edit_server.specs.Generated.{IsStarvedBy}
-use Rattle.edit_server.specs.Exit.{IsAnswering, IsSilent}
-use Rattle.edit_server.specs.Run.{Answered, Broken, BrokenSummary, Generated, IsFull, IsShort, IsWithin, WroteFront, usage_line}
+use Rattle.text_answers.specs.Exit.{IsAnswering, IsSilent}
+use Rattle.text_answers.specs.Answered.{Answered, Broken, IsFull, IsShort, IsWithin, WroteFront}
+use Rattle.edit_server.specs.Run.{BrokenSummary, Generated, usage_line}
 use Rattle.edit_server.specs.Session.{Served, IsSessionShort}
 use Rattle.edit_server.specs.SessionWorth.{SessionWorth}
 use Rattle.edit_server.specs.SummaryWorth.{SummaryWorth}
-use Rattle.edit_server.specs.declared.status.Status.{Status}
-use Rattle.edit_server.specs.declared.status.Status.TheVariants.{Done, NotAll, Usage, ReadFault, WriteFault, Memory, Refused, SessionFull}
+use Rattle.text_answers.specs.declared.status.Status.{Status}
+use Rattle.text_answers.specs.declared.status.Status.TheVariants.{Done, NotAll, Usage, ReadFault, WriteFault, Memory, Refused, SessionFull}
 
 -- what is left to read and what is held, where that is told, and how many faults there were
 pub record Outside : Type 0 where

@@ -3,10 +3,10 @@ use Rattle.std.specs.Prelude.{ℕ, ◌≤◌, List, length, Option, Some, None}
 use Rattle.goal_board.specs.Calls.{BoardCall}
 use Rattle.line_server.specs.declared.serving.Ending.{Ending}
 use Rattle.line_server.specs.declared.serving.Ending.TheVariants as ending
-use Rattle.edit_server.specs.Served.{AnswersAll, AnswersWhole, Exceeds, Breaks, Starves}
-use Rattle.edit_server.specs.SessionLimits.{session_total}
-use Rattle.edit_server.specs.declared.status.Status.{Status}
-use Rattle.edit_server.specs.declared.status.Status.TheVariants.{Done, NotAll, Usage, ReadFault, WriteFault, Memory, Refused, SessionFull}
+use Rattle.edit_session.specs.Served.{AnswersAll, AnswersWhole, Exceeds, Breaks, Starves}
+use Rattle.edit_session.specs.SessionLimits.{session_total}
+use Rattle.text_answers.specs.declared.status.Status.{Status}
+use Rattle.text_answers.specs.declared.status.Status.TheVariants.{Done, NotAll, Usage, ReadFault, WriteFault, Memory, Refused, SessionFull}
 
 -- a session that ends is neither refused nor judged by its goals
 abbrev pub Served : ℕ → ℕ → List BoardCall → Option (List ℕ) → Option (List ℕ) → Option (List ℕ) → Option (List ℕ) → Status → Type 0

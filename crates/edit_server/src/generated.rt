@@ -7,18 +7,18 @@ ghost use Rattle.command_words.specs.Limits.{most_size};
 ghost use Rattle.request_text.specs.Generated.{generate};
 ghost use Rattle.board_core.specs.Board.{close, closed_now};
 ghost use Rattle.goal_board.specs.Calls.{made};
-ghost use Rattle.check_report.specs.Summary.{verdicts_on, summary};
+ghost use Rattle.report_laws.specs.Summary.{verdicts_on, summary};
 ghost use Rattle.check_report.specs.Questions.{AreAnswered, AreStarved};
-ghost use Rattle.edit_server.specs.Answer.{done_if};
+ghost use Rattle.text_answers.specs.Answer.{done_if};
 ghost use Rattle.edit_server.specs.Generated.{IsGenerated, IsGeneratedBy, IsStarvedBy};
 
-use crate::answer::{Answer, done_if, line, refusal};
 use check_report::{Drawn, sum_up, sum_up_on};
 use command_words::Command;
 use goal_board::GoalBoard;
 use program_opening::{Opened, ProcGoals, open};
 use request_text::generate;
 use std::alloc::{AllocError, Global};
+use text_answers::answer::{Answer, done_if, line, refusal};
 
 // The summary of this text, which the command generates, or the line of its fault.
 fn summed(alloc: Global, command: &Command, text: &[u8]) -> Result<Answer, AllocError>

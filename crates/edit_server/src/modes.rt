@@ -1,6 +1,7 @@
 // Which commands share their board with workers.
 ghost use Rattle.std.specs.Prelude.{◌≡◌};
-ghost use Rattle.edit_server.specs.Modes.{answers_text, is_shared};
+ghost use Rattle.text_answers.specs.Modes.{answers_text};
+ghost use Rattle.edit_server.specs.Modes.{is_shared};
 
 use command_words::{Command, Mode};
 

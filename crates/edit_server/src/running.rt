@@ -7,16 +7,16 @@ ghost use Rattle.edit_server.specs.Modes.{IsCommand, is_shared};
 ghost use Rattle.edit_server.specs.Ran.{Outside, outside};
 ghost use Rattle.edit_server.specs.Shared.{Runs};
 
-use crate::line_laws::nothing_is_served;
 use crate::serving::serve_on;
-use crate::status::Status;
-use crate::workers::{Opening, run_beside};
 use bv_base::{Sink, Source};
 use command_words::{Command, Mode};
+use edit_session::line_laws::nothing_is_served;
 use obligation_board::{Gate, Pass, SharedBoard};
+use shared_goals::workers::{Opening, run_beside};
 use std::sync::Wait;
 use std::thread::Threads;
 use tableau::settled::Settled;
+use text_answers::Status;
 
 // What the command is given; a closure of a scope may hold it.
 #[derive(Drop)]

@@ -9,29 +9,29 @@ ghost use Rattle.obligation_board.specs.Passes.{IsPassOf, StaysPassOf};
 ghost use Rattle.shared_goals.specs.Known.{by_opener};
 ghost use Rattle.shared_goals.specs.Beside.{own_calls};
 ghost use Rattle.command_words.specs.Limits.{most_size};
-ghost use Rattle.edit_server.specs.Exit.{IsAnswering, IsSilent};
+ghost use Rattle.text_answers.specs.Exit.{IsAnswering, IsSilent};
 ghost use Rattle.edit_server.specs.Modes.{IsCommand, is_shared};
 ghost use Rattle.edit_server.specs.Generated.{IsStarvedBy};
 ghost use Rattle.edit_server.specs.Run.{BrokenSummary, Generated};
 ghost use Rattle.edit_server.specs.Ran.{Outside, outside, Ran};
-ghost use Rattle.edit_server.specs.Shared.{IsUnused};
+ghost use Rattle.shared_goals.specs.Unused.{IsUnused};
 
 use crate::generated::generated_on;
-use crate::line_laws::{any_workers_serve, nothing_is_served};
 use crate::session::serve_session;
-use crate::status::Status;
 use bv_base::{Sink, Source, write_all};
-use check_report::generated_laws::proved_are_safe;
 use command_words::{Command, Mode};
 use edit_session::laws::sessions_are_worth;
+use edit_session::line_laws::{any_workers_serve, nothing_is_served};
 use goal_board::GoalBoard;
 use obligation_board::{Gate, Pass, SharedBoard};
+use report_laws::generated_laws::proved_are_safe;
 use shared_goals::{Beside, Naming};
 use std::alloc::Global;
 use std::marker::Brand;
 use std::mem;
 use std::sync::Wait;
 use tableau::settled::Settled;
+use text_answers::Status;
 
 // Makes the program and writes its summary, by a board that is shared with workers. Nothing is read.
 fn generate_on<B: GoalBoard, K: Sink>(

@@ -4,15 +4,15 @@ ghost use Rattle.bv_base.specs.Known.{HasRisen};
 ghost use Rattle.tableau.specs.Settled.{Settled as settled};
 ghost use Rattle.board_core.specs.Board.{first, close, closed_now};
 ghost use Rattle.goal_board.specs.Calls.{made};
-ghost use Rattle.edit_server.specs.Served.{IsWithin};
+ghost use Rattle.edit_session.specs.Served.{IsWithin};
 ghost use Rattle.edit_server.specs.Session.{Served, IsSessionShort, status_of};
 
-use crate::line_session::serve;
-use crate::status::Status;
 use bv_base::{Sink, Source};
+use edit_session::serve;
 use goal_board::GoalBoard;
 use line_server::Ending;
 use std::alloc::Global;
+use text_answers::Status;
 
 // The status of a session that ended so.
 fn status_of(ending: Ending) -> Status

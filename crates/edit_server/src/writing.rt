@@ -1,10 +1,11 @@
 // What is written where nothing is read.
 ghost use Rattle.std.specs.Prelude.{◌≡◌, ◌⊎◌};
 ghost use Rattle.bv_base.specs.Known.{Adds, HasRisen};
-ghost use Rattle.edit_server.specs.Run.{WroteFront, usage_line};
+ghost use Rattle.text_answers.specs.Answered.{WroteFront};
+ghost use Rattle.edit_server.specs.Run.{usage_line};
 
-use crate::status::Status;
 use bv_base::{Sink, write_all};
+use text_answers::Status;
 
 /// The line for words that are no command.
 pub fn refuse_words<K: Sink>(sink: &mut K) -> Status

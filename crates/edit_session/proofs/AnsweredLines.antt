@@ -11,7 +11,7 @@ use Rattle.goal_board.specs.Calls.{BoardCall, made}
 use Rattle.goal_board.specs.Between.{Between, effects, has_effect}
 use Rattle.goal_board.proofs.Betweens.{effects_are_between, gathered_is_settled, work_is_works, any_workers}
 use Rattle.program_opening.specs.ProcGoals.{goals_by_proc}
-use Rattle.check_report.specs.Scratch.{scratch, lines_on}
+use Rattle.report_laws.specs.Scratch.{scratch, lines_on}
 use Rattle.edit_session.specs.Program.{questions, keys, proof_lines}
 use Rattle.edit_session.specs.AnswerLines.{report_by, lines_by, texts_by}
 use Rattle.edit_session.specs.Built.{proc_goals}

@@ -12,8 +12,8 @@ use Rattle.goal_board.specs.Calls.{Board, BoardCall, made, all_kept}
 use Rattle.goal_board.specs.Made.{AreMade, AreSettled}
 use Rattle.goal_board.proofs.Gathering.{opens_tell_version}
 use Rattle.program_opening.specs.ProcGoals.{goals_by_proc}
-use Rattle.check_report.specs.Scratch.{lines_on}
-use Rattle.check_report.proofs.Answered.{map_map}
+use Rattle.report_laws.specs.Scratch.{lines_on}
+use Rattle.report_laws.proofs.Mapped.{map_map}
 use Rattle.edit_session.specs.Program.{question, questions, keys, text_or_none}
 use Rattle.edit_session.specs.Built.{proc_goals}
 use Rattle.edit_session.specs.Told.{IsOpened, IsReported, AreProved}

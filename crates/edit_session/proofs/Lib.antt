@@ -22,3 +22,7 @@ mod SharedGoals
 mod ChangedGoals
 mod Declined
 mod OneBody
+mod LineSessions
+mod LongLines
+mod Replies
+pub mod Served

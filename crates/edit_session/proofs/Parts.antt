@@ -14,9 +14,8 @@ use Rattle.bpl_model.specs.Module.{Module}
 use Rattle.report_text.specs.Report.{report, proc_lines}
 use Rattle.stmt_checksum.specs.SumLines.{sum_lines}
 use Rattle.program_opening.specs.ProcGoals.{ProcGoals}
-use Rattle.check_report.specs.Scratch.{verdicts, lines_on}
-use Rattle.check_report.proofs.Answered.{map_map}
-use Rattle.check_report.proofs.ProgramQuestions.{map_flat}
+use Rattle.report_laws.specs.Scratch.{verdicts, lines_on}
+use Rattle.report_laws.proofs.Mapped.{map_map, map_flat}
 use Rattle.edit_session.specs.Program.{question, text_or_none, proof_line}
 use Rattle.edit_session.specs.Sums.{sums_on}
 use Rattle.edit_session.specs.Built.{proc_goals, goal_counts, questions_of, in_parts, told_lines}

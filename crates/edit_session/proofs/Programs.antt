@@ -18,7 +18,7 @@ use Rattle.vc_build.specs.Rebuild.{BuiltProc, with_body, built}
 use Rattle.request_text.specs.Request.{Reply}
 use Rattle.program_opening.specs.Opening.{Opening, program, refused, Typing, typed, ill_typed, typing, opening, size_fault, unless_large, within_limits}
 use Rattle.program_opening.specs.ProcGoals.{ProcGoals, goals_of_proc, goals_by_proc}
-use Rattle.check_report.proofs.ProgramQuestions.{map_flat}
+use Rattle.report_laws.proofs.Mapped.{map_flat}
 use Rattle.edit_session.specs.Program.{IsModuleOf, question, questions, keys}
 use Rattle.edit_session.specs.Asking.{Taken, taken, denied, fault_reply, judged, Outcome, Asks}
 use Rattle.edit_session.specs.Built.{proc_goals, questions_of}

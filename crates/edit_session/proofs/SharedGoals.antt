@@ -4,7 +4,7 @@ use Rattle.logic_core.specs.Def.{Obligation}
 use Rattle.obligation_text.specs.Asked.{Asked}
 use Rattle.vc_build.specs.declared.goal.Goal.{Goal}
 use Rattle.vc_rebuild.specs.Inside.{SameObligations}
-use Rattle.check_report.proofs.Answered.{map_map}
+use Rattle.report_laws.proofs.Mapped.{map_map}
 use Rattle.edit_session.specs.Program.{question}
 
 abbrev asked_of : ℕ → Obligation → Asked

@@ -12,8 +12,8 @@ use Rattle.program_opening.specs.Spelled.{AreSpelled}
 use Rattle.program_edits.specs.Edited.{Edited, edited, lacking, faulty, other_name, IsEdited}
 use Rattle.fault_text.specs.Written.{Written}
 use Rattle.request_text.specs.Request.{Request, Reply, reported}
-use Rattle.check_report.specs.Scratch.{scratch}
-use Rattle.check_report.specs.Sound.{DeclaredCorrectIsSafe}
+use Rattle.report_laws.specs.Scratch.{scratch}
+use Rattle.report_laws.specs.Sound.{DeclaredCorrectIsSafe}
 use Rattle.goal_board.specs.Calls.{Board, BoardCall}
 use Rattle.edit_session.specs.Program.{IsModuleOf}
 use Rattle.edit_session.specs.Asking.{Taken, taken, denied, text_reply, judged, outcome_of}

@@ -4,7 +4,7 @@ use Rattle.std.specs.List.{AllByRecursion}
 use Rattle.bpl_ast.specs.Statement.{Decl}
 use Rattle.program_opening.specs.Opening.{Opening, program, refused as ill, opening}
 use Rattle.fault_text.specs.Written.{Written}
-use Rattle.check_report.proofs.Programs.{opens_as}
+use Rattle.report_laws.proofs.Programs.{opens_as}
 use Rattle.request_text.specs.Request.{Request, Reply, accepted, counted, reported, summed, proved, ended, refused, memory, absent, misnamed, fault}
 use Rattle.request_text.specs.Reading.{request_of}
 use Rattle.request_text.specs.Replies.{reply_text}

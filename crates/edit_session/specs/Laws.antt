@@ -9,7 +9,7 @@ use Rattle.board_core.specs.Board.{open_keys, look, looked}
 use Rattle.board_core.specs.Board as board
 use Rattle.goal_board.specs.Calls.{BoardCall, made, all_kept}
 use Rattle.goal_board.specs.Made.{AreMade, AreSettled, AreWork}
-use Rattle.check_report.specs.Scratch.{scratch}
+use Rattle.report_laws.specs.Scratch.{scratch}
 use Rattle.edit_session.specs.AnswerLines.{lines_by, texts_by}
 use Rattle.edit_session.specs.Program.{IsModuleOf, questions, keys}
 use Rattle.edit_session.specs.Asking.{Taken, taken, Asks}

@@ -15,3 +15,7 @@ pub mod Revising
 pub mod Laws
 pub mod SessionWorth
 pub mod Worth
+pub mod SessionLimits
+pub mod Replying
+pub mod LineLaws
+pub mod Served

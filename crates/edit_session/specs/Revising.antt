@@ -1,13 +1,11 @@
 -- Declarations take the places of ones of which they are revisions: what is new then.
-use Rattle.std.specs.Prelude.{◌≡◌, ℕ, ◌<◌, Bool, true, false, List, [], ◌∷◌, map, length, slice_get, Some, None}
+use Rattle.std.specs.Prelude.{◌≡◌, ℕ, ◌<◌, List, [], ◌∷◌, map, length, slice_get, Some, None}
 use Rattle.bpl_ast.specs.Statement.{Decl}
 use Rattle.bpl_model.specs.Module.{Module}
 use Rattle.bpl_model.specs.Typed.{IsTypedModule}
 use Rattle.user_types.specs.Erased.{erased, told_apart}
 use Rattle.body_revision.specs.Revised.{IsRevised}
 use Rattle.body_revision.specs.Revision.{IsNew, AreNew, AreRevised, HaveNoFaults, HasPlaces, all_revised}
-use Rattle.body_revision.specs.declared.revised.ModulePart.{ModulePart}
-use Rattle.body_revision.specs.declared.revised.ModulePart.TheVariants.{Procedure, Axiom, Function}
 use Rattle.body_revision.specs.declared.revised.Revision.{Revision}
 use Rattle.vc_build.specs.Large.{program_large}
 use Rattle.vc_build.specs.Rebuild.{BuiltProc, built, rebuilt}
@@ -15,12 +13,6 @@ use Rattle.program_edits.specs.declared.replaced.Replacement.{Replacement}
 use Rattle.goal_board.specs.Calls.{Board, BoardCall}
 use Rattle.request_text.specs.Request.{Reply}
 use Rattle.edit_session.specs.Told.{IsOpened}
-
--- it is a procedure
-abbrev pub is_of_procedure : ModulePart → Bool
-is_of_procedure (Procedure k p) = true
-is_of_procedure (Axiom k f) = false
-is_of_procedure (Function k b) = false
 
 abbrev pub changes : List Replacement → List (ℕ × Decl)
 changes rs = map (λ (r : Replacement). (r.at, r.decl)) rs

@@ -3,7 +3,7 @@ use Rattle.std.specs.Prelude.{◌≡◌, ℕ, List, [], ◌∷◌, Ok, Contains}
 use Rattle.bpl_ast.specs.Statement.{Decl}
 use Rattle.bpl_model.specs.Module.{Module}
 use Rattle.report_text.specs.Called.{correct_line, IsName}
-use Rattle.check_report.specs.Called.{IsProgramOf, IsSafeIn}
+use Rattle.report_laws.specs.Called.{IsProgramOf, IsSafeIn}
 use Rattle.request_text.specs.Request.{Request, Reply, accepted, counted, reported, summed, proved, ended, refused, memory, absent, misnamed, fault}
 use Rattle.request_text.specs.Reading.{request_of}
 use Rattle.request_text.specs.Replies.{reply_text}

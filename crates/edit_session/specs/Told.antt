@@ -8,7 +8,7 @@ use Rattle.board_core.specs.Board as board
 use Rattle.goal_board.specs.Calls.{Board, BoardCall, made, all_kept}
 use Rattle.goal_board.specs.Made.{AreMade, AreSettled}
 use Rattle.request_text.specs.Request.{Reply, accepted, reported, proved}
-use Rattle.check_report.specs.Scratch.{scratch}
+use Rattle.report_laws.specs.Scratch.{scratch}
 use Rattle.edit_session.specs.Program.{questions, keys, proof_lines}
 use Rattle.edit_session.specs.OwnCalls.{AreRefused}
 use Rattle.edit_session.specs.Kept.{Session}

@@ -5,7 +5,7 @@ use Rattle.bpl_ast.specs.Statement.{Decl}
 use Rattle.bpl_model.specs.Module.{Module}
 use Rattle.program_opening.specs.Opening as opening
 use Rattle.request_text.specs.Request.{reported}
-use Rattle.check_report.specs.Scratch.{scratch}
+use Rattle.report_laws.specs.Scratch.{scratch}
 use Rattle.edit_session.specs.Program.{IsModuleOf}
 use Rattle.edit_session.specs.Session.{Exchange, WholeSession}
 pub use Rattle.edit_session.specs.SessionWorth.{NamesTheSafe}

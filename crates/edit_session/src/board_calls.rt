@@ -4,6 +4,7 @@ ghost use Rattle.bpl_model.specs.Module.{Module as typed_module};
 ghost use Rattle.obligation_text.specs.Asked.{key_of};
 ghost use Rattle.vc_build.specs.Large.{count_limit};
 ghost use Rattle.vc_rebuild.specs.Inside.{TextsFix};
+ghost use Rattle.vc_rebuild.specs.Change.{AreButOne};
 ghost use Rattle.board_core.specs.Board.{open_keys};
 ghost use Rattle.board_core.specs.Difference.{IsDifference};
 ghost use Rattle.board_core.specs.Handed.{open_answer};
@@ -15,7 +16,7 @@ ghost use Rattle.edit_session.specs.Program.{keys};
 ghost use Rattle.edit_session.specs.Built.{proc_goals, goal_counts, questions_of};
 ghost use Rattle.edit_session.specs.Told.{IsOpened, IsUndone, IsReported, AreProved};
 
-use crate::changed::changed_between;
+use crate::changed::changed_from;
 use crate::goals;
 use crate::lines::proof_lines;
 use crate::program::OpenProgram;
@@ -87,16 +88,18 @@ fn open_changed<B: GoalBoard>(
     board: &mut B,
     old: &[BuiltProc],
     new: &[BuiltProc],
+    place: Option<usize>,
     turns: u64,
 ) -> Result<Opened, AllocError>
     requires goals { (B.state board.old).present ≡ map key_of (questions_of turns old.now) }
     requires few { sum (goal_counts new.now) ≤ count_limit }
     requires fix { TextsFix old.now new.now }
+    requires place { AreButOne place old.now new.now }
     requires room { B.workers ≡ 0 → (B.state board.old).version < 2 ^ 64 - 1 }
     ensures opened { IfOk result (λ o. AreMade B.workers (B.state board.old) (B.noted board.old) (B.state board.new) (B.noted board.new) (made (open_keys (map key_of (questions_of turns new.now))) (open_answer o) ∷ [])) }
     ensures memory { OnErr result (IsUndone B.workers (B.state board.old) (B.noted board.old) (B.state board.new) (B.noted board.new)) }
 {
-    let at = changed_between(old, new);
+    let at = changed_from(old, new, place);
     let between = open_between(alloc, board, old, new, &at, turns)?;
     match between {
         Some(opened) => Ok(opened),
@@ -108,24 +111,27 @@ fn open_changed<B: GoalBoard>(
 }
 
 /// The goals of what is built of a module take the place of those of what was built before, which are
-/// open; so many of the procedures are new. Without memory nothing is opened.
+/// open; so many of the procedures are new. Where a place is told, all but the one there are the same
+/// procedures. Without memory nothing is opened.
 pub fn open_goals<B: GoalBoard>(
     alloc: Global,
     board: &mut B,
     old: &Built,
     new: &Built,
+    place: Option<usize>,
     rebuilt: u64,
     turns: u64,
 ) -> Result<Reply, AllocError>
     requires goals { (B.state board.old).present ≡ map key_of (questions_of turns old.now.procs) }
     requires few { sum (goal_counts new.now.procs) ≤ count_limit }
+    requires place { AreButOne place old.now.procs new.now.procs }
     requires room { B.workers ≡ 0 → (B.state board.old).version < 2 ^ 64 - 1 }
     ensures opened { IfOk result (λ x. (m : typed_module) → map proc_goals new.now.procs ≡ goals_by_proc m → IsOpened B.workers (B.state board.old) (B.noted board.old) (B.state board.new) (B.noted board.new) turns rebuilt m (reply_view x)) }
     ensures memory { OnErr result (IsUndone B.workers (B.state board.old) (B.noted board.old) (B.state board.new) (B.noted board.new)) }
 {
     texts_fix_obligations(old, new);
     let goals = count(new.procs()) as u64;
-    let opened = open_changed(alloc, board, old.procs(), new.procs(), turns)?;
+    let opened = open_changed(alloc, board, old.procs(), new.procs(), place, turns)?;
     Ok(Reply::Accepted {
         goals,
         rebuilt,

@@ -1,6 +1,7 @@
 // Between which places the procedures before and after an edit differ.
-ghost use Rattle.std.specs.Prelude.{◌≡◌, ◌≤◌, ◌-◌, map, take, drop, length};
+ghost use Rattle.std.specs.Prelude.{◌≡◌, ◌<◌, ◌≤◌, ◌-◌, map, take, drop, length};
 ghost use Rattle.board_core.specs.Difference.{IsDifference};
+ghost use Rattle.vc_rebuild.specs.Change.{AreButOne, IsOneOther};
 
 use board_core::Difference;
 use vc_rebuild::BuiltProc;
@@ -39,8 +40,8 @@ fn common_end(old: &[BuiltProc], new: &[BuiltProc]) -> usize
     most
 }
 
-/// Between which places the procedures' dependency texts differ.
-pub fn changed_between(old: &[BuiltProc], new: &[BuiltProc]) -> Difference
+// Between which places the procedures' dependency texts differ.
+fn changed_between(old: &[BuiltProc], new: &[BuiltProc]) -> Difference
     ensures { IsDifference (map (λ b. b.depends) old.now) (map (λ b. b.depends) new.now) result.start result.old_end result.new_end }
 {
     let start = common_start(old, new);
@@ -49,5 +50,31 @@ pub fn changed_between(old: &[BuiltProc], new: &[BuiltProc]) -> Difference
         start,
         old_end: old.len() - same,
         new_end: new.len() - same,
+    }
+}
+
+// The same, where all but one are the same procedures.
+fn changed_one(old: &[BuiltProc], new: &[BuiltProc], at: usize) -> Difference
+    requires there { at < length old.now }
+    requires other { IsOneOther at old.now new.now }
+    ensures { IsDifference (map (λ b. b.depends) old.now) (map (λ b. b.depends) new.now) result.start result.old_end result.new_end }
+{
+    let _counts = (old.len(), new.len());
+    Difference {
+        start: at,
+        old_end: at + 1,
+        new_end: at + 1,
+    }
+}
+
+/// Between which places the procedures' dependency texts differ, where a place may be told: then all but
+/// the one there are the same procedures.
+pub fn changed_from(old: &[BuiltProc], new: &[BuiltProc], place: Option<usize>) -> Difference
+    requires { AreButOne place old.now new.now }
+    ensures { IsDifference (map (λ b. b.depends) old.now) (map (λ b. b.depends) new.now) result.start result.old_end result.new_end }
+{
+    match place {
+        Some(at) => changed_one(old, new, at),
+        None => changed_between(old, new),
     }
 }

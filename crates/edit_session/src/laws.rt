@@ -3,8 +3,8 @@
 ghost use Rattle.edit_session.specs.Laws.{LooksAnswerStatus, GatheredAnswerReports, GatheredAnswerProofs, OpensAnswerChanges, WorkAnswersMemory, SessionsOfAnyWorkers, AnsweredAreSession};
 ghost use Rattle.edit_session.specs.Worth.{ReportsAreTrue, SessionsAreWorth};
 
-use check_report::laws::declared_correct_is_safe;
 use program_edits::laws::taken_is_left;
+use report_laws::laws::declared_correct_is_safe;
 
 /// In each session, of any lines, any number of workers and whatever was kept or claimed before, each
 /// report is the report from scratch of the program that is open, with the same turns; and no execution,

@@ -2,6 +2,10 @@
 //! or shares with workers. Each request is answered as the definitions have it, whatever was kept before; a request that is refused,
 //! or for which there is no memory, leaves declarations, version, kept answers and claims as they were.
 //! Each report is the report from scratch of the program that is open, and what it calls correct is safe.
+//!
+//! A session goes over lines: each line of a source is read as a request and answered, and the reply is
+//! written. What is answered and written over a whole source is a session as the definitions have it,
+//! and each of its reports is true.
 #![tactic(auto)]
 
 // The goals that were built: names, marks and questions.
@@ -34,4 +38,11 @@ pub mod session;
 // What its reports are worth.
 pub mod laws;
 
+// What answers lines, that the lines of an input make a session, and the session over a source.
+pub mod answerer;
+pub mod line_laws;
+pub mod line_session;
+
+pub use answerer::LineSession;
+pub use line_session::serve;
 pub use session::Session;

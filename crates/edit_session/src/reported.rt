@@ -4,7 +4,7 @@ ghost use Rattle.std.specs.Arc.{arc_value};
 ghost use Rattle.tableau.specs.RunView.{verdict_of};
 ghost use Rattle.tableau.specs.Settled.{Settled as settled, settled_by};
 ghost use Rattle.report_text.specs.Report.{proc_lines};
-ghost use Rattle.check_report.specs.Scratch.{lines_on};
+ghost use Rattle.report_laws.specs.Scratch.{lines_on};
 ghost use Rattle.edit_session.specs.Built.{proc_goals, goal_counts, questions_of, told_lines};
 
 use crate::goals::{count_of, name_of};

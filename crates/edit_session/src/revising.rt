@@ -37,7 +37,7 @@ use std::alloc::{AllocError, Global};
 use std::sync::ledger::Ledger;
 use user_types::Reading;
 use vc_build::BuildFault;
-use vc_rebuild::{Built, rebuild_changed};
+use vc_rebuild::{Built, ChangedBody, rebuild_changed};
 
 // So many revisions at most are made at once: each takes a place on the stack while the module is built.
 const MOST_REVISIONS: usize = 200;
@@ -247,7 +247,7 @@ fn reopen<B: GoalBoard, L: Ledger>(
     alloc: Global,
     kept: &mut Built,
     typed: &Module,
-    but: Option<u64>,
+    but: Option<ChangedBody>,
     board: &mut B,
     turns: u64,
     steps: &mut Steps<L>,
@@ -262,8 +262,10 @@ fn reopen<B: GoalBoard, L: Ledger>(
     ensures board { OnErr result (IsUndone B.workers (B.state board.old) (B.noted board.old) (B.state board.new) (B.noted board.new)) }
 {
     let new = rebuild_changed(alloc, kept, typed, but, steps)?;
-    let reply = open_goals(alloc, board, kept, &new, new.rebuilt(), turns)?;
-    *kept = new;
+    let place = new.place;
+    let built = new.built;
+    let reply = open_goals(alloc, board, kept, &built, place, built.rebuilt(), turns)?;
+    *kept = built;
     Ok(reply)
 }
 
@@ -274,7 +276,7 @@ fn reopen_with<B: GoalBoard, L: Ledger>(
     alloc: Global,
     typed: &mut Module,
     kept: &mut Built,
-    but: Option<u64>,
+    but: Option<ChangedBody>,
     board: &mut B,
     revisions: &mut Vec<Revision>,
     turns: u64,

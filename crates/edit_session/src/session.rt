@@ -256,6 +256,7 @@ impl<B: GoalBoard, L: Ledger> Session<B, L> {
             &mut self.board,
             self.opened.built(),
             program.built(),
+            None,
             rebuilt,
             self.turns,
         )?;

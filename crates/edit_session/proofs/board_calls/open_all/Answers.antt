@@ -7,7 +7,7 @@ use Rattle.board_core.specs.Handed.{open_answer}
 use Rattle.goal_board.specs.Calls.{made}
 use Rattle.goal_board.specs.Made.{AreMade}
 use Rattle.goal_board.proofs.ByItself.{on_any_err}
-use Rattle.check_report.proofs.Answered.{map_map}
+use Rattle.report_laws.proofs.Mapped.{map_map}
 use Rattle.edit_session.proofs.Unchanged.{undone_none, unopened}
 use Rattle.edit_session.proofs.board_calls.open_all.Goals as goal
 

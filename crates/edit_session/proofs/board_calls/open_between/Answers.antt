@@ -10,7 +10,7 @@ use Rattle.board_core.proofs.Differing.{last_part}
 use Rattle.goal_board.specs.Calls.{made}
 use Rattle.goal_board.specs.Made.{AreMade}
 use Rattle.goal_board.proofs.ByItself.{on_any_err}
-use Rattle.check_report.proofs.Answered.{map_map}
+use Rattle.report_laws.proofs.Mapped.{map_map}
 use Rattle.edit_session.specs.Built.{goal_counts}
 use Rattle.edit_session.proofs.Unchanged.{undone_none, unopened}
 use Rattle.edit_session.proofs.ChangedGoals.{first_few, last_few, changed_fits, changed_keys}

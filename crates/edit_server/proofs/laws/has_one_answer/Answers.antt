@@ -1,5 +1,0 @@
-use Rattle.edit_server.proofs.OneAnswer.{has_one}
-use Rattle.edit_server.proofs.laws.has_one_answer.Goals as goal
-
-pub returns : goal.returns
-returns c = has_one c.opens_once.ensures c.one_answer.ensures

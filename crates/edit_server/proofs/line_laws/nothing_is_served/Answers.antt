@@ -1,5 +1,0 @@
-use Rattle.edit_server.proofs.Served.{nothing_is_served}
-use Rattle.edit_server.proofs.line_laws.nothing_is_served.Goals as goal
-
-pub returns : goal.returns
-returns c = nothing_is_served

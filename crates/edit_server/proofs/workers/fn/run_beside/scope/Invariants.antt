@@ -1,6 +1,0 @@
-use Rattle.obligation_board.specs.Passes.{IsPassOf}
-use Rattle.edit_server.specs.Shared.{IsUnused}
-use Rattle.edit_server.proofs.workers.fn.run_beside.scope.Given as goal
-
-abbrev pub invariant-loop : goal.invariant-loop
-invariant-loop g l = IsPassOf l.board l.opener × IsUnused l.opener

@@ -1,0 +1,7 @@
+mod LineLengths
+pub mod Unread
+mod Ends
+pub mod Worth
+mod Answering
+mod Commands
+mod OneAnswer
