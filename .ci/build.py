@@ -2,7 +2,8 @@
 
 `rt ci` proves the crates beside each other, over a copy of the sources without what it would prove besides, wrong bodies
 and crates of tests. The kit keeps what is proved, so a build that was stopped goes on. The first `rt ci` gives each crate
-one processor; a second one, of the last crates, beside which nothing else is left to prove, may give them several.
+one processor; a second one, of the last crates, beside which nothing else is left to prove, may give them several. It
+begins beside the last proof of the first.
 Where a kit's `rt ci` takes no names and keeps nothing (rattle-kit-13b), one proves the whole copy.
 """
 import glob
@@ -21,7 +22,7 @@ TOP = os.path.dirname(os.path.dirname(os.path.realpath(__file__)))
 NAME = "bplserve"
 PROGRAM = os.path.join(TOP, "crates", NAME, "out", NAME)
 BUILD_FAILED = 70
-LAST = {"edit_session", "edit_server", NAME}  # each stands on the one before it, and they stand on nearly all others
+LAST = {"edit_server", NAME}  # one stands on the other, and both on all others
 USUAL_COST = 0.6  # processor minutes of a crate that bench/costs.txt doesn't have
 TRUSTED = 3  # minutes after which the pace of the proofs tells as much as the plan
 MEMORY_EACH = 2000  # megabytes of a proof that runs beside others
@@ -76,7 +77,7 @@ class Build:
         free = int(re.search(r"MemAvailable:\s+(\d+)", Path("/proc/meminfo").read_text())[1]) >> 10
         self.processors = len(os.sched_getaffinity(0))
         self.beside = max(1, min(self.processors, int(0.85 * free / MEMORY_EACH)))
-        self.proved, self.is_built = set(), threading.Event()
+        self.proved, self.is_built, self.jobs = set(), threading.Event(), []
         self.reckon_anew()
 
     def planned_left(self):
@@ -118,26 +119,43 @@ class Build:
         os.replace(PROGRAM + ".new", PROGRAM)
         self.is_built.set()
 
-    def prove(self, names, beside):
+    def begin(self, names, beside):
         """Has `rt ci` prove these crates and all below, or the whole copy: so many beside each other, or as it chooses."""
         environment = {**os.environ, "TMPDIR": os.path.join(self.folder, "tmp"), "RT_JOBS": str(beside), "CI": ""}
+        job = subprocess.Popen(["rt", "ci", *names], cwd=self.folder, env=environment, stdin=subprocess.DEVNULL,
+                               stdout=subprocess.PIPE, stderr=subprocess.STDOUT, text=True, errors="replace")
+        self.jobs.append(job)
+
+    def follow(self, job, names):
+        """Notes what it proves, till it ends or the program is built. One that doesn't prove the program has the next, which
+        does, begin once a single crate is left: a start takes most of a minute, and waits for what another proves."""
         said = []
-        with subprocess.Popen(["rt", "ci", *names], cwd=self.folder, env=environment, stdin=subprocess.DEVNULL,
-                              stdout=subprocess.PIPE, stderr=subprocess.STDOUT, text=True, errors="replace") as job:
-            try:
-                while not self.is_built.is_set() and (line := job.stdout.readline()):
-                    said.append(line)
-                    told = re.match(r"rt: (\w+) (proved|is kept|NOT PROVED)\b", line)
-                    if told and told[2] == "NOT PROVED":
-                        fail(told[1], said)
-                    if told:
-                        self.note(told[1], told[2] == "proved")
-                    if told and told[1] == NAME:
-                        self.take(job)
-            finally:
-                job.kill()
-        if not self.proved.issuperset(names or [NAME]):
+        while not self.is_built.is_set() and (line := job.stdout.readline()):
+            said.append(line)
+            told = re.match(r"rt: (\w+) (proved|is kept|NOT PROVED)\b", line)
+            if told and told[2] == "NOT PROVED":
+                fail(told[1], said)
+            if told:
+                self.note(told[1], told[2] == "proved")
+            if told and told[1] == NAME:
+                self.take(job)
+            if NAME not in names and len(names - self.proved) <= 1 and job is self.jobs[-1]:
+                self.begin([NAME], "")
+        if not self.proved.issuperset(names):
             fail(NAME, said)
+
+    def prove(self):
+        """Has all proved, the program last."""
+        first = [c for c in self.crates if c not in LAST] if self.is_kept else []
+        try:
+            self.begin(first, self.beside)
+            self.follow(self.jobs[0], set(first or [NAME]))
+            if first:
+                self.follow(self.jobs[1], {NAME})
+        finally:
+            for job in self.jobs:
+                job.kill()
+                job.wait()
 
     def run(self):
         on = f"about {self.left():.0f} minutes on {self.processors} processors"
@@ -148,11 +166,7 @@ class Build:
         shutil.copy(os.path.join(TOP, "HANDLES"), self.folder)
         os.mkdir(os.path.join(self.folder, "tmp"))
         threading.Thread(target=self.tell_each_minute, daemon=True).start()
-        if self.is_kept:
-            self.prove([c for c in self.crates if c not in LAST], self.beside)
-            self.prove([NAME], "")
-        else:
-            self.prove([], self.beside)
+        self.prove()
         tell(f"built in {(time.time() - self.begun) / 60:.0f} minutes")
 
 
